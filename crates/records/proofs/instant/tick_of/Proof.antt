@@ -1,0 +1,22 @@
+use borrow.Author.Tests.{ne-eqb}
+use Rattle.records.specs.Instant.{tickOf}
+use borrow.Author.Needs.{needs}
+use Rattle.records.proofs.instant.tick_of.Statement.{statement}
+use Rattle.records.proofs.instant.tick_of.Tie as tie
+use Rattle.records.proofs.instant.tick_of.Reads as reads
+use Rattle.records.proofs.instant.tick_of.Lts as lts
+
+returns : tie.Need-returns
+unfolding tickOf
+returns c = rw (c .match .keys1)
+
+returns-2 : tie.Need-returns-2
+unfolding tickOf
+returns-2 c = rw (c .match .keys2)
+
+returns-3 : tie.Need-returns-3
+unfolding tickOf
+returns-3 c = simp (ne-eqb _ _ (c .match .rest .0 .1), ne-eqb _ _ (c .match .rest .1))
+
+pub tick-of-spec : {M : Type 1} → statement M
+tick-of-spec = tie.close (tie.spec returns returns-2 returns-3)

@@ -1,0 +1,49 @@
+use borrow.Author.Needs.{needs}
+use Rattle.records.proofs.instant.write_instant.Statement.{statement}
+use Rattle.records.proofs.instant.write_instant.Tie as tie
+use Rattle.records.proofs.instant.write_instant.Reads as reads
+use Rattle.records.proofs.instant.write_instant.Lts as lts
+use Rattle.records.proofs.instant.put_instant.Reads as put-instant-reads
+use Rattle.records.proofs.instant.wide_byte.Reads as wide-byte-reads
+use Rattle.records.proofs.sheet.clock_count.Reads as clock-count-reads
+
+clock-count-requires : tie.Need-clock-count-requires
+clock-count-requires c κs = search needs
+
+returns : tie.Need-returns
+returns c = search needs
+
+wide-byte-requires : tie.Need-wide-byte-requires
+wide-byte-requires c κs = search needs
+
+mul-size : tie.Need-mul-size
+mul-size c = search needs
+
+add-size : tie.Need-add-size
+add-size c = search needs
+
+returns-2 : tie.Need-returns-2
+returns-2 c = search needs
+
+put-instant-requires : tie.Need-put-instant-requires
+put-instant-requires c κs = search needs
+
+same-length : tie.Need-same-length
+same-length c = search needs
+
+returns-3 : tie.Need-returns-3
+returns-3 c = search needs
+
+pub write-instant-spec : {M : Type 1} → statement M
+write-instant-spec =
+    tie.close
+    (tie.spec
+    clock-count-requires
+    returns
+    wide-byte-requires
+    mul-size
+    add-size
+    returns-2
+    put-instant-requires
+    same-length
+    returns-3)

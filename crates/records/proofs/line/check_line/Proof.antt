@@ -1,0 +1,52 @@
+use Rattle.records.proofs.line.Laws.{check-room, check-7, check-9, check-done}
+use borrow.Author.Needs.{needs}
+use Rattle.records.proofs.line.check_line.Statement.{statement}
+use Rattle.records.proofs.line.check_line.Tie as tie
+use Rattle.records.proofs.line.check_line.Reads as reads
+use Rattle.records.proofs.line.check_line.Lts as lts
+use Rattle.records.proofs.line.body_of.Reads as body-of-reads
+use Rattle.records.proofs.line.clocks_below.Reads as clocks-below-reads
+use Rattle.records.proofs.line.is_ninth.Reads as is-ninth-reads
+use Rattle.records.proofs.line.kind_of.Reads as kind-of-reads
+use Rattle.records.proofs.line.line_shape.Reads as line-shape-reads
+
+kind-of-requires : tie.Need-kind-of-requires
+kind-of-requires c κs = search needs
+
+line-shape-requires : tie.Need-line-shape-requires
+line-shape-requires c κs = search needs
+
+body-of-requires : tie.Need-body-of-requires
+body-of-requires c κs = search needs
+
+slice-aggregate-clocks-below : tie.Need-slice-aggregate-clocks-below
+slice-aggregate-clocks-below c = search needs
+
+clocks-below-requires : tie.Need-clocks-below-requires
+clocks-below-requires c κs = check-room 0 0 (c .before .before .before .before .args .l) _ _ _ (c .before .before .before .kind-of .ensures) (c .before .before .line-shape .ensures) (c .before .body-of .ensures)
+
+returns : tie.Need-returns
+returns c = search (needs, check-7, check-9, check-done) depth 12
+
+is-ninth-requires : tie.Need-is-ninth-requires
+is-ninth-requires c κs = search needs
+
+returns-2 : tie.Need-returns-2
+returns-2 c = search (needs, check-7, check-9, check-done) depth 12
+
+returns-3 : tie.Need-returns-3
+returns-3 c = search (needs, check-7, check-9, check-done) depth 12
+
+pub check-line-spec : {M : Type 1} → statement M
+check-line-spec =
+    tie.close
+    (tie.spec
+    kind-of-requires
+    line-shape-requires
+    body-of-requires
+    slice-aggregate-clocks-below
+    clocks-below-requires
+    returns
+    is-ninth-requires
+    returns-2
+    returns-3)

@@ -1,0 +1,29 @@
+use Rattle.records.proofs.line.Laws.{table-size}
+use native.Mathlib.Omega.{arith}
+use Rattle.records.proofs.line.Table.{Shaped, shaped}
+use borrow.Author.Needs.{needs}
+use Rattle.records.proofs.line.line_size.Statement.{statement}
+use Rattle.records.proofs.line.line_size.Tie as tie
+use Rattle.records.proofs.line.line_size.Reads as reads
+use Rattle.records.proofs.line.line_size.Lts as lts
+use Rattle.records.proofs.line.kind_of.Reads as kind-of-reads
+use Rattle.records.proofs.line.line_shape.Reads as line-shape-reads
+
+kind-of-requires : tie.Need-kind-of-requires
+kind-of-requires c κs = search needs
+
+line-shape-requires : tie.Need-line-shape-requires
+line-shape-requires c κs = search needs
+
+add-result : tie.Need-add-result
+add-result c = 
+    let e = table-size (c .before .before .before .args .l) (c .before .line-shape .ensures) (c .before .before .kind-of .ensures) in
+    omega (arith, shaped (c .before .before .before .args .l) .short)
+
+returns : tie.Need-returns
+returns c = 
+    let e = table-size (c .before .before .before .args .l) (c .before .line-shape .ensures) (c .before .before .kind-of .ensures) in
+    omega arith
+
+pub line-size-spec : {M : Type 1} → statement M
+line-size-spec = tie.close (tie.spec kind-of-requires line-shape-requires add-result returns)

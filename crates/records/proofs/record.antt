@@ -1,0 +1,4 @@
+pub mod Cut
+pub mod Inverse
+pub mod Laws
+pub mod Write

@@ -1,0 +1,187 @@
+-- Laws for the functions that write a sheet, one for each way through the code. Assumes nothing.
+use mathlib.Core.Path.{_≡_, refl, sym, ap, _∙_}
+use mathlib.Core.Bool.{Bool, true, false, not, cond}
+use mathlib.Core.List.{List, [], _∷_, _++_, map}
+use Prim.Native.Nat.{ℕ, suc, _+_, _-_, _<_, _≤_}
+use native.Mathlib.Omega.{arith}
+use lib.ListN.{length, drop, set, length-append}
+use lib.Dec.{ltb}
+use borrow.Author.Tests.{le-ltb, lt-ltb, not-true, not-false}
+use Rattle.records.specs.declared.line.Line.{Line}
+use Rattle.records.specs.declared.sheet.Sheet.{Sheet}
+use Rattle.records.specs.declared.record.Answer.{Answer}
+use Rattle.records.specs.declared.record.Answer.the-variants as answer
+use Rattle.records.specs.declared.record.Written.the-variants as written
+use Rattle.records.specs.Outcome.{Outcome, taken, refused, Check, _⇒_, decide, listedFrom, listed, joined}
+use Rattle.records.specs.Word.{wordBytes}
+use Rattle.records.specs.Store.{puts, wrote, leaves}
+use Rattle.records.specs.Line.{isSporadic, sporadics, valueLineChecks, kindOf, bodyOf, lineBytes}
+use Rattle.records.specs.Sheet.{SheetValue, clockCount, lineAt, sheetValue, valueLinesChecks, sheetBytes, writeSheet}
+use Rattle.records.specs.Inner.{sporadicOf, answered, linesFault}
+use Rattle.records.proofs.Lists.{Passed, taken-passed, decide-passed, decide-refused, listed-cons, listed-end, listed-snoc, length-listed, map-append}
+use Rattle.records.proofs.Store.{puts-append, puts-both, puts-front}
+use Rattle.records.proofs.line.Table.{shaped}
+
+-- ---- counting sporadic lines
+pub sporadics-snoc : (ks : List ℕ) (k : ℕ) → sporadics (ks ++ (k ∷ [])) ≡ sporadics ks + sporadicOf k
+sporadics-snoc [] k = by-test (isSporadic k)
+  where
+    by-test : (t : Bool) → cond t (suc 0) 0 ≡ 0 + cond t 1 0
+    by-test true = refl
+    by-test false = refl
+sporadics-snoc (x ∷ ks) k = by-test (isSporadic x) (sporadics-snoc ks k)
+  where
+    by-test : (t : Bool) → sporadics (ks ++ (k ∷ [])) ≡ sporadics ks + sporadicOf k
+        → cond t (suc (sporadics (ks ++ (k ∷ [])))) (sporadics (ks ++ (k ∷ []))) ≡ cond t (suc (sporadics ks)) (sporadics ks) + sporadicOf k
+    by-test true e = omega arith
+    by-test false e = e
+
+pub sporadics-few : (ks : List ℕ) → sporadics ks ≤ length ks
+sporadics-few [] = omega arith
+sporadics-few (k ∷ ks) = by-test (isSporadic k) (sporadics-few ks)
+  where
+    by-test : (t : Bool) → sporadics ks ≤ length ks → cond t (suc (sporadics ks)) (sporadics ks) ≤ suc (length ks)
+    by-test true h = omega arith
+    by-test false h = omega arith
+
+pub sporadic-one : (k : ℕ) → sporadicOf k ≤ 1
+sporadic-one k = by-test (isSporadic k)
+  where
+    by-test : (t : Bool) → cond t 1 0 ≤ 1
+    by-test true = omega arith
+    by-test false = omega arith
+
+-- ---- what an inner answer says of its checks
+module _ {A : Type 0} (cs : List Check) (x : A) where
+  pub answered-refused : {n : ℕ} → answered (decide cs x) ≡ answer.Refused n → decide cs x ≡ refused n
+  answered-refused {n} e = by-outcome (decide cs x) e
+    where
+      by-outcome : (o : Outcome A) → answered o ≡ answer.Refused n → o ≡ refused n
+      by-outcome (taken v) e = let z : _≡_ {A = ℕ} 0 1 = cc in absurd (omega arith)
+      by-outcome (refused m) e = cc
+
+  pub answered-done : answered (decide cs x) ≡ answer.Done → Passed cs
+  answered-done e = by-outcome (decide cs x) refl e
+    where
+      by-outcome : (o : Outcome A) → decide cs x ≡ o → answered o ≡ answer.Done → Passed cs
+      by-outcome (taken v) f e = taken-passed cs f .0
+      by-outcome (refused m) f e = let z : _≡_ {A = ℕ} 0 1 = cc in absurd (omega arith)
+
+-- ---- a turn of `check_lines`: the lines below i have passed
+module _ (s : Sheet) (i spent : ℕ) where
+  pub record Checking : Type 0 where
+    pub counted : spent ≡ sporadics (map kindOf (listed (lineAt s) i))
+    pub left : linesFault (sheetValue s) ≡ decide (valueLinesChecks (s .clocks) (listed (lineAt s) i) (listedFrom (lineAt s) i (s .count - i))) (sheetValue s)
+
+pub check-start : (s : Sheet) → Checking s 0 0
+unfolding linesFault listedFrom
+check-start s = let k : s .count - 0 ≡ s .count = omega arith in record { counted = refl; left = rw k }
+
+module _ (s : Sheet) (i spent : ℕ) (c : Checking s i spent) where
+  pub check-end : s .count ≤ i → answer.Done ≡ answered (linesFault (sheetValue s))
+  check-end h = rw (c .left, listed-end (lineAt s) (s .count) i h)
+
+  module _ (h : i < s .count) (l : Line) (e : l ≡ lineAt s i) (r : Answer) (f : r ≡ answered (decide (valueLineChecks (s .clocks) spent (kindOf l) (bodyOf l)) l)) where
+    -- the checks of line i, and of the lines after it
+    abbrev these : List Check
+    these = valueLineChecks (s .clocks) (sporadics (map kindOf (listed (lineAt s) i))) (kindOf (lineAt s i)) (bodyOf (lineAt s i))
+
+    abbrev later : List Check
+    later = valueLinesChecks (s .clocks) (listed (lineAt s) i ++ (lineAt s i ∷ [])) (listedFrom (lineAt s) (i + 1) (s .count - (i + 1)))
+
+    here : answered (decide these l) ≡ r
+    here = rw (← c .counted, ← e) (sym f)
+
+    turn : linesFault (sheetValue s) ≡ decide (these ++ later) (sheetValue s)
+    turn = c .left ∙ rw (listed-cons (lineAt s) (s .count) i h)
+
+    pub check-refused : {n : ℕ} → r ≡ answer.Refused n → answer.Refused n ≡ answered (linesFault (sheetValue s))
+    check-refused g = rw (turn, decide-refused later (sheetValue s) these l (answered-refused these l (here ∙ g)))
+
+    pub check-more : {m k : ℕ} → r ≡ answer.Done → m ≡ sporadicOf k → k ≡ kindOf l → Checking s (i + 1) (spent + m)
+    check-more g p q = record {
+      counted = rw (listed-snoc (lineAt s) i, map-append, sporadics-snoc, ← c .counted, p, q, e);
+      left = turn ∙ decide-passed later (sheetValue s) these (answered-done these l (here ∙ g)) ∙ rw (listed-snoc (lineAt s) i);
+    }
+
+-- ---- the bytes of a sheet's lines from i on
+module _ (s : Sheet) (n i : ℕ) where
+  -- as `joined (map lineBytes ..)` of those lines
+  abbrev pub linesLeft : List ℕ
+  linesLeft = joined (map lineBytes (listedFrom (lineAt s) i (n - i)))
+
+pub lines-cons : (s : Sheet) (n i : ℕ) {l : Line} → i < n → l ≡ lineAt s i → linesLeft s n i ≡ lineBytes l ++ linesLeft s n (i + 1)
+lines-cons s n i h e = rw (listed-cons (lineAt s) n i h, e)
+
+pub lines-none : (s : Sheet) (n i : ℕ) → n ≤ i → linesLeft s n i ≡ []
+lines-none s n i h = rw (listed-end (lineAt s) n i h)
+
+pub lines-all : (s : Sheet) → linesLeft s (s .count) 0 ≡ joined (map lineBytes (sheetValue s .lines))
+lines-all s = let k : s .count - 0 ≡ s .count = omega arith in rw k
+
+pub sheet-length : (s : Sheet) → length (sheetBytes (sheetValue s)) ≡ 5 + length (linesLeft s (s .count) 0)
+unfolding sheetBytes
+sheet-length s = rw lines-all (omega arith)
+
+-- a turn of `sheet_size`
+module _ (s : Sheet) (n i size : ℕ) where
+  pub size-more : (k : ℕ) (l : Line) {total : ℕ} → total ≡ size + length (linesLeft s n i) → i < n → l ≡ lineAt s i → k ≡ length (lineBytes l) → total ≡ size + k + length (linesLeft s n (i + 1))
+  size-more k l t h e f = let g = ap length (lines-cons s n i h e) ∙ length-append (lineBytes l) (linesLeft s n (i + 1)) in omega arith
+
+  pub size-all : {total : ℕ} → total ≡ size + length (linesLeft s n i) → n ≤ i → size ≡ total
+  size-all t h = let g = ap length (lines-none s n i h) in omega arith
+
+pub size-small : (k : ℕ) (l : Line) → k ≡ length (lineBytes l) → k ≤ 10
+size-small k l f = omega (arith, shaped l .short)
+
+-- a turn of `put_sheet`
+module _ (s : Sheet) (n i at : ℕ) (w b : List ℕ) (inv : w ≡ puts b at (linesLeft s n i)) where
+  pub put-more : (k : ℕ) (l : Line) (b′ : List ℕ) → i < n → l ≡ lineAt s i → k ≡ length (lineBytes l) → b′ ≡ puts b at (lineBytes l) → w ≡ puts b′ (at + k) (linesLeft s n (i + 1))
+  put-more k l b′ h e f g = inv ∙ rw (lines-cons s n i h e, g, f) (puts-append b at (lineBytes l) (linesLeft s n (i + 1)))
+
+  pub put-all : {z : List ℕ} → n ≤ i → w ≡ z → b ≡ z
+  put-all h e = sym (inv ∙ rw (lines-none s n i h)) ∙ e
+
+-- the clocks record, and the lines behind it
+pub sheet-stored : (s : Sheet) (b b₁ : List ℕ) → b₁ ≡ puts b 0 (wordBytes 1 ++ wordBytes 1) → puts (set b₁ 4 (s .clocks)) 5 (linesLeft s (s .count) 0) ≡ puts b 0 (sheetBytes (sheetValue s))
+unfolding sheetBytes
+sheet-stored s b b₁ e = rw (e, lines-all)
+
+-- the answers of `write_sheet`, in the shapes that its places hold
+module _ (s : Sheet) (b : List ℕ) (t : Bool) (e : t ≡ clockCount (s .clocks)) where
+  pub write-4 : not t ≡ true → wrote (written.Refused 4) b ≡ writeSheet (sheetValue s) b
+  unfolding writeSheet
+  write-4 h = rw (sym e ∙ not-true t h)
+
+  module _ (h : not t ≡ false) where
+    pub write-8 : 16 < s .count → wrote (written.Refused 8) b ≡ writeSheet (sheetValue s) b
+    unfolding writeSheet
+    write-8 g = rw (sym e ∙ not-false t h, length-listed, lt-ltb 16 (s .count) g)
+
+    module _ (g : s .count ≤ 16) (r : Answer) (f : r ≡ answered (linesFault (sheetValue s))) where
+      abbrev lines : List Check
+      lines = valueLinesChecks (s .clocks) [] (sheetValue s .lines)
+
+      abbrev last : List Check
+      last = (ltb (length b) (length (sheetBytes (sheetValue s))) ⇒ 10) ∷ []
+
+      left : writeSheet (sheetValue s) b ≡ leaves b (decide (lines ++ last) (sheetBytes (sheetValue s)))
+      unfolding writeSheet
+      left = rw (sym e ∙ not-false t h, length-listed, le-ltb 16 (s .count) g)
+
+      fault : answered (decide lines (sheetValue s)) ≡ r
+      unfolding linesFault
+      fault = sym f
+
+      pub write-line : {n : ℕ} → r ≡ answer.Refused n → wrote (written.Refused n) b ≡ writeSheet (sheetValue s) b
+      write-line p = rw (left, decide-refused last (sheetBytes (sheetValue s)) lines (sheetValue s) (answered-refused lines (sheetValue s) (fault ∙ p)))
+
+      module _ (p : r ≡ answer.Done) (k : ℕ) (q : k ≡ length (sheetBytes (sheetValue s))) where
+        room : writeSheet (sheetValue s) b ≡ leaves b (decide ((ltb (length b) k ⇒ 10) ∷ []) (sheetBytes (sheetValue s)))
+        room = left ∙ rw (decide-passed last (sheetBytes (sheetValue s)) lines (answered-done lines (sheetValue s) (fault ∙ p)), q)
+
+        pub write-10 : length b < k → wrote (written.Refused 10) b ≡ writeSheet (sheetValue s) b
+        write-10 l = rw (room, lt-ltb (length b) k l)
+
+        pub write-done : (b′ : List ℕ) → k ≤ length b → b′ ≡ puts b 0 (sheetBytes (sheetValue s)) → wrote (written.Bytes k) b′ ≡ writeSheet (sheetValue s) b
+        write-done b′ l m = rw (room, le-ltb (length b) k l, m, puts-front b (sheetBytes (sheetValue s)) (omega arith), q)

@@ -1,0 +1,78 @@
+-- `check_lines` meets its contract. The invariant: the lines below i have passed, and the answer is that of the lines left. Assumes nothing.
+use Prim.Native.Nat.{_≤_, _-_}
+use native.Mathlib.Omega.{arith}
+use Rattle.records.proofs.sheet.Writing.{Checking, check-start, check-end, check-refused, check-more, sporadic-one}
+use borrow.Author.Needs.{needs}
+use Rattle.records.proofs.sheet.check_lines.Statement.{statement}
+use Rattle.records.proofs.sheet.check_lines.Tie as tie
+use Rattle.records.proofs.sheet.check_lines.Reads as reads
+use Rattle.records.proofs.sheet.check_lines.Lts as lts
+use Rattle.records.proofs.line.check_line.Reads as check-line-reads
+use Rattle.records.proofs.line.kind_of.Reads as kind-of-reads
+use Rattle.records.proofs.line.sporadic_of.Reads as sporadic-of-reads
+use Rattle.records.proofs.sheet.line_at.Reads as line-at-reads
+
+abbrev Inv-loop : tie.InvT-loop
+Inv-loop s n clocks spent₀ i₀ spent i = (i ≤ n) × (spent ≤ i) × Checking s i spent
+
+abbrev μ-loop : tie.MeasureT-loop
+μ-loop s n clocks spent₀ i₀ spent i = n - i
+
+loop-holds : tie.Need-loop-holds Inv-loop μ-loop
+loop-holds c = (omega arith, omega arith, check-start _)
+
+line-at-requires : tie.Need-line-at-requires Inv-loop μ-loop
+line-at-requires c κs = search needs
+
+check-line-requires : tie.Need-check-line-requires Inv-loop μ-loop
+check-line-requires c κs = search needs
+
+enum-known-n : tie.Need-enum-known-n Inv-loop μ-loop
+enum-known-n c = search needs
+
+returns : tie.Need-returns Inv-loop μ-loop
+returns c = search (needs, check-refused) depth 12
+
+enum-told : tie.Need-enum-told Inv-loop μ-loop
+enum-told c = search needs
+
+kind-of-requires : tie.Need-kind-of-requires Inv-loop μ-loop
+kind-of-requires c κs = search needs
+
+sporadic-of-requires : tie.Need-sporadic-of-requires Inv-loop μ-loop
+sporadic-of-requires c κs = search needs
+
+add-spent : tie.Need-add-spent Inv-loop μ-loop
+add-spent c = omega (arith, sporadic-one (c .before .kind-of .result), c .sporadic-of .ensures)
+
+add-i : tie.Need-add-i Inv-loop μ-loop
+add-i c = search needs
+
+loop-less : tie.Need-loop-less Inv-loop μ-loop
+loop-less c = search needs
+
+loop-again : tie.Need-loop-again Inv-loop μ-loop
+loop-again c = (omega arith, omega (arith, sporadic-one (c .before .kind-of .result), c .sporadic-of .ensures), search (needs, check-more) depth 12)
+
+returns-2 : tie.Need-returns-2 Inv-loop μ-loop
+returns-2 c = search (needs, check-end) depth 8
+
+pub check-lines-spec : {M : Type 1} → statement M
+check-lines-spec =
+    tie.close
+    (tie.spec
+    Inv-loop
+    μ-loop
+    loop-holds
+    line-at-requires
+    check-line-requires
+    enum-known-n
+    returns
+    enum-told
+    kind-of-requires
+    sporadic-of-requires
+    add-spent
+    add-i
+    loop-less
+    loop-again
+    returns-2)

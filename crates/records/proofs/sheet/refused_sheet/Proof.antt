@@ -1,0 +1,15 @@
+use borrow.Author.Needs.{needs}
+use Rattle.records.proofs.sheet.refused_sheet.Statement.{statement}
+use Rattle.records.proofs.sheet.refused_sheet.Tie as tie
+use Rattle.records.proofs.sheet.refused_sheet.Reads as reads
+use Rattle.records.proofs.sheet.refused_sheet.Lts as lts
+use Rattle.records.proofs.sheet.blank_sheet.Reads as blank-sheet-reads
+
+blank-sheet-requires : tie.Need-blank-sheet-requires
+blank-sheet-requires c κs = search needs
+
+returns : tie.Need-returns
+returns c = rw (c .blank-sheet .ensures)
+
+pub refused-sheet-spec : {M : Type 1} → statement M
+refused-sheet-spec = tie.close (tie.spec blank-sheet-requires returns)

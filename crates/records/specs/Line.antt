@@ -1,0 +1,99 @@
+-- A line is told by its kind, each with its own length and fields.
+use Prim.Native.Nat.{ℕ, suc}
+use mathlib.Core.Bool.{Bool, true, false, not, cond, _&&_}
+use mathlib.Core.List.{List, [], _∷_, _++_}
+use lib.ListN.{length, take}
+use lib.IntN.{pos}
+use lib.Dec.{leb, ltb, eqb}
+use Rattle.records.specs.declared.line.Line.{Line}
+use Rattle.records.specs.declared.line.Line.the-variants.{Sporadic, Relation, Implies, Excludes, Delayed, Weakly, Strictly, Kills}
+use Rattle.records.specs.Outcome.{Check, _⇒_}
+use Rattle.records.specs.Word.{at, wordAt, wordBytes, tagOf, rawOf}
+use Rattle.records.specs.Record.{Piece, whole, torn, recordBytes}
+
+-- kinds 16 to 23 are lines
+abbrev pub isLine : ℕ → Bool
+isLine kind = leb 16 kind && leb kind 23
+
+-- kind 16 is sporadic
+abbrev pub isSporadic : ℕ → Bool
+isSporadic kind = eqb kind 16
+
+-- the length of a line's body by its kind
+unfoldable pub lengthOf : ℕ → ℕ
+lengthOf kind = cond (eqb kind 16) 4 (cond (eqb kind 17) 6 (cond (eqb kind 20) 5 (cond (isLine kind) 2 0)))
+
+-- how many clocks stand at the front of the body: A, B and D in kind 20, A and B in the other kinds
+unfoldable pub clocksOf : ℕ → ℕ
+clocksOf kind = cond (eqb kind 20) 3 (cond (isLine kind) 2 0)
+
+-- each number is below c
+abbrev pub allBelow : ℕ → List ℕ → Bool
+allBelow c [] = true
+allBelow c (x ∷ xs) = ltb x c && allBelow c xs
+
+-- the clocks of a line are below the count c
+abbrev pub clocksBelow : ℕ → ℕ → List ℕ → Bool
+clocksBelow c kind body = allBelow c (take (clocksOf kind) body)
+
+-- how many of some kinds are sporadic
+abbrev pub sporadics : List ℕ → ℕ
+sporadics [] = 0
+sporadics (kind ∷ kinds) = cond (isSporadic kind) (suc (sporadics kinds)) (sporadics kinds)
+
+-- a line of a value, `spent` sporadic lines standing before it; 7: clock not below C; 9: ninth sporadic
+abbrev pub valueLineChecks : ℕ → ℕ → ℕ → List ℕ → List Check
+valueLineChecks c spent kind body =
+    (not (clocksBelow c kind body) ⇒ 7)
+    ∷ ((isSporadic kind && leb 8 spent) ⇒ 9)
+    ∷ []
+
+-- a line of a sheet's bytes, `lines` lines standing before it; 1: torn; 8: seventeenth line; 5: kind not 16 to 23; 6: length wrong; then 7, 9
+abbrev pub lineChecks : ℕ → ℕ → ℕ → Piece → List Check
+lineChecks c lines spent torn = (true ⇒ 1) ∷ []
+lineChecks c lines spent (whole kind body) =
+    (leb 16 lines ⇒ 8)
+    ∷ (not (isLine kind) ⇒ 5)
+    ∷ (not (eqb (length body) (lengthOf kind)) ⇒ 6)
+    ∷ valueLineChecks c spent kind body
+
+-- the line of a kind 16 to 23 with a body of its length
+unfoldable pub lineOf : ℕ → List ℕ → Line
+lineOf kind b =
+    cond (eqb kind 16) (Sporadic (at b 0) (at b 1) (tagOf (wordAt b 2)))
+    (cond (eqb kind 17) (Relation (at b 0) (at b 1) (tagOf (wordAt b 2)) (tagOf (wordAt b 4)))
+    (cond (eqb kind 18) (Implies (at b 0) (at b 1))
+    (cond (eqb kind 19) (Excludes (at b 0) (at b 1))
+    (cond (eqb kind 20) (Delayed (at b 0) (at b 1) (at b 2) (wordAt b 3))
+    (cond (eqb kind 21) (Weakly (at b 0) (at b 1))
+    (cond (eqb kind 22) (Strictly (at b 0) (at b 1))
+    (Kills (at b 0) (at b 1))))))))
+
+-- a line's kind and its body
+abbrev pub kindOf : Line → ℕ
+kindOf (Sporadic a b t) = 16
+kindOf (Relation a b p q) = 17
+kindOf (Implies a b) = 18
+kindOf (Excludes a b) = 19
+kindOf (Delayed a b d by) = 20
+kindOf (Weakly a b) = 21
+kindOf (Strictly a b) = 22
+kindOf (Kills a b) = 23
+
+abbrev pub bodyOf : Line → List ℕ
+bodyOf (Sporadic a b t) = a ∷ b ∷ wordBytes (rawOf t)
+bodyOf (Relation a b p q) = a ∷ b ∷ wordBytes (rawOf p) ++ wordBytes (rawOf q)
+bodyOf (Implies a b) = a ∷ b ∷ []
+bodyOf (Excludes a b) = a ∷ b ∷ []
+bodyOf (Delayed a b d by) = a ∷ b ∷ d ∷ wordBytes by
+bodyOf (Weakly a b) = a ∷ b ∷ []
+bodyOf (Strictly a b) = a ∷ b ∷ []
+bodyOf (Kills a b) = a ∷ b ∷ []
+
+-- a line's record
+abbrev pub lineBytes : Line → List ℕ
+lineBytes l = recordBytes (kindOf l) (bodyOf l)
+
+-- what an unused line place holds
+abbrev pub blankLine : Line
+blankLine = Sporadic 0 0 (pos 0)

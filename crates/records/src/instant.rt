@@ -1,0 +1,221 @@
+// An instant: for each clock a tick and a tag.
+use crate::number::CELL_LENGTH;
+use crate::number::CLOCK_COUNT;
+use crate::number::HEAD_LENGTH;
+use crate::number::INSTANT;
+use crate::number::INSTANT_LENGTH;
+use crate::number::NOT_INSTANT;
+use crate::number::NOT_ONE_RECORD;
+use crate::number::SHORT_BUFFER;
+use crate::number::TICK_BYTE;
+use crate::record::Answer;
+use crate::record::Record;
+use crate::record::Written;
+use crate::record::put_head;
+use crate::record::record_at;
+use crate::sheet::clock_count;
+use crate::word::put_word;
+use crate::word::raw_of;
+use crate::word::tag_of;
+use crate::word::word_at;
+ghost use mathlib.Core.Path.{_≡_};
+ghost use mathlib.Core.List.{[], _∷_, map};
+ghost use Prim.Native.Nat.{_+_, _*_, _≤_, _<_};
+ghost use lib.ListN.{length, set};
+ghost use Rattle.records.specs.Outcome.{refused};
+ghost use Rattle.records.specs.Store.{puts, wrote};
+ghost use Rattle.records.specs.Instant.{tickOf, tickByte, tickAt, tagAt, cellBytes, instantOf, instantRead, instantValue, readInstant, instantBytes, writeInstant};
+ghost use Rattle.records.specs.Inner.{withCell, cellsRead};
+
+pub enum Tick {
+    Idle,
+    Ticks,
+    Unseen,
+}
+
+// The tick of a clock in an instant.
+pub struct TickSlot {
+    pub tick: Tick,
+}
+
+pub struct Instant {
+    pub ticks: [TickSlot; 8],
+    pub tags: [i16; 8],
+}
+
+// What reading an instant answers; the instant of a refusal is idle at tag 0 everywhere.
+pub struct InstantRead {
+    pub answer: Answer,
+    pub instant: Instant,
+}
+
+// The tick of a byte 0, 1 or 2.
+fn tick_of(x: u8) -> Tick
+    ensures { λ r. ⌜ r ≡ tickOf x ⌝ }
+{
+    match x {
+        0 => Tick::Idle,
+        1 => Tick::Ticks,
+        _ => Tick::Unseen,
+    }
+}
+
+fn blank_instant() -> Instant
+    ensures { λ r. ⌜ r ≡ instantOf [] ⌝ }
+{
+    let ticks = [TickSlot { tick: Tick::Idle }; 8];
+    let tags = [0i16; 8];
+    Instant { ticks, tags }
+}
+
+fn refused_instant(n: u8) -> InstantRead
+    ensures { λ r. ⌜ r ≡ instantRead (refused n) ⌝ }
+{
+    let instant = blank_instant();
+    let answer = Answer::Refused(n);
+    InstantRead { answer, instant }
+}
+
+// The eight tags as one value, with one of them set.
+fn with_tag(tags: [i16; 8], i: usize, tag: i16) -> [i16; 8]
+    requires { ⌜ i < 8 ⌝ }
+    ensures { λ r. ⌜ r ≡ set tags i tag ⌝ }
+{
+    let mut next = tags;
+    next[i] = tag;
+    next
+}
+
+fn with_cell(v: Instant, i: usize, t: Tick, tag: i16) -> Instant
+    requires { ⌜ i < 8 ⌝ }
+    ensures { λ r. ⌜ r ≡ withCell v i t tag ⌝ }
+{
+    let mut ticks = v.ticks;
+    ticks[i] = TickSlot { tick: t };
+    let before = v.tags;
+    let tags = with_tag(before, i, tag);
+    Instant { ticks, tags }
+}
+
+pub(crate) fn wide_byte(x: u8) -> usize
+    ensures { λ r. ⌜ r ≡ x ⌝ }
+{
+    x as usize
+}
+
+// The clocks of an instant's body, three bytes each: 15, or the instant.
+fn read_cells(body: &[u8], clocks: u8) -> InstantRead
+    requires { ⌜ (clocks ≤ 8) × (length (now body) ≡ 3 * clocks) ⌝ }
+    ensures { λ r. ⌜ r ≡ instantRead (cellsRead (now (body .entry))) ⌝ }
+{
+    let n = wide_byte(clocks);
+    let mut v = blank_instant();
+    let mut i = 0;
+    while i < n {
+        let at = CELL_LENGTH * i;
+        let x = body[at];
+        if 2 < x {
+            return refused_instant(TICK_BYTE);
+        }
+        let tag = tag_of(word_at(body, at + 1));
+        v = with_cell(v, i, tick_of(x), tag);
+        i += 1;
+    }
+    let answer = Answer::Done;
+    InstantRead { answer, instant: v }
+}
+
+// The instant of a clock count that a byte string holds.
+pub fn read_instant(bytes: &[u8], clocks: u8) -> InstantRead
+    ensures { λ r. ⌜ r ≡ instantRead (readInstant clocks (now (bytes .entry))) ⌝ }
+{
+    if !clock_count(clocks) {
+        return refused_instant(CLOCK_COUNT);
+    }
+    match record_at(bytes, 0) {
+        Record::Torn => refused_instant(NOT_ONE_RECORD),
+        Record::Whole { kind, len } => {
+            if bytes.len() != HEAD_LENGTH + len {
+                return refused_instant(NOT_ONE_RECORD);
+            }
+            if kind != INSTANT {
+                return refused_instant(NOT_INSTANT);
+            }
+            if len != CELL_LENGTH * wide_byte(clocks) {
+                return refused_instant(INSTANT_LENGTH);
+            }
+            read_cells(&bytes[HEAD_LENGTH..], clocks)
+        }
+    }
+}
+
+fn tick_byte(t: Tick) -> u8
+    ensures { λ r. ⌜ r ≡ tickByte t ⌝ }
+{
+    match t {
+        Tick::Idle => 0,
+        Tick::Ticks => 1,
+        Tick::Unseen => 2,
+    }
+}
+
+fn tick_at(ticks: [TickSlot; 8], i: usize) -> Tick
+    requires { ⌜ i < 8 ⌝ }
+    ensures { λ r. ⌜ r ≡ tickAt ticks i ⌝ }
+{
+    let slot = ticks[i];
+    let t = slot.tick;
+    t
+}
+
+fn tag_at(tags: [i16; 8], i: usize) -> i16
+    requires { ⌜ i < 8 ⌝ }
+    ensures { λ r. ⌜ r ≡ tagAt tags i ⌝ }
+{
+    tags[i]
+}
+
+// A tick byte and a tag's word, where they have room.
+fn put_cell(buffer: &mut [u8], at: usize, t: Tick, tag: i16)
+    requires { ⌜ at + 2 < length (now buffer) ⌝ }
+    ensures { λ _. ⌜ now (buffer .exit) ≡ puts (now (buffer .entry)) at (cellBytes (record { tick = t; tag = tag })) ⌝ }
+{
+    buffer[at] = tick_byte(t);
+    put_word(buffer, at + 1, raw_of(tag));
+}
+
+// An instant's record, where it has room.
+fn put_instant(v: Instant, clocks: u8, buffer: &mut [u8])
+    requires { ⌜ (clocks ≤ 8) × (3 * clocks + 4 ≤ length (now buffer)) ⌝ }
+    ensures { λ _. ⌜ now (buffer .exit) ≡ puts (now (buffer .entry)) 0 (instantBytes (instantValue clocks v)) ⌝ }
+{
+    let n = wide_byte(clocks);
+    let ticks = v.ticks;
+    let tags = v.tags;
+    put_head(buffer, 0, (CELL_LENGTH * n) as u16, INSTANT);
+    let mut i = 0;
+    while i < n {
+        put_cell(
+            buffer,
+            HEAD_LENGTH + CELL_LENGTH * i,
+            tick_at(ticks, i),
+            tag_at(tags, i),
+        );
+        i += 1;
+    }
+}
+
+// Writes an instant of a clock count at the buffer's front, or refuses it and changes no byte.
+pub fn write_instant(instant: Instant, clocks: u8, buffer: &mut [u8]) -> Written
+    ensures { λ r. ⌜ wrote r (now (buffer .exit)) ≡ writeInstant clocks (instantValue clocks instant) (now (buffer .entry)) ⌝ }
+{
+    if !clock_count(clocks) {
+        return Written::Refused(CLOCK_COUNT);
+    }
+    let size = HEAD_LENGTH + CELL_LENGTH * wide_byte(clocks);
+    if buffer.len() < size {
+        return Written::Refused(SHORT_BUFFER);
+    }
+    put_instant(instant, clocks, buffer);
+    Written::Bytes(size)
+}

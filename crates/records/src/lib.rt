@@ -1,0 +1,7 @@
+// The sheet and instant records: what a byte string holds, by document 01, and how a value is written.
+pub mod instant;
+pub mod line;
+pub mod number;
+pub mod record;
+pub mod sheet;
+pub mod word;

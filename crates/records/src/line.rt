@@ -1,0 +1,287 @@
+// The lines of a sheet: one of eight cases, each told by its kind, with its own length and fields.
+use crate::number::CLOCK_NUMBER;
+use crate::number::DELAYED;
+use crate::number::DELAYED_BODY;
+use crate::number::EXCLUDES;
+use crate::number::HEAD_LENGTH;
+use crate::number::IMPLIES;
+use crate::number::KILLS;
+use crate::number::LINE_KIND;
+use crate::number::LINE_LENGTH;
+use crate::number::MAX_LINES;
+use crate::number::MAX_SPORADIC;
+use crate::number::NINTH_SPORADIC;
+use crate::number::PAIR_BODY;
+use crate::number::RELATION;
+use crate::number::RELATION_BODY;
+use crate::number::SEVENTEENTH_LINE;
+use crate::number::SPORADIC;
+use crate::number::SPORADIC_BODY;
+use crate::number::STRICTLY;
+use crate::number::WEAKLY;
+use crate::record::Answer;
+use crate::record::put_head;
+use crate::word::high_byte;
+use crate::word::low_byte;
+use crate::word::raw_of;
+use crate::word::tag_of;
+use crate::word::word_at;
+ghost use mathlib.Core.Path.{_≡_};
+ghost use mathlib.Core.Bool.{true, _&&_};
+ghost use Prim.Native.Nat.{_+_, _≤_};
+ghost use lib.ListN.{length, take};
+ghost use lib.Dec.{leb};
+ghost use Rattle.records.specs.Outcome.{decide, filled};
+ghost use Rattle.records.specs.Record.{whole};
+ghost use Rattle.records.specs.Line.{isLine, isSporadic, lengthOf, allBelow, lineChecks, valueLineChecks, lineOf, kindOf, bodyOf, lineBytes};
+ghost use Rattle.records.specs.Store.{puts};
+ghost use Rattle.records.specs.Inner.{shapeOf, sporadicOf, lineRead, answered};
+
+pub enum Line {
+    // A sporadic t on B.
+    Sporadic { a: u8, b: u8, t: i16 },
+    // A = p × B + q.
+    Relation { a: u8, b: u8, p: i16, q: i16 },
+    Implies { a: u8, b: u8 },
+    Excludes { a: u8, b: u8 },
+    // A delayed by `by` on B implies D.
+    Delayed { a: u8, b: u8, d: u8, by: u16 },
+    Weakly { a: u8, b: u8 },
+    Strictly { a: u8, b: u8 },
+    Kills { a: u8, b: u8 },
+}
+
+// A line place of a sheet.
+pub struct Slot {
+    pub line: Line,
+}
+
+// What a kind says of a record: whether it is a line, the length of its body, and how many clocks stand at the body's front.
+pub(crate) struct Shape {
+    pub(crate) line: bool,
+    pub(crate) length: usize,
+    pub(crate) clocks: usize,
+}
+
+pub(crate) enum LineRead {
+    Read(Line),
+    Refused(u8),
+}
+
+pub(crate) fn line_shape(kind: u16) -> Shape
+    ensures { λ r. ⌜ r ≡ shapeOf kind ⌝ }
+{
+    match kind {
+        SPORADIC => Shape {
+            line: true,
+            length: SPORADIC_BODY,
+            clocks: 2,
+        },
+        RELATION => Shape {
+            line: true,
+            length: RELATION_BODY,
+            clocks: 2,
+        },
+        DELAYED => Shape {
+            line: true,
+            length: DELAYED_BODY,
+            clocks: 3,
+        },
+        IMPLIES..=EXCLUDES | WEAKLY..=KILLS => Shape {
+            line: true,
+            length: PAIR_BODY,
+            clocks: 2,
+        },
+        _ => Shape {
+            line: false,
+            length: 0,
+            clocks: 0,
+        },
+    }
+}
+
+// Whether each of the first n bytes is below the clock count.
+fn clocks_below(body: &[u8], n: usize, clocks: u8) -> bool
+    requires { ⌜ n ≤ length (now body) ⌝ }
+    ensures { λ r. ⌜ r ≡ allBelow clocks (take n (now (body .entry))) ⌝ }
+{
+    let mut i = 0;
+    while i < n {
+        if clocks <= body[i] {
+            return false;
+        }
+        i += 1;
+    }
+    true
+}
+
+// How many sporadic lines a line of a kind is.
+pub(crate) fn sporadic_of(kind: u16) -> usize
+    ensures { λ r. ⌜ r ≡ sporadicOf kind ⌝ }
+{
+    if kind == SPORADIC { 1 } else { 0 }
+}
+
+// Whether a line of a kind is one sporadic line too many.
+fn is_ninth(kind: u16, spent: usize) -> bool
+    ensures { λ r. ⌜ r ≡ (isSporadic kind && leb 8 spent) ⌝ }
+{
+    if kind == SPORADIC {
+        MAX_SPORADIC <= spent
+    } else {
+        false
+    }
+}
+
+// The line of a kind, from a body of its length.
+fn line_of(kind: u16, body: &[u8]) -> Line
+    requires { ⌜ (isLine kind ≡ true) × (length (now body) ≡ lengthOf kind) ⌝ }
+    ensures { λ r. ⌜ r ≡ lineOf kind (now (body .entry)) ⌝ }
+{
+    let a = body[0];
+    let b = body[1];
+    match kind {
+        SPORADIC => Line::Sporadic {
+            a,
+            b,
+            t: tag_of(word_at(body, 2)),
+        },
+        RELATION => Line::Relation {
+            a,
+            b,
+            p: tag_of(word_at(body, 2)),
+            q: tag_of(word_at(body, 4)),
+        },
+        IMPLIES => Line::Implies { a, b },
+        EXCLUDES => Line::Excludes { a, b },
+        DELAYED => Line::Delayed {
+            a,
+            b,
+            d: body[2],
+            by: word_at(body, 3),
+        },
+        WEAKLY => Line::Weakly { a, b },
+        STRICTLY => Line::Strictly { a, b },
+        _ => Line::Kills { a, b },
+    }
+}
+
+// A line record of a sheet, `lines` lines and `spent` sporadic ones among them standing before it: 8, 5, 6, 7, 9, or the line.
+pub(crate) fn read_line(kind: u16, body: &[u8], clocks: u8, lines: usize, spent: usize) -> LineRead
+    ensures { λ r. ⌜ r ≡ lineRead (decide (lineChecks clocks lines spent (whole kind (now (body .entry)))) (lineOf kind (now (body .entry)))) ⌝ }
+{
+    if MAX_LINES <= lines {
+        return LineRead::Refused(SEVENTEENTH_LINE);
+    }
+    let shape = line_shape(kind);
+    let known = shape.line;
+    if !known {
+        return LineRead::Refused(LINE_KIND);
+    }
+    if body.len() != shape.length {
+        return LineRead::Refused(LINE_LENGTH);
+    }
+    if !clocks_below(body, shape.clocks, clocks) {
+        return LineRead::Refused(CLOCK_NUMBER);
+    }
+    if is_ninth(kind, spent) {
+        return LineRead::Refused(NINTH_SPORADIC);
+    }
+    LineRead::Read(line_of(kind, body))
+}
+
+pub(crate) fn kind_of(l: Line) -> u16
+    ensures { λ r. ⌜ r ≡ kindOf l ⌝ }
+{
+    match l {
+        Line::Sporadic { a: _, b: _, t: _ } => SPORADIC,
+        Line::Relation {
+            a: _,
+            b: _,
+            p: _,
+            q: _,
+        } => RELATION,
+        Line::Implies { a: _, b: _ } => IMPLIES,
+        Line::Excludes { a: _, b: _ } => EXCLUDES,
+        Line::Delayed {
+            a: _,
+            b: _,
+            d: _,
+            by: _,
+        } => DELAYED,
+        Line::Weakly { a: _, b: _ } => WEAKLY,
+        Line::Strictly { a: _, b: _ } => STRICTLY,
+        Line::Kills { a: _, b: _ } => KILLS,
+    }
+}
+
+// A line's body at the front of six bytes.
+fn body_of(l: Line) -> [u8; 6]
+    ensures { λ r. ⌜ r ≡ filled 6 0 (bodyOf l) ⌝ }
+{
+    match l {
+        Line::Sporadic { a, b, t } => {
+            let w = raw_of(t);
+            [a, b, low_byte(w), high_byte(w), 0, 0]
+        }
+        Line::Relation { a, b, p, q } => {
+            let v = raw_of(p);
+            let w = raw_of(q);
+            [a, b, low_byte(v), high_byte(v), low_byte(w), high_byte(w)]
+        }
+        Line::Implies { a, b } => [a, b, 0, 0, 0, 0],
+        Line::Excludes { a, b } => [a, b, 0, 0, 0, 0],
+        Line::Delayed { a, b, d, by } => [a, b, d, low_byte(by), high_byte(by), 0],
+        Line::Weakly { a, b } => [a, b, 0, 0, 0, 0],
+        Line::Strictly { a, b } => [a, b, 0, 0, 0, 0],
+        Line::Kills { a, b } => [a, b, 0, 0, 0, 0],
+    }
+}
+
+// A line of a value to write, `spent` sporadic lines standing before it: 7, 9.
+pub(crate) fn check_line(l: Line, clocks: u8, spent: usize) -> Answer
+    ensures { λ r. ⌜ r ≡ answered (decide (valueLineChecks clocks spent (kindOf l) (bodyOf l)) l) ⌝ }
+{
+    let kind = kind_of(l);
+    let shape = line_shape(kind);
+    let body = body_of(l);
+    if !clocks_below(&body, shape.clocks, clocks) {
+        return Answer::Refused(CLOCK_NUMBER);
+    }
+    if is_ninth(kind, spent) {
+        return Answer::Refused(NINTH_SPORADIC);
+    }
+    Answer::Done
+}
+
+// How many bytes a line's record takes.
+pub(crate) fn line_size(l: Line) -> usize
+    ensures { λ r. ⌜ r ≡ length (lineBytes l) ⌝ }
+{
+    let shape = line_shape(kind_of(l));
+    HEAD_LENGTH + shape.length
+}
+
+// The first n bytes of a body, where they have room.
+fn put_body(buffer: &mut [u8], at: usize, body: [u8; 6], n: usize)
+    requires { ⌜ (n ≤ 6) × (at + n ≤ length (now buffer)) ⌝ }
+    ensures { λ _. ⌜ now (buffer .exit) ≡ puts (now (buffer .entry)) at (take n body) ⌝ }
+{
+    let mut i = 0;
+    while i < n {
+        buffer[at + i] = body[i];
+        i += 1;
+    }
+}
+
+// A line's record, where it has room.
+pub(crate) fn put_line(buffer: &mut [u8], at: usize, l: Line)
+    requires { ⌜ at + length (lineBytes l) ≤ length (now buffer) ⌝ }
+    ensures { λ _. ⌜ now (buffer .exit) ≡ puts (now (buffer .entry)) at (lineBytes l) ⌝ }
+{
+    let kind = kind_of(l);
+    let shape = line_shape(kind);
+    let n = shape.length;
+    put_head(buffer, at, n as u16, kind);
+    put_body(buffer, at + HEAD_LENGTH, body_of(l), n);
+}

@@ -1,0 +1,237 @@
+// A sheet: the clocks record, then up to 16 lines.
+use crate::line::Line;
+use crate::line::LineRead;
+use crate::line::Slot;
+use crate::line::check_line;
+use crate::line::kind_of;
+use crate::line::line_size;
+use crate::line::put_line;
+use crate::line::read_line;
+use crate::line::sporadic_of;
+use crate::number::CLOCK_COUNT;
+use crate::number::CLOCKS;
+use crate::number::CLOCKS_BODY;
+use crate::number::CLOCKS_LENGTH;
+use crate::number::HEAD_LENGTH;
+use crate::number::MAX_CLOCKS;
+use crate::number::MAX_LINES;
+use crate::number::NOT_CLOCKS;
+use crate::number::SEVENTEENTH_LINE;
+use crate::number::SHORT_BUFFER;
+use crate::number::TORN_SHEET;
+use crate::record::Answer;
+use crate::record::Record;
+use crate::record::Written;
+use crate::record::put_head;
+use crate::record::record_at;
+ghost use mathlib.Core.Path.{_≡_};
+ghost use mathlib.Core.List.{[], map};
+ghost use Prim.Native.Nat.{_+_, _≤_, _<_};
+ghost use lib.ListN.{length, drop};
+ghost use Rattle.records.specs.Store.{puts, wrote};
+ghost use Rattle.records.specs.Outcome.{refused};
+ghost use Rattle.records.specs.Record.{pieces};
+ghost use Rattle.records.specs.Sheet.{clockCount, lineAt, sheetValue, sheetOf, sheetRead, readSheet, sheetBytes, writeSheet};
+ghost use Rattle.records.specs.Inner.{answered, withLine, sheetFrom, linesFault};
+
+pub struct Sheet {
+    pub clocks: u8,
+    pub count: usize,
+    pub lines: [Slot; 16],
+}
+
+// What reading a sheet answers; the sheet of a refusal has no clock and no line.
+pub struct SheetRead {
+    pub answer: Answer,
+    pub sheet: Sheet,
+}
+
+// A clock count is 1 to 8.
+pub(crate) fn clock_count(clocks: u8) -> bool
+    ensures { λ r. ⌜ r ≡ clockCount clocks ⌝ }
+{
+    if 1 <= clocks {
+        clocks <= MAX_CLOCKS
+    } else {
+        false
+    }
+}
+
+fn blank_sheet(clocks: u8) -> Sheet
+    ensures { λ r. ⌜ r ≡ sheetOf (record { clocks = clocks; lines = [] }) ⌝ }
+{
+    let line = Line::Sporadic { a: 0, b: 0, t: 0 };
+    let lines = [Slot { line }; 16];
+    Sheet {
+        clocks,
+        count: 0,
+        lines,
+    }
+}
+
+fn with_line(s: Sheet, line: Line) -> Sheet
+    requires { ⌜ s .count < 16 ⌝ }
+    ensures { λ r. ⌜ r ≡ withLine s line ⌝ }
+{
+    let at = s.count;
+    let mut next = s;
+    next.lines[at] = Slot { line };
+    next.count = at + 1;
+    next
+}
+
+fn refused_sheet(n: u8) -> SheetRead
+    ensures { λ r. ⌜ r ≡ sheetRead (refused n) ⌝ }
+{
+    let sheet = blank_sheet(0);
+    let answer = Answer::Refused(n);
+    SheetRead { answer, sheet }
+}
+
+// The lines after the clocks record.
+fn read_lines(bytes: &[u8], clocks: u8) -> SheetRead
+    requires { ⌜ 5 ≤ length (now bytes) ⌝ }
+    ensures { λ r. ⌜ r ≡ sheetRead (sheetFrom clocks (pieces (drop 5 (now (bytes .entry))))) ⌝ }
+{
+    let mut sheet = blank_sheet(clocks);
+    let mut spent = 0;
+    let mut at = HEAD_LENGTH + CLOCKS_BODY;
+    while at < bytes.len() {
+        match record_at(bytes, at) {
+            Record::Torn => {
+                return refused_sheet(TORN_SHEET);
+            }
+            Record::Whole { kind, len } => {
+                let from = at + HEAD_LENGTH;
+                let end = from + len;
+                let count = sheet.count;
+                match read_line(kind, &bytes[from..end], clocks, count, spent) {
+                    LineRead::Refused(n) => {
+                        return refused_sheet(n);
+                    }
+                    LineRead::Read(line) => {
+                        sheet = with_line(sheet, line);
+                        spent += sporadic_of(kind);
+                        at = end;
+                    }
+                }
+            }
+        }
+    }
+    let answer = Answer::Done;
+    SheetRead { answer, sheet }
+}
+
+// The sheet that a byte string holds.
+pub fn read_sheet(bytes: &[u8]) -> SheetRead
+    ensures { λ r. ⌜ r ≡ sheetRead (readSheet (now (bytes .entry))) ⌝ }
+{
+    match record_at(bytes, 0) {
+        Record::Torn => refused_sheet(TORN_SHEET),
+        Record::Whole { kind, len } => {
+            if kind != CLOCKS {
+                return refused_sheet(NOT_CLOCKS);
+            }
+            if len != CLOCKS_BODY {
+                return refused_sheet(CLOCKS_LENGTH);
+            }
+            let clocks = bytes[HEAD_LENGTH];
+            if !clock_count(clocks) {
+                return refused_sheet(CLOCK_COUNT);
+            }
+            read_lines(bytes, clocks)
+        }
+    }
+}
+
+fn line_at(s: Sheet, i: usize) -> Line
+    requires { ⌜ i < 16 ⌝ }
+    ensures { λ r. ⌜ r ≡ lineAt s i ⌝ }
+{
+    let slot = s.lines[i];
+    let l = slot.line;
+    l
+}
+
+// 7 and 9, line by line.
+fn check_lines(s: Sheet) -> Answer
+    requires { ⌜ s .count ≤ 16 ⌝ }
+    ensures { λ r. ⌜ r ≡ answered (linesFault (sheetValue s)) ⌝ }
+{
+    let n = s.count;
+    let clocks = s.clocks;
+    let mut spent = 0;
+    let mut i = 0;
+    while i < n {
+        let l = line_at(s, i);
+        match check_line(l, clocks, spent) {
+            Answer::Refused(n) => {
+                return Answer::Refused(n);
+            }
+            Answer::Done => {
+                spent += sporadic_of(kind_of(l));
+                i += 1;
+            }
+        }
+    }
+    Answer::Done
+}
+
+// How many bytes a sheet's records take.
+fn sheet_size(s: Sheet) -> usize
+    requires { ⌜ s .count ≤ 16 ⌝ }
+    ensures { λ r. ⌜ r ≡ length (sheetBytes (sheetValue s)) ⌝ }
+{
+    let n = s.count;
+    let mut size = HEAD_LENGTH + CLOCKS_BODY;
+    let mut i = 0;
+    while i < n {
+        size += line_size(line_at(s, i));
+        i += 1;
+    }
+    size
+}
+
+// A sheet's records, where they have room.
+fn put_sheet(s: Sheet, buffer: &mut [u8])
+    requires { ⌜ (s .count ≤ 16) × (length (sheetBytes (sheetValue s)) ≤ length (now buffer)) ⌝ }
+    ensures { λ _. ⌜ now (buffer .exit) ≡ puts (now (buffer .entry)) 0 (sheetBytes (sheetValue s)) ⌝ }
+{
+    let n = s.count;
+    let clocks = s.clocks;
+    put_head(buffer, 0, 1, CLOCKS);
+    buffer[HEAD_LENGTH] = clocks;
+    let mut at = HEAD_LENGTH + CLOCKS_BODY;
+    let mut i = 0;
+    while i < n {
+        let l = line_at(s, i);
+        put_line(buffer, at, l);
+        at += line_size(l);
+        i += 1;
+    }
+}
+
+// Writes a sheet at the buffer's front, or refuses it and changes no byte.
+pub fn write_sheet(sheet: Sheet, buffer: &mut [u8]) -> Written
+    ensures { λ r. ⌜ wrote r (now (buffer .exit)) ≡ writeSheet (sheetValue sheet) (now (buffer .entry)) ⌝ }
+{
+    let clocks = sheet.clocks;
+    if !clock_count(clocks) {
+        return Written::Refused(CLOCK_COUNT);
+    }
+    let count = sheet.count;
+    if MAX_LINES < count {
+        return Written::Refused(SEVENTEENTH_LINE);
+    }
+    match check_lines(sheet) {
+        Answer::Refused(n) => Written::Refused(n),
+        Answer::Done => {
+            let size = sheet_size(sheet);
+            if buffer.len() < size {
+                return Written::Refused(SHORT_BUFFER);
+            }
+            put_sheet(sheet, buffer);
+            Written::Bytes(size)
+        }
+    }
+}
