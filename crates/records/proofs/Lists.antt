@@ -8,7 +8,8 @@ use native.Mathlib.Nat.{add-zero, zero-add}
 use native.Mathlib.Numerals.{add-one}
 use lib.ListN.{length, getD, take, drop, set, length-append, length-map, List·getD-append, List·getD-map}
 use lib.Seq.{take-length, set-append-seam, append-snoc}
-use Rattle.records.specs.Outcome.{taken, refused, Check, decide, listedFrom, listed, filled}
+use Rattle.records.specs.Outcome.{taken, refused, Check, decide}
+use Rattle.records.specs.Lists.{listedFrom, listed, filled}
 use Rattle.records.specs.Types.{All}
 
 -- both tests of a pair passed; neither did

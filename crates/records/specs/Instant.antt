@@ -12,7 +12,8 @@ use Rattle.records.specs.declared.instant.TickSlot.{TickSlot}
 use Rattle.records.specs.declared.instant.Instant.{Instant}
 use Rattle.records.specs.declared.instant.InstantRead.{InstantRead}
 use Rattle.records.specs.declared.record.Answer.the-variants as answer
-use Rattle.records.specs.Outcome.{Outcome, taken, refused, Check, _⇒_, decide, listed, filled, joined}
+use Rattle.records.specs.Outcome.{Outcome, taken, refused, Check, _⇒_, decide}
+use Rattle.records.specs.Lists.{listed, filled, joined}
 use Rattle.records.specs.Word.{wordOf, wordBytes, tagOf, rawOf}
 use Rattle.records.specs.Record.{Piece, whole, torn, pieces, recordBytes}
 use Rattle.records.specs.Sheet.{clockCount}

@@ -1,10 +1,12 @@
 -- What document 01 says of records. Read in this order:
 pub mod Outcome
+pub mod Lists
 pub mod Word
 pub mod Record
 pub mod Line
 pub mod Sheet
 pub mod Instant
-pub mod Types
+-- What a buffer holds after writing, what the types give, and what the contracts of inner functions cite.
 pub mod Store
+pub mod Types
 pub mod Inner

@@ -1,8 +1,7 @@
 -- Document 01, 'Places of refusal': a place is an ordered list of conditions, each with its number, and the first that holds decides.
-use Prim.Native.Nat.{ℕ, zero, suc, _+_, _-_}
+use Prim.Native.Nat.{ℕ}
 use mathlib.Core.Bool.{Bool, cond}
 use mathlib.Core.List.{List, [], _∷_, _++_}
-use lib.ListN.{length, replicate}
 
 -- what a call answers: the value, or the number of its refusal
 pub data Outcome (A : Type 0) : Type 0 where
@@ -27,20 +26,3 @@ decide (c ∷ cs) v = cond (c .holds) (refused (c .number)) (decide cs v)
 abbrev pub inTurn : {A : Type 0} → (List A → A → List Check) → List A → List A → List Check
 inTurn checks before [] = []
 inTurn checks before (x ∷ xs) = checks before x ++ inTurn checks (before ++ (x ∷ [])) xs
-
--- what f gives at i and the n - 1 places after it; at the places 0 to n - 1
-unfoldable pub listedFrom : {A : Type 0} → (ℕ → A) → ℕ → ℕ → List A
-listedFrom f i zero = []
-listedFrom f i (suc n) = f i ∷ listedFrom f (i + 1) n
-
-abbrev pub listed : {A : Type 0} → (ℕ → A) → ℕ → List A
-listed f n = listedFrom f 0 n
-
--- xs at the front of n places; the unused places hold d
-abbrev pub filled : {A : Type 0} → ℕ → A → List A → List A
-filled n d xs = xs ++ replicate (n - length xs) d
-
--- one list after the other
-abbrev pub joined : {A : Type 0} → List (List A) → List A
-joined [] = []
-joined (xs ∷ xss) = xs ++ joined xss

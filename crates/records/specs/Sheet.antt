@@ -11,7 +11,8 @@ use Rattle.records.specs.declared.sheet.Sheet.{Sheet}
 use Rattle.records.specs.declared.sheet.SheetRead.{SheetRead}
 use Rattle.records.specs.declared.record.Answer.{Answer}
 use Rattle.records.specs.declared.record.Answer.the-variants as answer
-use Rattle.records.specs.Outcome.{Outcome, taken, refused, Check, _⇒_, decide, inTurn, listed, filled, joined}
+use Rattle.records.specs.Outcome.{Outcome, taken, refused, Check, _⇒_, decide, inTurn}
+use Rattle.records.specs.Lists.{listed, filled, joined}
 use Rattle.records.specs.Word.{at}
 use Rattle.records.specs.Record.{Piece, whole, torn, pieces, recordBytes}
 use Rattle.records.specs.Line.{sporadics, lineChecks, valueLineChecks, lineOf, kindOf, bodyOf, lineBytes, blankLine}

@@ -1,13 +1,5 @@
 // An instant: for each clock a tick and a tag.
-use crate::number::CELL_LENGTH;
-use crate::number::CLOCK_COUNT;
-use crate::number::HEAD_LENGTH;
-use crate::number::INSTANT;
-use crate::number::INSTANT_LENGTH;
-use crate::number::NOT_INSTANT;
-use crate::number::NOT_ONE_RECORD;
-use crate::number::SHORT_BUFFER;
-use crate::number::TICK_BYTE;
+use crate::number;
 use crate::record::Answer;
 use crate::record::Record;
 use crate::record::Written;
@@ -112,10 +104,10 @@ fn read_cells(body: &[u8], clocks: u8) -> InstantRead
     let mut v = blank_instant();
     let mut i = 0;
     while i < n {
-        let at = CELL_LENGTH * i;
+        let at = number::CELL_LENGTH * i;
         let x = body[at];
         if 2 < x {
-            return refused_instant(TICK_BYTE);
+            return refused_instant(number::TICK_BYTE);
         }
         let tag = tag_of(word_at(body, at + 1));
         v = with_cell(v, i, tick_of(x), tag);
@@ -130,21 +122,21 @@ pub fn read_instant(bytes: &[u8], clocks: u8) -> InstantRead
     ensures { λ r. ⌜ r ≡ instantRead (readInstant clocks (now (bytes .entry))) ⌝ }
 {
     if !clock_count(clocks) {
-        return refused_instant(CLOCK_COUNT);
+        return refused_instant(number::CLOCK_COUNT);
     }
     match record_at(bytes, 0) {
-        Record::Torn => refused_instant(NOT_ONE_RECORD),
+        Record::Torn => refused_instant(number::NOT_ONE_RECORD),
         Record::Whole { kind, len } => {
-            if bytes.len() != HEAD_LENGTH + len {
-                return refused_instant(NOT_ONE_RECORD);
+            if bytes.len() != number::HEAD_LENGTH + len {
+                return refused_instant(number::NOT_ONE_RECORD);
             }
-            if kind != INSTANT {
-                return refused_instant(NOT_INSTANT);
+            if kind != number::INSTANT {
+                return refused_instant(number::NOT_INSTANT);
             }
-            if len != CELL_LENGTH * wide_byte(clocks) {
-                return refused_instant(INSTANT_LENGTH);
+            if len != number::CELL_LENGTH * wide_byte(clocks) {
+                return refused_instant(number::INSTANT_LENGTH);
             }
-            read_cells(&bytes[HEAD_LENGTH..], clocks)
+            read_cells(&bytes[number::HEAD_LENGTH..], clocks)
         }
     }
 }
@@ -192,12 +184,12 @@ fn put_instant(v: Instant, clocks: u8, buffer: &mut [u8])
     let n = wide_byte(clocks);
     let ticks = v.ticks;
     let tags = v.tags;
-    put_head(buffer, 0, (CELL_LENGTH * n) as u16, INSTANT);
+    put_head(buffer, 0, (number::CELL_LENGTH * n) as u16, number::INSTANT);
     let mut i = 0;
     while i < n {
         put_cell(
             buffer,
-            HEAD_LENGTH + CELL_LENGTH * i,
+            number::HEAD_LENGTH + number::CELL_LENGTH * i,
             tick_at(ticks, i),
             tag_at(tags, i),
         );
@@ -210,11 +202,11 @@ pub fn write_instant(instant: Instant, clocks: u8, buffer: &mut [u8]) -> Written
     ensures { λ r. ⌜ wrote r (now (buffer .exit)) ≡ writeInstant clocks (instantValue clocks instant) (now (buffer .entry)) ⌝ }
 {
     if !clock_count(clocks) {
-        return Written::Refused(CLOCK_COUNT);
+        return Written::Refused(number::CLOCK_COUNT);
     }
-    let size = HEAD_LENGTH + CELL_LENGTH * wide_byte(clocks);
+    let size = number::HEAD_LENGTH + number::CELL_LENGTH * wide_byte(clocks);
     if buffer.len() < size {
-        return Written::Refused(SHORT_BUFFER);
+        return Written::Refused(number::SHORT_BUFFER);
     }
     put_instant(instant, clocks, buffer);
     Written::Bytes(size)

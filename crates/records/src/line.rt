@@ -1,24 +1,5 @@
 // The lines of a sheet: one of eight cases, each told by its kind, with its own length and fields.
-use crate::number::CLOCK_NUMBER;
-use crate::number::DELAYED;
-use crate::number::DELAYED_BODY;
-use crate::number::EXCLUDES;
-use crate::number::HEAD_LENGTH;
-use crate::number::IMPLIES;
-use crate::number::KILLS;
-use crate::number::LINE_KIND;
-use crate::number::LINE_LENGTH;
-use crate::number::MAX_LINES;
-use crate::number::MAX_SPORADIC;
-use crate::number::NINTH_SPORADIC;
-use crate::number::PAIR_BODY;
-use crate::number::RELATION;
-use crate::number::RELATION_BODY;
-use crate::number::SEVENTEENTH_LINE;
-use crate::number::SPORADIC;
-use crate::number::SPORADIC_BODY;
-use crate::number::STRICTLY;
-use crate::number::WEAKLY;
+use crate::number;
 use crate::record::Answer;
 use crate::record::put_head;
 use crate::word::high_byte;
@@ -31,7 +12,8 @@ ghost use mathlib.Core.Bool.{true, _&&_};
 ghost use Prim.Native.Nat.{_+_, _≤_};
 ghost use lib.ListN.{length, take};
 ghost use lib.Dec.{leb};
-ghost use Rattle.records.specs.Outcome.{decide, filled};
+ghost use Rattle.records.specs.Outcome.{decide};
+ghost use Rattle.records.specs.Lists.{filled};
 ghost use Rattle.records.specs.Record.{whole};
 ghost use Rattle.records.specs.Line.{isLine, isSporadic, lengthOf, allBelow, lineChecks, valueLineChecks, lineOf, kindOf, bodyOf, lineBytes};
 ghost use Rattle.records.specs.Store.{puts};
@@ -72,24 +54,24 @@ pub(crate) fn line_shape(kind: u16) -> Shape
     ensures { λ r. ⌜ r ≡ shapeOf kind ⌝ }
 {
     match kind {
-        SPORADIC => Shape {
+        number::SPORADIC => Shape {
             line: true,
-            length: SPORADIC_BODY,
+            length: number::SPORADIC_BODY,
             clocks: 2,
         },
-        RELATION => Shape {
+        number::RELATION => Shape {
             line: true,
-            length: RELATION_BODY,
+            length: number::RELATION_BODY,
             clocks: 2,
         },
-        DELAYED => Shape {
+        number::DELAYED => Shape {
             line: true,
-            length: DELAYED_BODY,
+            length: number::DELAYED_BODY,
             clocks: 3,
         },
-        IMPLIES..=EXCLUDES | WEAKLY..=KILLS => Shape {
+        number::IMPLIES..=number::EXCLUDES | number::WEAKLY..=number::KILLS => Shape {
             line: true,
-            length: PAIR_BODY,
+            length: number::PAIR_BODY,
             clocks: 2,
         },
         _ => Shape {
@@ -119,15 +101,15 @@ fn clocks_below(body: &[u8], n: usize, clocks: u8) -> bool
 pub(crate) fn sporadic_of(kind: u16) -> usize
     ensures { λ r. ⌜ r ≡ sporadicOf kind ⌝ }
 {
-    if kind == SPORADIC { 1 } else { 0 }
+    if kind == number::SPORADIC { 1 } else { 0 }
 }
 
 // Whether a line of a kind is one sporadic line too many.
 fn is_ninth(kind: u16, spent: usize) -> bool
     ensures { λ r. ⌜ r ≡ (isSporadic kind && leb 8 spent) ⌝ }
 {
-    if kind == SPORADIC {
-        MAX_SPORADIC <= spent
+    if kind == number::SPORADIC {
+        number::MAX_SPORADIC <= spent
     } else {
         false
     }
@@ -141,27 +123,27 @@ fn line_of(kind: u16, body: &[u8]) -> Line
     let a = body[0];
     let b = body[1];
     match kind {
-        SPORADIC => Line::Sporadic {
+        number::SPORADIC => Line::Sporadic {
             a,
             b,
             t: tag_of(word_at(body, 2)),
         },
-        RELATION => Line::Relation {
+        number::RELATION => Line::Relation {
             a,
             b,
             p: tag_of(word_at(body, 2)),
             q: tag_of(word_at(body, 4)),
         },
-        IMPLIES => Line::Implies { a, b },
-        EXCLUDES => Line::Excludes { a, b },
-        DELAYED => Line::Delayed {
+        number::IMPLIES => Line::Implies { a, b },
+        number::EXCLUDES => Line::Excludes { a, b },
+        number::DELAYED => Line::Delayed {
             a,
             b,
             d: body[2],
             by: word_at(body, 3),
         },
-        WEAKLY => Line::Weakly { a, b },
-        STRICTLY => Line::Strictly { a, b },
+        number::WEAKLY => Line::Weakly { a, b },
+        number::STRICTLY => Line::Strictly { a, b },
         _ => Line::Kills { a, b },
     }
 }
@@ -170,22 +152,22 @@ fn line_of(kind: u16, body: &[u8]) -> Line
 pub(crate) fn read_line(kind: u16, body: &[u8], clocks: u8, lines: usize, spent: usize) -> LineRead
     ensures { λ r. ⌜ r ≡ lineRead (decide (lineChecks clocks lines spent (whole kind (now (body .entry)))) (lineOf kind (now (body .entry)))) ⌝ }
 {
-    if MAX_LINES <= lines {
-        return LineRead::Refused(SEVENTEENTH_LINE);
+    if number::MAX_LINES <= lines {
+        return LineRead::Refused(number::SEVENTEENTH_LINE);
     }
     let shape = line_shape(kind);
     let known = shape.line;
     if !known {
-        return LineRead::Refused(LINE_KIND);
+        return LineRead::Refused(number::LINE_KIND);
     }
     if body.len() != shape.length {
-        return LineRead::Refused(LINE_LENGTH);
+        return LineRead::Refused(number::LINE_LENGTH);
     }
     if !clocks_below(body, shape.clocks, clocks) {
-        return LineRead::Refused(CLOCK_NUMBER);
+        return LineRead::Refused(number::CLOCK_NUMBER);
     }
     if is_ninth(kind, spent) {
-        return LineRead::Refused(NINTH_SPORADIC);
+        return LineRead::Refused(number::NINTH_SPORADIC);
     }
     LineRead::Read(line_of(kind, body))
 }
@@ -194,24 +176,24 @@ pub(crate) fn kind_of(l: Line) -> u16
     ensures { λ r. ⌜ r ≡ kindOf l ⌝ }
 {
     match l {
-        Line::Sporadic { a: _, b: _, t: _ } => SPORADIC,
+        Line::Sporadic { a: _, b: _, t: _ } => number::SPORADIC,
         Line::Relation {
             a: _,
             b: _,
             p: _,
             q: _,
-        } => RELATION,
-        Line::Implies { a: _, b: _ } => IMPLIES,
-        Line::Excludes { a: _, b: _ } => EXCLUDES,
+        } => number::RELATION,
+        Line::Implies { a: _, b: _ } => number::IMPLIES,
+        Line::Excludes { a: _, b: _ } => number::EXCLUDES,
         Line::Delayed {
             a: _,
             b: _,
             d: _,
             by: _,
-        } => DELAYED,
-        Line::Weakly { a: _, b: _ } => WEAKLY,
-        Line::Strictly { a: _, b: _ } => STRICTLY,
-        Line::Kills { a: _, b: _ } => KILLS,
+        } => number::DELAYED,
+        Line::Weakly { a: _, b: _ } => number::WEAKLY,
+        Line::Strictly { a: _, b: _ } => number::STRICTLY,
+        Line::Kills { a: _, b: _ } => number::KILLS,
     }
 }
 
@@ -246,10 +228,10 @@ pub(crate) fn check_line(l: Line, clocks: u8, spent: usize) -> Answer
     let shape = line_shape(kind);
     let body = body_of(l);
     if !clocks_below(&body, shape.clocks, clocks) {
-        return Answer::Refused(CLOCK_NUMBER);
+        return Answer::Refused(number::CLOCK_NUMBER);
     }
     if is_ninth(kind, spent) {
-        return Answer::Refused(NINTH_SPORADIC);
+        return Answer::Refused(number::NINTH_SPORADIC);
     }
     Answer::Done
 }
@@ -259,7 +241,7 @@ pub(crate) fn line_size(l: Line) -> usize
     ensures { λ r. ⌜ r ≡ length (lineBytes l) ⌝ }
 {
     let shape = line_shape(kind_of(l));
-    HEAD_LENGTH + shape.length
+    number::HEAD_LENGTH + shape.length
 }
 
 // The first n bytes of a body, where they have room.
@@ -283,5 +265,5 @@ pub(crate) fn put_line(buffer: &mut [u8], at: usize, l: Line)
     let shape = line_shape(kind);
     let n = shape.length;
     put_head(buffer, at, n as u16, kind);
-    put_body(buffer, at + HEAD_LENGTH, body_of(l), n);
+    put_body(buffer, at + number::HEAD_LENGTH, body_of(l), n);
 }

@@ -1,5 +1,5 @@
 // A record: length of the body, kind, body.
-use crate::number::HEAD_LENGTH;
+use crate::number;
 use crate::word::put_word;
 use crate::word::wide;
 use crate::word::word_at;
@@ -35,11 +35,11 @@ pub enum Written {
 fn first_record(b: &[u8]) -> Record
     ensures { λ r. ⌜ r ≡ recordAt (now (b .entry)) 0 ⌝ }
 {
-    if b.len() < HEAD_LENGTH {
+    if b.len() < number::HEAD_LENGTH {
         return Record::Torn;
     }
     let len = wide(word_at(b, 0));
-    if b.len() - HEAD_LENGTH < len {
+    if b.len() - number::HEAD_LENGTH < len {
         return Record::Torn;
     }
     let kind = word_at(b, 2);

@@ -8,17 +8,7 @@ use crate::line::line_size;
 use crate::line::put_line;
 use crate::line::read_line;
 use crate::line::sporadic_of;
-use crate::number::CLOCK_COUNT;
-use crate::number::CLOCKS;
-use crate::number::CLOCKS_BODY;
-use crate::number::CLOCKS_LENGTH;
-use crate::number::HEAD_LENGTH;
-use crate::number::MAX_CLOCKS;
-use crate::number::MAX_LINES;
-use crate::number::NOT_CLOCKS;
-use crate::number::SEVENTEENTH_LINE;
-use crate::number::SHORT_BUFFER;
-use crate::number::TORN_SHEET;
+use crate::number;
 use crate::record::Answer;
 use crate::record::Record;
 use crate::record::Written;
@@ -51,7 +41,7 @@ pub(crate) fn clock_count(clocks: u8) -> bool
     ensures { λ r. ⌜ r ≡ clockCount clocks ⌝ }
 {
     if 1 <= clocks {
-        clocks <= MAX_CLOCKS
+        clocks <= number::MAX_CLOCKS
     } else {
         false
     }
@@ -95,14 +85,14 @@ fn read_lines(bytes: &[u8], clocks: u8) -> SheetRead
 {
     let mut sheet = blank_sheet(clocks);
     let mut spent = 0;
-    let mut at = HEAD_LENGTH + CLOCKS_BODY;
+    let mut at = number::HEAD_LENGTH + number::CLOCKS_BODY;
     while at < bytes.len() {
         match record_at(bytes, at) {
             Record::Torn => {
-                return refused_sheet(TORN_SHEET);
+                return refused_sheet(number::TORN_SHEET);
             }
             Record::Whole { kind, len } => {
-                let from = at + HEAD_LENGTH;
+                let from = at + number::HEAD_LENGTH;
                 let end = from + len;
                 let count = sheet.count;
                 match read_line(kind, &bytes[from..end], clocks, count, spent) {
@@ -127,17 +117,17 @@ pub fn read_sheet(bytes: &[u8]) -> SheetRead
     ensures { λ r. ⌜ r ≡ sheetRead (readSheet (now (bytes .entry))) ⌝ }
 {
     match record_at(bytes, 0) {
-        Record::Torn => refused_sheet(TORN_SHEET),
+        Record::Torn => refused_sheet(number::TORN_SHEET),
         Record::Whole { kind, len } => {
-            if kind != CLOCKS {
-                return refused_sheet(NOT_CLOCKS);
+            if kind != number::CLOCKS {
+                return refused_sheet(number::NOT_CLOCKS);
             }
-            if len != CLOCKS_BODY {
-                return refused_sheet(CLOCKS_LENGTH);
+            if len != number::CLOCKS_BODY {
+                return refused_sheet(number::CLOCKS_LENGTH);
             }
-            let clocks = bytes[HEAD_LENGTH];
+            let clocks = bytes[number::HEAD_LENGTH];
             if !clock_count(clocks) {
-                return refused_sheet(CLOCK_COUNT);
+                return refused_sheet(number::CLOCK_COUNT);
             }
             read_lines(bytes, clocks)
         }
@@ -183,7 +173,7 @@ fn sheet_size(s: Sheet) -> usize
     ensures { λ r. ⌜ r ≡ length (sheetBytes (sheetValue s)) ⌝ }
 {
     let n = s.count;
-    let mut size = HEAD_LENGTH + CLOCKS_BODY;
+    let mut size = number::HEAD_LENGTH + number::CLOCKS_BODY;
     let mut i = 0;
     while i < n {
         size += line_size(line_at(s, i));
@@ -199,9 +189,9 @@ fn put_sheet(s: Sheet, buffer: &mut [u8])
 {
     let n = s.count;
     let clocks = s.clocks;
-    put_head(buffer, 0, 1, CLOCKS);
-    buffer[HEAD_LENGTH] = clocks;
-    let mut at = HEAD_LENGTH + CLOCKS_BODY;
+    put_head(buffer, 0, 1, number::CLOCKS);
+    buffer[number::HEAD_LENGTH] = clocks;
+    let mut at = number::HEAD_LENGTH + number::CLOCKS_BODY;
     let mut i = 0;
     while i < n {
         let l = line_at(s, i);
@@ -217,18 +207,18 @@ pub fn write_sheet(sheet: Sheet, buffer: &mut [u8]) -> Written
 {
     let clocks = sheet.clocks;
     if !clock_count(clocks) {
-        return Written::Refused(CLOCK_COUNT);
+        return Written::Refused(number::CLOCK_COUNT);
     }
     let count = sheet.count;
-    if MAX_LINES < count {
-        return Written::Refused(SEVENTEENTH_LINE);
+    if number::MAX_LINES < count {
+        return Written::Refused(number::SEVENTEENTH_LINE);
     }
     match check_lines(sheet) {
         Answer::Refused(n) => Written::Refused(n),
         Answer::Done => {
             let size = sheet_size(sheet);
             if buffer.len() < size {
-                return Written::Refused(SHORT_BUFFER);
+                return Written::Refused(number::SHORT_BUFFER);
             }
             put_sheet(sheet, buffer);
             Written::Bytes(size)

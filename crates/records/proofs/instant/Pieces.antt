@@ -9,7 +9,7 @@ use lib.Dec.{ltb, eqb}
 use borrow.Author.Tests.{ltb-false, eq-eqb, eqb-true, not-false}
 use Rattle.records.specs.declared.instant.Tick.{Tick}
 use Rattle.records.specs.declared.instant.Tick.the-variants.{Idle, Ticks, Unseen}
-use Rattle.records.specs.Outcome.{joined}
+use Rattle.records.specs.Lists.{joined}
 use Rattle.records.specs.Record.{Piece, whole, torn, pieces, recordBytes}
 use Rattle.records.specs.Instant.{Cell, tickOf, tickByte, rawCells, tickAbove, cellOf, oneInstantChecks, instantIn, cellBytes, instantBytes}
 use Rattle.records.specs.Types.{All, IsBytes, IsInstant}

@@ -9,7 +9,7 @@ use lib.Dec.{leb}
 use borrow.Author.Tests.{leb-true}
 use Rattle.records.specs.declared.line.Line.{Line}
 use Rattle.records.specs.declared.line.Line.the-variants.{Sporadic, Relation, Implies, Excludes, Delayed, Weakly, Strictly, Kills}
-use Rattle.records.specs.Outcome.{listedFrom}
+use Rattle.records.specs.Lists.{listedFrom}
 use Rattle.records.specs.Word.{at, wordAt, tagOf}
 use Rattle.records.specs.Line.{isLine, lengthOf, lineOf, kindOf, bodyOf}
 use Rattle.records.specs.Types.{IsBytes, IsTag, IsLineValue}

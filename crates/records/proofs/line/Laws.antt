@@ -12,7 +12,8 @@ use Rattle.records.specs.declared.line.Line.{Line}
 use Rattle.records.specs.declared.line.Shape.{Shape}
 use Rattle.records.specs.declared.line.LineRead.the-variants.{Read, Refused}
 use Rattle.records.specs.declared.record.Answer.the-variants as answer
-use Rattle.records.specs.Outcome.{decide, filled}
+use Rattle.records.specs.Outcome.{decide}
+use Rattle.records.specs.Lists.{filled}
 use Rattle.records.specs.Word.{wordBytes}
 use Rattle.records.specs.Store.{puts}
 use Rattle.records.specs.Record.{whole}

@@ -6,7 +6,7 @@ use Prim.Native.Nat.{ℕ, _+_, _≤_}
 use native.Mathlib.Omega.{arith}
 use lib.ListN.{length, take, drop, length-append, length-drop, take-append-drop}
 use lib.Seq.{take-append-seam, drop-append-seam, drop-drop, length-take-le}
-use Rattle.records.specs.Outcome.{listedFrom, joined}
+use Rattle.records.specs.Lists.{listedFrom, joined}
 use Rattle.records.specs.Word.{at}
 use Rattle.records.specs.Record.{lengthField, kindField, isTorn, Piece, whole, torn, pieces, recordBytes}
 use Rattle.records.specs.Types.{All, IsByte, IsBytes}

@@ -8,7 +8,8 @@ use lib.ListN.{length, length-map, length-append}
 use lib.Dec.{eqb}
 use borrow.Author.Tests.{lt-leb, le-ltb, leb-false, eq-eqb, eqb-true, not-false}
 use Rattle.records.specs.declared.line.Line.{Line}
-use Rattle.records.specs.Outcome.{decide, listedFrom, joined}
+use Rattle.records.specs.Outcome.{decide}
+use Rattle.records.specs.Lists.{listedFrom, joined}
 use Rattle.records.specs.Word.{at}
 use Rattle.records.specs.Record.{Piece, whole, torn, pieces}
 use Rattle.records.specs.Line.{isLine, lengthOf, kindOf, bodyOf, lineBytes}

@@ -15,7 +15,8 @@ use Rattle.records.specs.declared.sheet.SheetRead.{SheetRead}
 use Rattle.records.specs.declared.record.Record.{Record}
 use Rattle.records.specs.declared.record.Record.the-variants.{Whole, Torn}
 use Rattle.records.specs.declared.record.Answer.the-variants as answer
-use Rattle.records.specs.Outcome.{Outcome, taken, refused, Check, decide, filled}
+use Rattle.records.specs.Outcome.{Outcome, taken, refused, Check, decide}
+use Rattle.records.specs.Lists.{filled}
 use Rattle.records.specs.Word.{at}
 use Rattle.records.specs.Record.{Piece, whole, torn, pieces, recordAt}
 use Rattle.records.specs.Line.{sporadics, lineChecks, lineOf, blankLine}

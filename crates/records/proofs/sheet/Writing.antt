@@ -12,7 +12,8 @@ use Rattle.records.specs.declared.sheet.Sheet.{Sheet}
 use Rattle.records.specs.declared.record.Answer.{Answer}
 use Rattle.records.specs.declared.record.Answer.the-variants as answer
 use Rattle.records.specs.declared.record.Written.the-variants as written
-use Rattle.records.specs.Outcome.{Outcome, taken, refused, Check, _⇒_, decide, listedFrom, listed, joined}
+use Rattle.records.specs.Outcome.{Outcome, taken, refused, Check, _⇒_, decide}
+use Rattle.records.specs.Lists.{listedFrom, listed, joined}
 use Rattle.records.specs.Word.{wordBytes}
 use Rattle.records.specs.Store.{puts, wrote, leaves}
 use Rattle.records.specs.Line.{isSporadic, sporadics, valueLineChecks, kindOf, bodyOf, lineBytes}

@@ -5,7 +5,7 @@ use Prim.Native.Nat.{ℕ, zero, suc, _≤_}
 use native.Mathlib.Omega.{arith}
 use lib.ListN.{length, take}
 use lib.Seq.{take-all}
-use Rattle.records.specs.Outcome.{listed}
+use Rattle.records.specs.Lists.{listed}
 use Rattle.records.specs.Word.{at}
 use Rattle.records.specs.Types.{IsByte, IsBytes}
 use Rattle.records.proofs.Lists.{listed-take}

@@ -32,7 +32,7 @@ same-length : tie.Need-same-length
 same-length c = c .before .before .put-word .kept .0 ∙ simp length-set
 
 returns : tie.Need-returns
-returns c = 
+returns c =
     let a = c .before .before .before .before .before .before .before .args in
     cell-stored (a .buffer .now) _ (a .at) (a .t) (a .tag) (c .before .before .before .before .before .tick-byte .ensures) (c .before .before .before .raw-of .ensures ∙ ap rawOf (toZ-ofZ (c .before .before .before .before .before .before .before .fits .tag))) (c .before .before .put-word .ensures)
 

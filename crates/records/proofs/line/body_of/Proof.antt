@@ -68,13 +68,13 @@ enum-known-l-8 : tie.Need-enum-known-l-8
 enum-known-l-8 c = search needs
 
 returns : tie.Need-returns
-returns c = 
+returns c =
     let t = c .before .before .before .before .l .given .0 .1 .1 .0 in
     let e : toZ w16 (ofZ w16 t) ≡ t = search needs in
     rw (c .before .before .before .before .l .given .1, c .before .low-byte .ensures, c .high-byte .ensures, c .before .before .raw-of .ensures, e)
 
 returns-2 : tie.Need-returns-2
-returns-2 c = 
+returns-2 c =
     let g = c .before .before .before .before .before .before .before .l2 .given in
     let p : toZ w16 (ofZ w16 (g .0 .1 .1 .0)) ≡ g .0 .1 .1 .0 = search needs in
     let q : toZ w16 (ofZ w16 (g .0 .1 .1 .1 .0)) ≡ g .0 .1 .1 .1 .0 = search needs in

@@ -54,7 +54,7 @@ returns c = rw (c .before .before .match .keys1, back (c .tag-of .ok) (c .tag-of
 
 returns-2 : tie.Need-returns-2
 unfolding lineOf
-returns-2 c = 
+returns-2 c =
     let p = back (c .before .before .tag-of2 .ok) (c .before .before .tag-of2 .ensures ∙ ap tagOf (c .before .before .before .word-at2 .ensures)) in
     let q = back (c .tag-of3 .ok) (c .tag-of3 .ensures ∙ ap tagOf (c .before .word-at3 .ensures)) in
     rw (c .before .before .before .before .match .keys2, p, q)
@@ -81,7 +81,7 @@ returns-7 c = rw (c .match .keys7)
 
 returns-8 : tie.Need-returns-8
 unfolding lineOf
-returns-8 c = 
+returns-8 c =
     let m = c .match .rest in
     simp (ne-eqb _ _ (m .0 .0 .0 .0 .0 .0 .1), ne-eqb _ _ (m .0 .0 .0 .0 .0 .1), ne-eqb _ _ (m .0 .0 .0 .0 .1), ne-eqb _ _ (m .0 .0 .0 .1), ne-eqb _ _ (m .0 .0 .1), ne-eqb _ _ (m .0 .1), ne-eqb _ _ (m .1))
 

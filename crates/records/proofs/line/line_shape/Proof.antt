@@ -21,19 +21,19 @@ returns-3 c = rw (c .match .keys3)
 
 returns-4 : tie.Need-returns-4
 unfolding lengthOf clocksOf
-returns-4 c = 
+returns-4 c =
     let m = c .before .before .match .rest in
     simp (ne-eqb _ _ (m .0 .0 .1), ne-eqb _ _ (m .0 .1), ne-eqb _ _ (m .1), le-leb 16 _ (c .before .if1 .left), le-leb (c .before .before .before .args .kind) 23 (omega arith))
 
 returns-5 : tie.Need-returns-5
 unfolding lengthOf clocksOf
-returns-5 c = 
+returns-5 c =
     let m = c .before .match .rest in
     simp (ne-eqb _ _ (m .0 .0 .1), ne-eqb _ _ (m .0 .1), ne-eqb _ _ (m .1), lt-leb 16 _ (c .if1 .taken))
 
 returns-6 : tie.Need-returns-6
 unfolding lengthOf clocksOf
-returns-6 c = 
+returns-6 c =
     let m = c .before .before .match .rest in
     simp (ne-eqb _ _ (m .0 .0 .1), ne-eqb _ _ (m .0 .1), ne-eqb _ _ (m .1), le-leb 16 _ (c .before .if1 .left), lt-leb (c .before .before .before .args .kind) 23 (omega arith))
 

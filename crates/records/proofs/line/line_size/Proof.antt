@@ -16,12 +16,12 @@ line-shape-requires : tie.Need-line-shape-requires
 line-shape-requires c κs = search needs
 
 add-result : tie.Need-add-result
-add-result c = 
+add-result c =
     let e = table-size (c .before .before .before .args .l) (c .before .line-shape .ensures) (c .before .before .kind-of .ensures) in
     omega (arith, shaped (c .before .before .before .args .l) .short)
 
 returns : tie.Need-returns
-returns c = 
+returns c =
     let e = table-size (c .before .before .before .args .l) (c .before .line-shape .ensures) (c .before .before .kind-of .ensures) in
     omega arith
 

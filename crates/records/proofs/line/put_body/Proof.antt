@@ -38,7 +38,7 @@ loop-less : tie.Need-loop-less Inv-loop μ-loop
 loop-less c = search needs
 
 loop-again : tie.Need-loop-again Inv-loop μ-loop
-loop-again c = 
+loop-again c =
     let six : length (c .before .before .args .t3) ≡ 6 = c .before .before .good .1 .1 .0 .1 .0 .1 in
     let fits : c .before .before .args .n ≤ length (c .before .before .args .t3) = omega arith in
     (omega arith, rw length-set (c .before .loop .inv .1), search (needs, stored-more))

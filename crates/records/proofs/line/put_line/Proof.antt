@@ -19,7 +19,7 @@ line-shape-requires : tie.Need-line-shape-requires
 line-shape-requires c κs = search needs
 
 cast-put-head : tie.Need-cast-put-head
-cast-put-head c = 
+cast-put-head c =
     let l = c .before .before .before .before .args .l in
     let e = table-size l (c .before .line-shape .ensures) (c .before .before .kind-of .ensures) in
     omega (arith, shaped l .short)
@@ -34,7 +34,7 @@ body-of-requires : tie.Need-body-of-requires
 body-of-requires c κs = search needs
 
 put-body-requires : tie.Need-put-body-requires
-put-body-requires c κs = 
+put-body-requires c κs =
     let a = c .before .before .before .before .before .before .before .before .before .args in
     let e = table-size (a .l) (c .before .before .before .before .before .before .line-shape .ensures) (c .before .before .before .before .before .before .before .kind-of .ensures) in
     omega (arith, shaped (a .l) .short, c .before .before .before .before .put-head .kept .0)
@@ -43,7 +43,7 @@ same-length : tie.Need-same-length
 same-length c = search needs
 
 returns : tie.Need-returns
-returns c = 
+returns c =
     let a = c .before .before .before .before .before .before .before .before .before .before .before .before .args in
     let k = c .before .before .before .before .before .before .before .before .before .before .kind-of .ensures in
     let e = table-size (a .l) (c .before .before .before .before .before .before .before .before .before .line-shape .ensures) k in

@@ -22,7 +22,7 @@ returns-3 : tie.Need-returns-3
 returns-3 c = search (needs, read-8, read-5, read-6, read-7, read-9, read-line) depth 12
 
 clocks-below-requires : tie.Need-clocks-below-requires
-clocks-below-requires c κs = 
+clocks-below-requires c κs =
     room _ (c .before .before .before .before .before .before .args .body .now) _ (c .before .before .before .line-shape .ensures) (c .if3 .left)
 
 returns-4 : tie.Need-returns-4
@@ -35,7 +35,7 @@ returns-5 : tie.Need-returns-5
 returns-5 c = search (needs, read-8, read-5, read-6, read-7, read-9, read-line) depth 12
 
 line-of-requires : tie.Need-line-of-requires
-line-of-requires c κs = 
+line-of-requires c κs =
     let s = c .before .before .before .before .before .before .before .line-shape in
     (known _ _ (s .ensures) (c .before .before .before .before .before .before .if2 .left), size _ (c .before .before .before .before .before .before .before .before .before .before .args .body .now) _ (s .ensures) (c .before .before .before .before .if3 .left))
 

@@ -35,7 +35,7 @@ add-at : tie.Need-add-at Inv-loop μ-loop
 add-at c = search needs
 
 loop-holds : tie.Need-loop-holds Inv-loop μ-loop
-loop-holds c = 
+loop-holds c =
     let e = sheet-length (c .before .before .before .before .before .args .s) in
     (omega arith, refl, simp length-set (omega (arith, c .before .before .put-head .kept .0)), e, refl)
 
@@ -43,7 +43,7 @@ line-at-requires : tie.Need-line-at-requires Inv-loop μ-loop
 line-at-requires c κs = search needs
 
 put-line-requires : tie.Need-put-line-requires Inv-loop μ-loop
-put-line-requires c κs = 
+put-line-requires c κs =
     let l = c .before .line-at in
     let e = size-more (c .before .before .before .before .before .before .before .before .before .args .s) _ (c .before .before .before .loop .i) (c .before .before .before .loop .at) _ (l .result) (c .before .before .before .loop .inv .3) (c .before .before .loop-test .taken) (l .ensures) refl in
     omega (arith, e)
@@ -65,7 +65,7 @@ loop-less : tie.Need-loop-less Inv-loop μ-loop
 loop-less c = search needs
 
 loop-again : tie.Need-loop-again Inv-loop μ-loop
-loop-again c = 
+loop-again c =
     let l = c .before .before .before .put-line in
     let t = c .before .before .before .before .before .before .before .loop in
     (omega arith, l .kept .0 ∙ t .inv .1, omega (arith, l .kept .0, t .inv .2), after c, put-more (c .before .before .before .before .before .before .before .before .before .before .before .before .before .args .s) _ _ (t .at) _ _ (t .inv .4) _ _ _ (c .before .before .before .before .before .before .loop-test .taken) (c .before .before .before .before .before .line-at .ensures) (c .line-size .ensures) (l .ensures))
@@ -74,7 +74,7 @@ same-length : tie.Need-same-length Inv-loop μ-loop
 same-length c = c .before .loop .inv .1 ∙ rw length-set (c .before .before .before .before .put-head .kept .0)
 
 returns : tie.Need-returns Inv-loop μ-loop
-returns c = 
+returns c =
     let a = c .before .before .before .before .before .before .before .args in
     put-all (a .s) _ _ (c .before .loop .at) _ _ (c .before .loop .inv .4) (c .loop-test .left) (sheet-stored (a .s) (a .buffer .now) _ (c .before .before .before .before .put-head .ensures))
 

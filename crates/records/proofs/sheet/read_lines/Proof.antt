@@ -82,7 +82,7 @@ enum-known-line : tie.Need-enum-known-line Inv-loop μ-loop
 enum-known-line c = search needs
 
 with-line-requires : tie.Need-with-line-requires Inv-loop μ-loop
-with-line-requires c κs = 
+with-line-requires c κs =
     reading-room _ _ _ _ _ (c .before .before .before .before .before .before .before .before .before .before .loop .inv .1) (c .before .before .before .before .before .before .before .before .before .loop-test .taken) _ (c .before .before .before .before .before .before .before .before .record-at .ensures) (c .before .before .before .before .before .before .kind .given .1) _ (c .before .before .before .read-line .ensures) (c .before .line .given .1)
 
 sporadic-of-requires : tie.Need-sporadic-of-requires Inv-loop μ-loop

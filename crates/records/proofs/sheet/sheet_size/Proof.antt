@@ -42,7 +42,7 @@ loop-less : tie.Need-loop-less Inv-loop μ-loop
 loop-less c = search needs
 
 loop-again : tie.Need-loop-again Inv-loop μ-loop
-loop-again c = 
+loop-again c =
     let b = size-small (c .line-size .result) (c .before .line-at .result) (c .line-size .ensures) in
     (omega arith, omega arith, search (needs, size-more) depth 8)
 
