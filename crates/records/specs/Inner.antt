@@ -13,10 +13,10 @@ use Rattle.records.specs.declared.line.LineRead.{LineRead}
 use Rattle.records.specs.declared.line.LineRead.the-variants as line
 use Rattle.records.specs.declared.record.Answer.{Answer}
 use Rattle.records.specs.declared.record.Answer.the-variants as answer
-use Rattle.records.specs.Outcome.{Outcome, taken, refused, _⇒_, decide, inTurn}
+use Rattle.records.specs.Outcome.{Outcome, taken, refused, _⇒_, decide}
 use Rattle.records.specs.Record.{Piece}
-use Rattle.records.specs.Line.{isLine, isSporadic, lengthOf, clocksOf, sporadics, lineChecks, valueLineChecks, kindOf, bodyOf}
-use Rattle.records.specs.Sheet.{SheetValue, kindIn, lineIn, slotOf, linesChecks, valueLinesChecks}
+use Rattle.records.specs.Line.{isLine, isSporadic, lengthOf, clocksOf}
+use Rattle.records.specs.Sheet.{SheetValue, lineIn, slotOf, linesChecks, valueLinesChecks}
 use Rattle.records.specs.Instant.{Cell, rawCells, tickAbove, cellOf, tickSlot}
 
 -- what the table of kinds says

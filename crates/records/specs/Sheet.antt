@@ -1,5 +1,5 @@
 -- A sheet: the clocks record, then 0 to 16 lines up to the end of the bytes. What reading and writing one answer.
-use Prim.Native.Nat.{ℕ, _-_}
+use Prim.Native.Nat.{ℕ}
 use mathlib.Core.Path.{_≡_}
 use mathlib.Core.Bool.{Bool, true, not, _&&_}
 use mathlib.Core.List.{List, [], _∷_, _++_, map}
@@ -9,7 +9,6 @@ use Rattle.records.specs.declared.line.Line.{Line}
 use Rattle.records.specs.declared.line.Slot.{Slot}
 use Rattle.records.specs.declared.sheet.Sheet.{Sheet}
 use Rattle.records.specs.declared.sheet.SheetRead.{SheetRead}
-use Rattle.records.specs.declared.record.Answer.{Answer}
 use Rattle.records.specs.declared.record.Answer.the-variants as answer
 use Rattle.records.specs.Outcome.{Outcome, taken, refused, Check, _⇒_, decide, inTurn}
 use Rattle.records.specs.Lists.{listed, filled, joined}

@@ -38,7 +38,7 @@ byte-back (suc (suc zero)) h = refl
 byte-back (suc (suc (suc n))) h = absurd (omega (arith, ltb-false 2 (suc (suc (suc n))) h))
 
 -- ---- the cells and their bytes
-abbrev cellsBytes : List Cell → List ℕ
+abbrev pub cellsBytes : List Cell → List ℕ
 cellsBytes cells = joined (map cellBytes cells)
 
 cells-back : (cells : List Cell) → IsInstant cells → map cellOf (rawCells (cellsBytes cells)) ≡ cells
@@ -51,7 +51,7 @@ unfolding rawCells
 cells-low [] = refl
 cells-low (c ∷ cells) = rw (tick-low (c .tick)) (cells-low cells)
 
-length-cells : (cells : List Cell) → length (cellsBytes cells) ≡ 3 * length cells
+pub length-cells : (cells : List Cell) → length (cellsBytes cells) ≡ 3 * length cells
 length-cells [] = refl
 length-cells (c ∷ cells) = omega (arith, length-cells cells)
 

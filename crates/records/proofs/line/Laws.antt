@@ -1,8 +1,8 @@
 -- Laws of specs/Line.antt, one for each way through the code. Assumes nothing.
-use mathlib.Core.Path.{_≡_, refl, sym, ap, _∙_}
+use mathlib.Core.Path.{_≡_, sym, ap, _∙_}
 use mathlib.Core.Bool.{Bool, true, false, not, _&&_}
 use mathlib.Core.List.{List, _++_}
-use Prim.Native.Nat.{ℕ, suc, _+_, _-_, _<_, _≤_}
+use Prim.Native.Nat.{ℕ, _+_, _-_, _<_, _≤_}
 use native.Mathlib.Omega.{arith}
 use lib.ListN.{length, getD, take, drop, length-append}
 use lib.Seq.{take-append-le, take-at}
@@ -19,7 +19,7 @@ use Rattle.records.specs.Store.{puts}
 use Rattle.records.specs.Record.{whole}
 use Rattle.records.specs.Line.{isLine, isSporadic, allBelow, lengthOf, clocksOf, lineChecks, valueLineChecks, lineOf, kindOf, bodyOf, lineBytes}
 use Rattle.records.specs.Inner.{shapeOf, lineRead, answered}
-use Rattle.records.proofs.line.Table.{Shaped, shaped, clocks-within}
+use Rattle.records.proofs.line.Table.{shaped, clocks-within}
 use Rattle.records.proofs.Store.{part-cons, part-end, puts-both}
 
 -- a turn of the loop over a body's clocks

@@ -8,12 +8,11 @@ use lib.ListN.{length, take, drop, length-drop, drop-of-length-le}
 use lib.Seq.{length-take-le, take-all, drop-drop}
 use lib.Dec.{ltb}
 use borrow.Author.Tests.{lt-ltb, le-ltb, ltb-false}
-use Rattle.records.specs.declared.record.Record.{Record}
 use Rattle.records.specs.declared.record.Record.the-variants.{Whole, Torn}
 use Rattle.records.specs.Word.{wordOf, wordAt, wordBytes, at}
 use Rattle.records.specs.Store.{puts}
 use Rattle.records.proofs.Store.{puts-both}
-use Rattle.records.specs.Record.{isTorn, kindField, lengthField, Piece, whole, torn, front, pieces, recordOf, recordAt}
+use Rattle.records.specs.Record.{isTorn, kindField, lengthField, whole, torn, front, pieces, recordOf, recordAt}
 use Rattle.records.proofs.record.Cut.{front-whole, pieces-whole, pieces-torn}
 
 -- the part of b from place i on

@@ -1,8 +1,8 @@
 -- Laws for the functions that read a sheet, one for each way through the code. Assumes nothing.
 use mathlib.Core.Path.{_≡_, refl, sym, ap, _∙_}
-use mathlib.Core.Bool.{Bool, true, false, not, cond}
+use mathlib.Core.Bool.{Bool, true, false, not}
 use mathlib.Core.List.{List, [], _∷_, _++_, map, append-nil}
-use Prim.Native.Nat.{ℕ, suc, _+_, _-_, _<_, _≤_}
+use Prim.Native.Nat.{ℕ, _+_, _-_, _<_, _≤_}
 use native.Mathlib.Omega.{arith}
 use lib.ListN.{length, take, drop, set, length-map, length-append, length-drop, drop-of-length-le}
 use lib.Seq.{append-snoc, length-take-le, getD-take, getD-drop}
@@ -18,13 +18,13 @@ use Rattle.records.specs.declared.record.Answer.the-variants as answer
 use Rattle.records.specs.Outcome.{Outcome, taken, refused, Check, decide}
 use Rattle.records.specs.Lists.{filled}
 use Rattle.records.specs.Word.{at}
-use Rattle.records.specs.Record.{Piece, whole, torn, pieces, recordAt}
+use Rattle.records.specs.Record.{Piece, whole, pieces, recordAt}
 use Rattle.records.specs.Line.{sporadics, lineChecks, lineOf, blankLine}
 use Rattle.records.specs.Sheet.{SheetValue, clockCount, kindIn, lineIn, linesChecks, readSheet, sheetOf, sheetRead, slotOf}
 use Rattle.records.specs.Inner.{sporadicOf, lineRead, sheetFrom, withLine}
 use Rattle.records.proofs.Lists.{Passed, taken-passed, decide-passed, decide-refused, map-append, filled-set}
 use Rattle.records.proofs.record.Cut.{no-pieces}
-use Rattle.records.proofs.record.Laws.{WholeAt, whole-at, pieces-at, pieces-torn-at}
+use Rattle.records.proofs.record.Laws.{whole-at, pieces-at, pieces-torn-at}
 use Rattle.records.proofs.sheet.Writing.{sporadics-snoc, sporadics-few}
 
 -- a sheet with one line more

@@ -4,7 +4,7 @@ use mathlib.Core.Bool.{Bool, true, false, not, cond}
 use mathlib.Core.List.{List, [], _∷_, _++_, map}
 use Prim.Native.Nat.{ℕ, suc, _+_, _-_, _<_, _≤_}
 use native.Mathlib.Omega.{arith}
-use lib.ListN.{length, drop, set, length-append}
+use lib.ListN.{length, set, length-append}
 use lib.Dec.{ltb}
 use borrow.Author.Tests.{le-ltb, lt-ltb, not-true, not-false}
 use Rattle.records.specs.declared.line.Line.{Line}
@@ -17,10 +17,10 @@ use Rattle.records.specs.Lists.{listedFrom, listed, joined}
 use Rattle.records.specs.Word.{wordBytes}
 use Rattle.records.specs.Store.{puts, wrote, leaves}
 use Rattle.records.specs.Line.{isSporadic, sporadics, valueLineChecks, kindOf, bodyOf, lineBytes}
-use Rattle.records.specs.Sheet.{SheetValue, clockCount, lineAt, sheetValue, valueLinesChecks, sheetBytes, writeSheet}
+use Rattle.records.specs.Sheet.{clockCount, lineAt, sheetValue, valueLinesChecks, sheetBytes, writeSheet}
 use Rattle.records.specs.Inner.{sporadicOf, answered, linesFault}
 use Rattle.records.proofs.Lists.{Passed, taken-passed, decide-passed, decide-refused, listed-cons, listed-end, listed-snoc, length-listed, map-append}
-use Rattle.records.proofs.Store.{puts-append, puts-both, puts-front}
+use Rattle.records.proofs.Store.{puts-append, puts-front}
 use Rattle.records.proofs.line.Table.{shaped}
 
 -- ---- counting sporadic lines

@@ -1,3 +1,4 @@
+-- `put_cell` meets its contract: a byte and a word, one behind the other. Assumes nothing.
 use mathlib.Core.Path.{_∙_, ap}
 use mir.Facts.{toZ-ofZ}
 use Rattle.records.specs.Word.{rawOf}
@@ -7,11 +8,6 @@ use lib.ListN.{length-set}
 use borrow.Author.Needs.{needs}
 use Rattle.records.proofs.instant.put_cell.Statement.{statement}
 use Rattle.records.proofs.instant.put_cell.Tie as tie
-use Rattle.records.proofs.instant.put_cell.Reads as reads
-use Rattle.records.proofs.instant.put_cell.Lts as lts
-use Rattle.records.proofs.instant.tick_byte.Reads as tick-byte-reads
-use Rattle.records.proofs.word.put_word.Reads as put-word-reads
-use Rattle.records.proofs.word.raw_of.Reads as raw-of-reads
 
 tick-byte-requires : tie.Need-tick-byte-requires
 tick-byte-requires c κs = search needs

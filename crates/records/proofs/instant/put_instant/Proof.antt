@@ -1,19 +1,19 @@
+-- `put_instant` meets its contract. The invariant: storing the clocks that are left now is storing all behind the head. Assumes nothing.
+use mathlib.Core.Path.{_≡_, refl}
+use Prim.Native.Nat.{_≤_, _-_}
+use native.Mathlib.Omega.{arith}
+use lib.ListN.{length}
+use Rattle.records.proofs.instant.Laws.{storedFrom, cell-more, instant-stored}
 use borrow.Author.Needs.{needs}
 use Rattle.records.proofs.instant.put_instant.Statement.{statement}
 use Rattle.records.proofs.instant.put_instant.Tie as tie
-use Rattle.records.proofs.instant.put_instant.Reads as reads
-use Rattle.records.proofs.instant.put_instant.Lts as lts
-use Rattle.records.proofs.instant.put_cell.Reads as put-cell-reads
-use Rattle.records.proofs.instant.tag_at.Reads as tag-at-reads
-use Rattle.records.proofs.instant.tick_at.Reads as tick-at-reads
-use Rattle.records.proofs.instant.wide_byte.Reads as wide-byte-reads
-use Rattle.records.proofs.record.put_head.Reads as put-head-reads
 
 abbrev Inv-loop : tie.InvT-loop
-Inv-loop clocks buffer₀ n ticks tags i₀ buffer i = search needs
+Inv-loop clocks buffer₀ n ticks tags i₀ buffer i =
+    (i ≤ n) × (length buffer ≡ length buffer₀) × (storedFrom ticks tags n 0 buffer₀ ≡ storedFrom ticks tags n i buffer)
 
 abbrev μ-loop : tie.MeasureT-loop
-μ-loop clocks buffer₀ n ticks tags i₀ buffer i = search needs
+μ-loop clocks buffer₀ n ticks tags i₀ buffer i = n - i
 
 wide-byte-requires : tie.Need-wide-byte-requires Inv-loop μ-loop
 wide-byte-requires c κs = search needs
@@ -28,7 +28,7 @@ put-head-requires : tie.Need-put-head-requires Inv-loop μ-loop
 put-head-requires c κs = search needs
 
 loop-holds : tie.Need-loop-holds Inv-loop μ-loop
-loop-holds c = search needs
+loop-holds c = (omega arith, refl, refl)
 
 mul-put-cell : tie.Need-mul-put-cell Inv-loop μ-loop
 mul-put-cell c = search needs
@@ -52,13 +52,15 @@ loop-less : tie.Need-loop-less Inv-loop μ-loop
 loop-less c = search needs
 
 loop-again : tie.Need-loop-again Inv-loop μ-loop
-loop-again c = search needs
+loop-again c =
+    let inv = c .before .before .before .before .before .before .before .loop .inv in
+    (omega arith, search needs, search (needs, cell-more _ _ _ _ _ (inv .2)))
 
 same-length : tie.Need-same-length Inv-loop μ-loop
 same-length c = search needs
 
 returns : tie.Need-returns Inv-loop μ-loop
-returns c = search needs
+returns c = search (needs, instant-stored)
 
 pub put-instant-spec : {M : Type 1} → statement M
 put-instant-spec =

@@ -1,21 +1,21 @@
+-- `read_cells` meets its contract. The invariant: the answer is what the clocks from i on answer, with those before in the struct. Assumes nothing.
+use mathlib.Core.Path.{_≡_}
+use Prim.Native.Nat.{_≤_, _-_, _*_}
+use native.Mathlib.Omega.{arith}
+use lib.ListN.{drop}
+use Rattle.records.specs.Instant.{rawCells, instantRead}
+use Rattle.records.specs.Inner.{cellsRead}
+use Rattle.records.proofs.instant.Laws.{cellsFrom, cells-start, cells-end, cells-no, cells-more}
 use borrow.Author.Needs.{needs}
 use Rattle.records.proofs.instant.read_cells.Statement.{statement}
 use Rattle.records.proofs.instant.read_cells.Tie as tie
-use Rattle.records.proofs.instant.read_cells.Reads as reads
-use Rattle.records.proofs.instant.read_cells.Lts as lts
-use Rattle.records.proofs.instant.blank_instant.Reads as blank-instant-reads
-use Rattle.records.proofs.instant.refused_instant.Reads as refused-instant-reads
-use Rattle.records.proofs.instant.tick_of.Reads as tick-of-reads
-use Rattle.records.proofs.instant.wide_byte.Reads as wide-byte-reads
-use Rattle.records.proofs.instant.with_cell.Reads as with-cell-reads
-use Rattle.records.proofs.word.tag_of.Reads as tag-of-reads
-use Rattle.records.proofs.word.word_at.Reads as word-at-reads
 
 abbrev Inv-loop : tie.InvT-loop
-Inv-loop body clocks n v₀ i₀ v i = search needs
+Inv-loop body clocks n v₀ i₀ v i =
+    (i ≤ n) × (instantRead (cellsRead body) ≡ cellsFrom v i (rawCells (drop (3 * i) body)))
 
 abbrev μ-loop : tie.MeasureT-loop
-μ-loop body clocks n v₀ i₀ v i = search needs
+μ-loop body clocks n v₀ i₀ v i = n - i
 
 wide-byte-requires : tie.Need-wide-byte-requires Inv-loop μ-loop
 wide-byte-requires c κs = search needs
@@ -24,7 +24,7 @@ blank-instant-requires : tie.Need-blank-instant-requires Inv-loop μ-loop
 blank-instant-requires c κs = search needs
 
 loop-holds : tie.Need-loop-holds Inv-loop μ-loop
-loop-holds c = search needs
+loop-holds c = (omega arith, search (needs, cells-start))
 
 mul-at : tie.Need-mul-at Inv-loop μ-loop
 mul-at c = search needs
@@ -36,7 +36,7 @@ refused-instant-requires : tie.Need-refused-instant-requires Inv-loop μ-loop
 refused-instant-requires c κs = search needs
 
 returns : tie.Need-returns Inv-loop μ-loop
-returns c = search needs
+returns c = search (needs, cells-no)
 
 add-word-at : tie.Need-add-word-at Inv-loop μ-loop
 add-word-at c = search needs
@@ -60,10 +60,10 @@ loop-less : tie.Need-loop-less Inv-loop μ-loop
 loop-less c = search needs
 
 loop-again : tie.Need-loop-again Inv-loop μ-loop
-loop-again c = search needs
+loop-again c = (omega arith, search (needs, cells-more))
 
 returns-2 : tie.Need-returns-2 Inv-loop μ-loop
-returns-2 c = search needs
+returns-2 c = search (needs, cells-end)
 
 pub read-cells-spec : {M : Type 1} → statement M
 read-cells-spec =

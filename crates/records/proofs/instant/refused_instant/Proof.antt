@@ -1,9 +1,7 @@
+-- `refused_instant` meets its contract: the blank instant stands beside the number. Assumes nothing.
 use borrow.Author.Needs.{needs}
 use Rattle.records.proofs.instant.refused_instant.Statement.{statement}
 use Rattle.records.proofs.instant.refused_instant.Tie as tie
-use Rattle.records.proofs.instant.refused_instant.Reads as reads
-use Rattle.records.proofs.instant.refused_instant.Lts as lts
-use Rattle.records.proofs.instant.blank_instant.Reads as blank-instant-reads
 
 blank-instant-requires : tie.Need-blank-instant-requires
 blank-instant-requires c κs = search needs

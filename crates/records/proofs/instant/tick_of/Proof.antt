@@ -1,10 +1,8 @@
+-- `tick_of` meets its contract: its arms are the definition's. Assumes nothing.
 use borrow.Author.Tests.{ne-eqb}
 use Rattle.records.specs.Instant.{tickOf}
-use borrow.Author.Needs.{needs}
 use Rattle.records.proofs.instant.tick_of.Statement.{statement}
 use Rattle.records.proofs.instant.tick_of.Tie as tie
-use Rattle.records.proofs.instant.tick_of.Reads as reads
-use Rattle.records.proofs.instant.tick_of.Lts as lts
 
 returns : tie.Need-returns
 unfolding tickOf

@@ -1,10 +1,8 @@
+-- `with_cell` meets its contract: one place of the ticks and of the tags is set. Assumes nothing.
 use mir.Facts.{toZ-ofZ}
 use borrow.Author.Needs.{needs}
 use Rattle.records.proofs.instant.with_cell.Statement.{statement}
 use Rattle.records.proofs.instant.with_cell.Tie as tie
-use Rattle.records.proofs.instant.with_cell.Reads as reads
-use Rattle.records.proofs.instant.with_cell.Lts as lts
-use Rattle.records.proofs.instant.with_tag.Reads as with-tag-reads
 
 array-set-from-ticks : tie.Need-array-set-from-ticks
 array-set-from-ticks c = search needs

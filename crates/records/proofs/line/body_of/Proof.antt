@@ -1,14 +1,10 @@
-use mathlib.Core.Path.{_≡_, refl}
+-- `body_of` meets its contract: the fields of each case, and zeros behind them. Assumes nothing.
+use mathlib.Core.Path.{_≡_}
 use mir.Syntax.{w16}
 use mir.Val.{toZ, ofZ}
 use borrow.Author.Needs.{needs}
 use Rattle.records.proofs.line.body_of.Statement.{statement}
 use Rattle.records.proofs.line.body_of.Tie as tie
-use Rattle.records.proofs.line.body_of.Reads as reads
-use Rattle.records.proofs.line.body_of.Lts as lts
-use Rattle.records.proofs.word.high_byte.Reads as high-byte-reads
-use Rattle.records.proofs.word.low_byte.Reads as low-byte-reads
-use Rattle.records.proofs.word.raw_of.Reads as raw-of-reads
 
 enum-known-l : tie.Need-enum-known-l
 enum-known-l c = search needs

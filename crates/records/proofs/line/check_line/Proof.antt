@@ -1,14 +1,8 @@
+-- `check_line` meets its contract: a law for each answer; the clocks stand at the front of the six bytes. Assumes nothing.
 use Rattle.records.proofs.line.Laws.{check-room, check-7, check-9, check-done}
 use borrow.Author.Needs.{needs}
 use Rattle.records.proofs.line.check_line.Statement.{statement}
 use Rattle.records.proofs.line.check_line.Tie as tie
-use Rattle.records.proofs.line.check_line.Reads as reads
-use Rattle.records.proofs.line.check_line.Lts as lts
-use Rattle.records.proofs.line.body_of.Reads as body-of-reads
-use Rattle.records.proofs.line.clocks_below.Reads as clocks-below-reads
-use Rattle.records.proofs.line.is_ninth.Reads as is-ninth-reads
-use Rattle.records.proofs.line.kind_of.Reads as kind-of-reads
-use Rattle.records.proofs.line.line_shape.Reads as line-shape-reads
 
 kind-of-requires : tie.Need-kind-of-requires
 kind-of-requires c κs = search needs

@@ -1,5 +1,5 @@
 -- `clocks_below` meets its contract. The invariant: whether all are below is whether those from i on are. Assumes nothing.
-use mathlib.Core.Path.{_≡_, refl, _∙_, sym}
+use mathlib.Core.Path.{_≡_}
 use Prim.Native.Nat.{_≤_, _-_}
 use native.Mathlib.Omega.{arith}
 use native.Mathlib.Nat.{sub-zero}
@@ -9,8 +9,6 @@ use Rattle.records.proofs.line.Laws.{below-end, below-no, below-more}
 use borrow.Author.Needs.{needs}
 use Rattle.records.proofs.line.clocks_below.Statement.{statement}
 use Rattle.records.proofs.line.clocks_below.Tie as tie
-use Rattle.records.proofs.line.clocks_below.Reads as reads
-use Rattle.records.proofs.line.clocks_below.Lts as lts
 
 abbrev Inv-loop : tie.InvT-loop
 Inv-loop body n clocks i₀ i =

@@ -1,9 +1,7 @@
+-- `is_ninth` meets its contract: its test is the definition's. Assumes nothing.
 use borrow.Author.Tests.{eq-eqb, ne-eqb}
-use borrow.Author.Needs.{needs}
 use Rattle.records.proofs.line.is_ninth.Statement.{statement}
 use Rattle.records.proofs.line.is_ninth.Tie as tie
-use Rattle.records.proofs.line.is_ninth.Reads as reads
-use Rattle.records.proofs.line.is_ninth.Lts as lts
 
 returns : tie.Need-returns
 returns c = simp (eq-eqb (c .before .args .kind) 16 (c .if1 .taken))

@@ -1,3 +1,4 @@
+-- `line_of` meets its contract: a body of its kind's length has each field. Assumes nothing.
 use mathlib.Core.Path.{_∙_, ap}
 use native.Mathlib.Omega.{arith}
 use borrow.Author.Tests.{ne-eqb}
@@ -8,10 +9,6 @@ use Rattle.records.proofs.word.Laws.{back}
 use borrow.Author.Needs.{needs}
 use Rattle.records.proofs.line.line_of.Statement.{statement}
 use Rattle.records.proofs.line.line_of.Tie as tie
-use Rattle.records.proofs.line.line_of.Reads as reads
-use Rattle.records.proofs.line.line_of.Lts as lts
-use Rattle.records.proofs.word.tag_of.Reads as tag-of-reads
-use Rattle.records.proofs.word.word_at.Reads as word-at-reads
 
 shared-slice-read-a : tie.Need-shared-slice-read-a
 shared-slice-read-a c = omega (arith, two-clocks (c .before .before .args .kind) (c .before .before .pre .0))

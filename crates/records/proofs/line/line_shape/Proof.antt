@@ -1,11 +1,9 @@
+-- `line_shape` meets its contract: the arms are the table's rows. Assumes nothing.
 use native.Mathlib.Omega.{arith}
 use borrow.Author.Tests.{ne-eqb, le-leb, lt-leb}
 use Rattle.records.specs.Line.{lengthOf, clocksOf}
-use borrow.Author.Needs.{needs}
 use Rattle.records.proofs.line.line_shape.Statement.{statement}
 use Rattle.records.proofs.line.line_shape.Tie as tie
-use Rattle.records.proofs.line.line_shape.Reads as reads
-use Rattle.records.proofs.line.line_shape.Lts as lts
 
 returns : tie.Need-returns
 unfolding lengthOf clocksOf

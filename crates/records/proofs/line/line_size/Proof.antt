@@ -1,13 +1,10 @@
+-- `line_size` meets its contract: the length of a kind is that of a line's body. Assumes nothing.
 use Rattle.records.proofs.line.Laws.{table-size}
 use native.Mathlib.Omega.{arith}
-use Rattle.records.proofs.line.Table.{Shaped, shaped}
+use Rattle.records.proofs.line.Table.{shaped}
 use borrow.Author.Needs.{needs}
 use Rattle.records.proofs.line.line_size.Statement.{statement}
 use Rattle.records.proofs.line.line_size.Tie as tie
-use Rattle.records.proofs.line.line_size.Reads as reads
-use Rattle.records.proofs.line.line_size.Lts as lts
-use Rattle.records.proofs.line.kind_of.Reads as kind-of-reads
-use Rattle.records.proofs.line.line_shape.Reads as line-shape-reads
 
 kind-of-requires : tie.Need-kind-of-requires
 kind-of-requires c κs = search needs

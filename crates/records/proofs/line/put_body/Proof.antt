@@ -1,6 +1,6 @@
-use Rattle.records.proofs.Store.{stored-more, stored-all}
 -- `put_body` meets its contract. The invariant: storing what is left now is storing all at the start. Assumes nothing.
-use mathlib.Core.Path.{_≡_, refl, _∙_, sym}
+use Rattle.records.proofs.Store.{stored-more, stored-all}
+use mathlib.Core.Path.{_≡_, refl}
 use Prim.Native.Nat.{_≤_, _-_, _+_}
 use native.Mathlib.Omega.{arith}
 use native.Mathlib.Nat.{sub-zero, add-zero}
@@ -9,8 +9,6 @@ use Rattle.records.specs.Store.{puts}
 use borrow.Author.Needs.{needs}
 use Rattle.records.proofs.line.put_body.Statement.{statement}
 use Rattle.records.proofs.line.put_body.Tie as tie
-use Rattle.records.proofs.line.put_body.Reads as reads
-use Rattle.records.proofs.line.put_body.Lts as lts
 
 abbrev Inv-loop : tie.InvT-loop
 Inv-loop buffer₀ at n body i₀ buffer i =

@@ -1,16 +1,10 @@
+-- `put_line` meets its contract: the head and the body, one behind the other. Assumes nothing.
 use native.Mathlib.Omega.{arith}
 use Rattle.records.proofs.line.Table.{shaped}
 use Rattle.records.proofs.line.Laws.{table-size, line-stored}
 use borrow.Author.Needs.{needs}
 use Rattle.records.proofs.line.put_line.Statement.{statement}
 use Rattle.records.proofs.line.put_line.Tie as tie
-use Rattle.records.proofs.line.put_line.Reads as reads
-use Rattle.records.proofs.line.put_line.Lts as lts
-use Rattle.records.proofs.line.body_of.Reads as body-of-reads
-use Rattle.records.proofs.line.kind_of.Reads as kind-of-reads
-use Rattle.records.proofs.line.line_shape.Reads as line-shape-reads
-use Rattle.records.proofs.line.put_body.Reads as put-body-reads
-use Rattle.records.proofs.record.put_head.Reads as put-head-reads
 
 kind-of-requires : tie.Need-kind-of-requires
 kind-of-requires c κs = search needs

@@ -1,13 +1,8 @@
+-- `read_line` meets its contract: a law for each answer, in the order of the checks. Assumes nothing.
 use Rattle.records.proofs.line.Laws.{read-8, read-5, read-6, read-7, read-9, read-line, known, size, room}
 use borrow.Author.Needs.{needs}
 use Rattle.records.proofs.line.read_line.Statement.{statement}
 use Rattle.records.proofs.line.read_line.Tie as tie
-use Rattle.records.proofs.line.read_line.Reads as reads
-use Rattle.records.proofs.line.read_line.Lts as lts
-use Rattle.records.proofs.line.clocks_below.Reads as clocks-below-reads
-use Rattle.records.proofs.line.is_ninth.Reads as is-ninth-reads
-use Rattle.records.proofs.line.line_of.Reads as line-of-reads
-use Rattle.records.proofs.line.line_shape.Reads as line-shape-reads
 
 returns : tie.Need-returns
 returns c = search (needs, read-8, read-5, read-6, read-7, read-9, read-line) depth 12

@@ -1,9 +1,7 @@
+-- `sporadic_of` meets its contract: its test is the definition's. Assumes nothing.
 use borrow.Author.Tests.{eq-eqb, ne-eqb}
-use borrow.Author.Needs.{needs}
 use Rattle.records.proofs.line.sporadic_of.Statement.{statement}
 use Rattle.records.proofs.line.sporadic_of.Tie as tie
-use Rattle.records.proofs.line.sporadic_of.Reads as reads
-use Rattle.records.proofs.line.sporadic_of.Lts as lts
 
 returns : tie.Need-returns
 returns c = simp (eq-eqb (c .before .args .kind) 16 (c .if1 .taken))

@@ -1,11 +1,8 @@
+-- `first_record` meets its contract: a law for each answer. Assumes nothing.
 use Rattle.records.proofs.record.Laws.{ret-short, ret-body, ret-whole}
 use borrow.Author.Needs.{needs}
 use Rattle.records.proofs.record.first_record.Statement.{statement}
 use Rattle.records.proofs.record.first_record.Tie as tie
-use Rattle.records.proofs.record.first_record.Reads as reads
-use Rattle.records.proofs.record.first_record.Lts as lts
-use Rattle.records.proofs.word.wide.Reads as wide-reads
-use Rattle.records.proofs.word.word_at.Reads as word-at-reads
 
 returns : tie.Need-returns
 returns c = search (needs, ret-short, ret-body, ret-whole)

@@ -1,10 +1,8 @@
+-- `put_head` meets its contract: two words, one behind the other. Assumes nothing.
 use Rattle.records.proofs.record.Laws.{head-stored}
 use borrow.Author.Needs.{needs}
 use Rattle.records.proofs.record.put_head.Statement.{statement}
 use Rattle.records.proofs.record.put_head.Tie as tie
-use Rattle.records.proofs.record.put_head.Reads as reads
-use Rattle.records.proofs.record.put_head.Lts as lts
-use Rattle.records.proofs.word.put_word.Reads as put-word-reads
 
 put-word-requires : tie.Need-put-word-requires
 put-word-requires c κs = search needs

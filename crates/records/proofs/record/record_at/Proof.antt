@@ -1,11 +1,9 @@
-use mathlib.Core.Path.{_∙_, sym, ap}
+-- `record_at` meets its contract: past the end a record is torn, and else it is the first of the rest. Assumes nothing.
+use mathlib.Core.Path.{_∙_, sym}
 use Rattle.records.proofs.record.Laws.{torn-past, part-from, at-front}
 use borrow.Author.Needs.{needs}
 use Rattle.records.proofs.record.record_at.Statement.{statement}
 use Rattle.records.proofs.record.record_at.Tie as tie
-use Rattle.records.proofs.record.record_at.Reads as reads
-use Rattle.records.proofs.record.record_at.Lts as lts
-use Rattle.records.proofs.record.first_record.Reads as first-record-reads
 
 returns : tie.Need-returns
 returns c = sym (torn-past _ _ (c .if1 .taken))

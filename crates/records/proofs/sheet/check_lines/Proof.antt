@@ -5,12 +5,6 @@ use Rattle.records.proofs.sheet.Writing.{Checking, check-start, check-e
 use borrow.Author.Needs.{needs}
 use Rattle.records.proofs.sheet.check_lines.Statement.{statement}
 use Rattle.records.proofs.sheet.check_lines.Tie as tie
-use Rattle.records.proofs.sheet.check_lines.Reads as reads
-use Rattle.records.proofs.sheet.check_lines.Lts as lts
-use Rattle.records.proofs.line.check_line.Reads as check-line-reads
-use Rattle.records.proofs.line.kind_of.Reads as kind-of-reads
-use Rattle.records.proofs.line.sporadic_of.Reads as sporadic-of-reads
-use Rattle.records.proofs.sheet.line_at.Reads as line-at-reads
 
 abbrev Inv-loop : tie.InvT-loop
 Inv-loop s n clocks spent₀ i₀ spent i = (i ≤ n) × (spent ≤ i) × Checking s i spent

@@ -1,9 +1,7 @@
+-- `clock_count` meets its contract: its test is the definition's. Assumes nothing.
 use borrow.Author.Tests.{le-leb, lt-leb}
-use borrow.Author.Needs.{needs}
 use Rattle.records.proofs.sheet.clock_count.Statement.{statement}
 use Rattle.records.proofs.sheet.clock_count.Tie as tie
-use Rattle.records.proofs.sheet.clock_count.Reads as reads
-use Rattle.records.proofs.sheet.clock_count.Lts as lts
 
 returns : tie.Need-returns
 returns c = simp (le-leb 1 (c .before .args .clocks) (c .if1 .taken))

@@ -4,18 +4,11 @@ use Prim.Native.Nat.{_≤_, _-_, _+_}
 use native.Mathlib.Omega.{arith}
 use lib.ListN.{length, length-set}
 use Rattle.records.specs.Store.{puts}
-use Rattle.records.specs.Line.{lineBytes}
 use Rattle.records.specs.Sheet.{sheetValue, sheetBytes}
 use Rattle.records.proofs.sheet.Writing.{linesLeft, sheet-length, size-more, put-more, put-all, sheet-stored}
 use borrow.Author.Needs.{needs}
 use Rattle.records.proofs.sheet.put_sheet.Statement.{statement}
 use Rattle.records.proofs.sheet.put_sheet.Tie as tie
-use Rattle.records.proofs.sheet.put_sheet.Reads as reads
-use Rattle.records.proofs.sheet.put_sheet.Lts as lts
-use Rattle.records.proofs.line.line_size.Reads as line-size-reads
-use Rattle.records.proofs.line.put_line.Reads as put-line-reads
-use Rattle.records.proofs.record.put_head.Reads as put-head-reads
-use Rattle.records.proofs.sheet.line_at.Reads as line-at-reads
 
 abbrev Inv-loop : tie.InvT-loop
 Inv-loop s buffer₀ n clocks at₀ i₀ buffer at i =

@@ -1,5 +1,4 @@
 -- `read_lines` meets its contract. The invariant: some records are read, and the answer is that of the records left. Assumes nothing.
-use mathlib.Core.Path.{_≡_, sym, _∙_}
 use Prim.Native.Nat.{_≤_, _-_, _+_}
 use native.Mathlib.Omega.{arith}
 use lib.ListN.{length}
@@ -8,14 +7,6 @@ use Rattle.records.proofs.sheet.Writing.{sporadic-one}
 use borrow.Author.Needs.{needs}
 use Rattle.records.proofs.sheet.read_lines.Statement.{statement}
 use Rattle.records.proofs.sheet.read_lines.Tie as tie
-use Rattle.records.proofs.sheet.read_lines.Reads as reads
-use Rattle.records.proofs.sheet.read_lines.Lts as lts
-use Rattle.records.proofs.line.read_line.Reads as read-line-reads
-use Rattle.records.proofs.line.sporadic_of.Reads as sporadic-of-reads
-use Rattle.records.proofs.record.record_at.Reads as record-at-reads
-use Rattle.records.proofs.sheet.blank_sheet.Reads as blank-sheet-reads
-use Rattle.records.proofs.sheet.refused_sheet.Reads as refused-sheet-reads
-use Rattle.records.proofs.sheet.with_line.Reads as with-line-reads
 
 abbrev Inv-loop : tie.InvT-loop
 Inv-loop bytes clocks sheet₀ spent₀ at₀ sheet spent at = (at ≤ length bytes) × Reading bytes clocks sheet spent at

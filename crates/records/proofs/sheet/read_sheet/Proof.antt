@@ -1,14 +1,9 @@
+-- `read_sheet` meets its contract: a law for each answer, in the order of the checks. Assumes nothing.
 use native.Mathlib.Omega.{arith}
 use Rattle.records.proofs.sheet.Reading.{sheet-1, sheet-2, sheet-3, sheet-4, sheet-lines, sheet-fits}
 use borrow.Author.Needs.{needs}
 use Rattle.records.proofs.sheet.read_sheet.Statement.{statement}
 use Rattle.records.proofs.sheet.read_sheet.Tie as tie
-use Rattle.records.proofs.sheet.read_sheet.Reads as reads
-use Rattle.records.proofs.sheet.read_sheet.Lts as lts
-use Rattle.records.proofs.record.record_at.Reads as record-at-reads
-use Rattle.records.proofs.sheet.clock_count.Reads as clock-count-reads
-use Rattle.records.proofs.sheet.read_lines.Reads as read-lines-reads
-use Rattle.records.proofs.sheet.refused_sheet.Reads as refused-sheet-reads
 
 record-at-requires : tie.Need-record-at-requires
 record-at-requires c κs = search needs

@@ -1,9 +1,7 @@
+-- `refused_sheet` meets its contract: the blank sheet stands beside the number. Assumes nothing.
 use borrow.Author.Needs.{needs}
 use Rattle.records.proofs.sheet.refused_sheet.Statement.{statement}
 use Rattle.records.proofs.sheet.refused_sheet.Tie as tie
-use Rattle.records.proofs.sheet.refused_sheet.Reads as reads
-use Rattle.records.proofs.sheet.refused_sheet.Lts as lts
-use Rattle.records.proofs.sheet.blank_sheet.Reads as blank-sheet-reads
 
 blank-sheet-requires : tie.Need-blank-sheet-requires
 blank-sheet-requires c κs = search needs

@@ -8,10 +8,6 @@ use Rattle.records.proofs.sheet.Writing.{linesLeft, sheet-length, size-
 use borrow.Author.Needs.{needs}
 use Rattle.records.proofs.sheet.sheet_size.Statement.{statement}
 use Rattle.records.proofs.sheet.sheet_size.Tie as tie
-use Rattle.records.proofs.sheet.sheet_size.Reads as reads
-use Rattle.records.proofs.sheet.sheet_size.Lts as lts
-use Rattle.records.proofs.line.line_size.Reads as line-size-reads
-use Rattle.records.proofs.sheet.line_at.Reads as line-at-reads
 
 abbrev Inv-loop : tie.InvT-loop
 Inv-loop s n size₀ i₀ size i =

@@ -1,13 +1,8 @@
+-- `write_sheet` meets its contract: a law for each answer, in the order of the checks; bytes stored from place 0 on are the front of the buffer. Assumes nothing.
 use Rattle.records.proofs.sheet.Writing.{write-4, write-8, write-line, write-10, write-done}
 use borrow.Author.Needs.{needs}
 use Rattle.records.proofs.sheet.write_sheet.Statement.{statement}
 use Rattle.records.proofs.sheet.write_sheet.Tie as tie
-use Rattle.records.proofs.sheet.write_sheet.Reads as reads
-use Rattle.records.proofs.sheet.write_sheet.Lts as lts
-use Rattle.records.proofs.sheet.check_lines.Reads as check-lines-reads
-use Rattle.records.proofs.sheet.clock_count.Reads as clock-count-reads
-use Rattle.records.proofs.sheet.put_sheet.Reads as put-sheet-reads
-use Rattle.records.proofs.sheet.sheet_size.Reads as sheet-size-reads
 
 clock-count-requires : tie.Need-clock-count-requires
 clock-count-requires c κs = search needs

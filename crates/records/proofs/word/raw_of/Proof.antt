@@ -1,6 +1,5 @@
-use borrow.Author.Needs.{needs}
 -- `raw_of` meets its contract: the word of a negative tag is 65535 - (-1 - tag). Assumes nothing.
-use mathlib.Core.Path.{_≡_, ap, sym, _∙_}
+use mathlib.Core.Path.{ap, sym, _∙_}
 use native.Mathlib.Omega.{arith}
 use Prim.Native.Nat.{_-_}
 use lib.IntN.{ℤ, natAbs}

@@ -1,6 +1,6 @@
 -- `tag_of` meets its contract: a word with the top bit is -1 - (65535 - raw). Assumes nothing.
 use borrow.Author.Needs.{needs}
-use mathlib.Core.Path.{_≡_, ap, sym, _∙_}
+use mathlib.Core.Path.{_≡_, ap, _∙_}
 use native.Mathlib.Omega.{arith}
 use Prim.Native.Nat.{_-_}
 use lib.IntN.{ℤ, negsuc, _-ℤ_}
