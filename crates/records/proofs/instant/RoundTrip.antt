@@ -97,3 +97,7 @@ written-read c v buffer {n} h e =
     let r : readInstant c (take n (writeInstant c cells buffer .buffer)) ≡ taken cells =
     writes-read c _ (record { value = h; size = k; clocks = not-false (clockCount c) (w .passed .0); bytes = sym (w .bytes-there) }) in
     record { outcome = r; answer = rw r; same = rw r (instantOf-value c cells k) }
+
+-- what is written does not depend on unused places
+pub unused-places : (c : ℕ) (v w : Instant) (buffer : List ℕ) → SameInstant c v w → writeInstant c (instantValue c v) buffer ≡ writeInstant c (instantValue c w) buffer
+unused-places c v w buffer e = ap (λ (cells : List Cell). writeInstant c cells buffer) e

@@ -84,3 +84,7 @@ written-read s buffer {n} h e =
     let r : readSheet (take n (writeSheet v buffer .buffer)) ≡ taken v =
     writes-read _ (record { value = h; checks = passed-taken (sheetValueChecks v) v (w .passed); bytes = sym (w .bytes-there) }) in
     record { outcome = r; answer = rw r; same = rw r (sheetOf-value v) }
+
+-- what is written does not depend on unused places
+pub unused-places : (s t : Sheet) (buffer : List ℕ) → SameSheet s t → writeSheet (sheetValue s) buffer ≡ writeSheet (sheetValue t) buffer
+unused-places s t buffer e = ap (λ (v : SheetValue). writeSheet v buffer) e
