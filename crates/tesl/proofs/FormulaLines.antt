@@ -1,0 +1,144 @@
+-- One law for each kind of line: its part of `fits` is TESL's formula for it. Assumes nothing.
+use mathlib.Core.Bool.{Bool, true, false, not, cond, _&&_, _||_}
+use mathlib.Core.List.{List, [], _∷_, _++_}
+use mathlib.Core.Logic.{_↔_, _⊎_, inl, inr}
+use mathlib.Core.Path.{_≡_, refl, sym, ap, _∙_, subst}
+use Prim.Native.Nat.{ℕ, suc, _≤_, _<_}
+use native.Mathlib.Nat.{le-of-lt}
+use native.Mathlib.Omega.{arith}
+use lib.Dec.{T, T-not, not-T, leb→le, le→leb}
+use lib.IntN.{ℤ, pos, _+ℤ_, _*ℤ_}
+use lib.ListN.{length, getD, take, drop}
+use lib.Seq.{take-suc, length-take-le, getD-take}
+use Rattle.records.specs.declared.line.Line.{Line}
+use Rattle.records.specs.declared.line.Line.the-variants.{Sporadic, Relation, Implies, Excludes, Delayed, Weakly, Strictly, Kills}
+use Rattle.tesl.specs.Lists.{any}
+use Rattle.tesl.specs.Run.{Filled, ticksAt}
+use Rattle.tesl.specs.Fits.{lastTags, ticksIn, Obligation}
+use Rattle.tesl.specs.Formula.{instant, Ticking, tag, LastTagAtMost, Holds}
+use Rattle.tesl.proofs.FormulaLists.{and-l, and-r, and-i, or-e, T→≡, ≡→T, any-find, any-has}
+use Rattle.tesl.proofs.FormulaParts.{paid, Part}
+use Rattle.tesl.proofs.FormulaOwed.{eqZ→eq, eq→eqZ, noInstant, ticks-below, ticks-with, MetFrom, paid-one}
+
+module _ (run : List Filled) (A B : ℕ) where
+  -- K's ticks up to and with instant n
+  abbrev upto : ℕ → ℕ → ℕ
+  upto n K = ticksIn K (take n run ++ (instant run n ∷ []))
+
+  sporadic-law : (t : ℤ) → Part (Sporadic A B t) run ↔ Holds (Sporadic A B t) run
+  sporadic-law t =
+      let o : Obligation = record { clock = A; due = t; on = B } in
+      (λ p. there ((paid-one 0 run o) .0 (p .from-start)), λ h. record { from-start = (paid-one 0 run o) .1 (back h); at-each = λ n b. tt; begun-there = λ n b. tt })
+    where
+      there : (MetFrom 0 run (record { clock = A; due = t; on = B }) ⊎ LastTagAtMost run B t) → Holds (Sporadic A B t) run
+      there (inl w) = inl (w .0, w .2, w .3, w .4)
+      there (inr h) = inr h
+
+      back : Holds (Sporadic A B t) run → MetFrom 0 run (record { clock = A; due = t; on = B }) ⊎ LastTagAtMost run B t
+      back (inl w) = inl (w .0, omega arith, w .1, w .2, w .3)
+      back (inr h) = inr h
+
+  relation-law : (p q : ℤ) → Part (Relation A B p q) run ↔ Holds (Relation A B p q) run
+  relation-law p q = (
+    λ x n b. eqZ→eq (tag run A n) (p *ℤ tag run B n +ℤ q) (x .at-each n b),
+    λ h. record { from-start = tt; at-each = λ n b. eq→eqZ (h n b); begun-there = λ n b. tt },
+  )
+
+  implies-law : Part (Implies A B) run ↔ Holds (Implies A B) run
+  implies-law = (
+    λ x n b. there (ticksAt (instant run n) A) (ticksAt (instant run n) B) (x .at-each n b),
+    λ h. record { from-start = tt; at-each = λ n b. back (ticksAt (instant run n) A) (ticksAt (instant run n) B) (h n b); begun-there = λ n b. tt },
+  )
+    where
+      there : (a c : Bool) → T (not a || c) → a ≡ true → c ≡ true
+      there a c t e = or-e (not a) c t (λ u. absurd (T-not a u (≡→T e))) (T→≡ c)
+
+      back : (a c : Bool) → (a ≡ true → c ≡ true) → T (not a || c)
+      back true c h = ≡→T (h refl)
+      back false c h = tt
+
+  excludes-law : Part (Excludes A B) run ↔ Holds (Excludes A B) run
+  excludes-law = (
+    λ x n b d e. T-not (ticksAt (instant run n) A && ticksAt (instant run n) B) (x .at-each n b) (and-i (ticksAt (instant run n) A) (ticksAt (instant run n) B) (≡→T d) (≡→T e)),
+    λ h. record {
+      from-start = tt;
+      at-each = λ n b. let f = ticksAt (instant run n) in
+          not-T (f A && f B) (λ t. h n b (T→≡ (f A) (and-l (f A) (f B) t)) (T→≡ (f B) (and-r (f A) (f B) t)));
+      begun-there = λ n b. tt;
+    },
+  )
+
+  delayed-law : (D d : ℕ) → Part (Delayed A B D d) run ↔ Holds (Delayed A B D d) run
+  delayed-law D d = (
+    λ x n b e. (paid-one (suc n) run (begun n)) .0 (subst (λ (c : Bool). T (paid (lastTags run) (drop (suc n) run) (cond c (begun n ∷ []) []))) e (x .begun-there n b)),
+    λ h. record {
+      from-start = tt;
+      at-each = λ n b. tt;
+      begun-there = λ n b. back n (ticksAt (instant run n) A) (h n b);
+    },
+  )
+    where
+      begun : ℕ → Obligation
+      begun n = record { clock = D; due = tag run B n +ℤ pos d; on = B }
+
+      back : (n : ℕ) (c : Bool) → (c ≡ true → MetFrom (suc n) run (begun n) ⊎ LastTagAtMost run B (tag run B n +ℤ pos d))
+          → T (paid (lastTags run) (drop (suc n) run) (cond c (begun n ∷ []) []))
+      back n true h = (paid-one (suc n) run (begun n)) .1 (h refl)
+      back n false h = tt
+
+  weakly-law : Part (Weakly A B) run ↔ Holds (Weakly A B) run
+  weakly-law = (
+    λ x n b. omega (arith, leb→le (upto n B) (upto n A) (x .at-each n b), ticks-with run A n b, ticks-with run B n b),
+    λ h. record {
+      from-start = tt;
+      at-each = λ n b. le→leb (upto n B) (upto n A) (omega (arith, h n b, ticks-with run A n b, ticks-with run B n b));
+      begun-there = λ n b. tt;
+    },
+  )
+
+  strictly-law : Part (Strictly A B) run ↔ Holds (Strictly A B) run
+  strictly-law = (
+    λ x n b. omega (arith, leb→le (upto n B) (ticksIn A (take n run)) (x .at-each n b), ticks-below run A n (le-of-lt b), ticks-with run B n b),
+    λ h. record {
+      from-start = tt;
+      at-each = λ n b. le→leb (upto n B) (ticksIn A (take n run)) (omega (arith, h n b, ticks-below run A n (le-of-lt b), ticks-with run B n b));
+      begun-there = λ n b. tt;
+    },
+  )
+
+  kills-law : Part (Kills A B) run ↔ Holds (Kills A B) run
+  kills-law = (
+    λ x n m l b d e. T-not (ticksAt (instant run m) B && killed m) (x .at-each m b)
+        (and-i (ticksAt (instant run m) B) (killed m) (≡→T e) (kill n m l b d)),
+    λ h. record {
+      from-start = tt;
+      at-each = λ m b. not-T (ticksAt (instant run m) B && killed m)
+          (λ t. let w = killer m b (and-r (ticksAt (instant run m) B) (killed m) t) in
+          h (w .0) m (w .1) b (w .2) (T→≡ (ticksAt (instant run m) B) (and-l (ticksAt (instant run m) B) (killed m) t)));
+      begun-there = λ n b. tt;
+    },
+  )
+    where
+      killed : ℕ → Bool
+      killed m = any (λ (g : Filled). ticksAt g A) (take m run ++ (instant run m ∷ []))
+
+      kill : (n m : ℕ) → n ≤ m → m < length run → Ticking run A n → T (killed m)
+      kill n m l b d = rw (← take-suc run m noInstant b)
+          (any-has (λ (g : Filled). ticksAt g A) (take (suc m) run) noInstant n (omega (arith, length-take-le (suc m) run b))
+          (rw (getD-take (suc m) run n noInstant (omega arith)) (≡→T d)))
+
+      killer : (m : ℕ) → m < length run → T (killed m) → (n : ℕ) × (n ≤ m) × Ticking run A n
+      killer m b t =
+          let w = any-find (λ (g : Filled). ticksAt g A) (take (suc m) run) noInstant (rw (take-suc run m noInstant b) t) in
+          let l : w .0 < suc m = omega (arith, w .1, length-take-le (suc m) run b) in
+          (w .0, omega arith, ap (λ (g : Filled). ticksAt g A) (sym (getD-take (suc m) run (w .0) noInstant l)) ∙ T→≡ (ticksAt (getD (take (suc m) run) (w .0) noInstant) A) (w .2))
+
+pub line-law : (l : Line) (run : List Filled) → Part l run ↔ Holds l run
+line-law (Sporadic A B t) run = sporadic-law run A B t
+line-law (Relation A B p q) run = relation-law run A B p q
+line-law (Implies A B) run = implies-law run A B
+line-law (Excludes A B) run = excludes-law run A B
+line-law (Delayed A B D d) run = delayed-law run A B D d
+line-law (Weakly A B) run = weakly-law run A B
+line-law (Strictly A B) run = strictly-law run A B
+line-law (Kills A B) run = kills-law run A B

@@ -1,0 +1,99 @@
+-- What the laws of the lines share: ticks counted by instants, and an obligation met at some instant or on time. Assumes nothing.
+use mathlib.Core.Bool.{Bool, true, cond, _&&_, _||_}
+use mathlib.Core.List.{List, [], _∷_, _++_}
+use mathlib.Core.Logic.{_↔_, _⊎_, inl, inr}
+use mathlib.Core.Path.{_≡_, refl, sym, ap, _∙_, subst}
+use Prim.Native.Nat.{ℕ, zero, suc, _+_, _-_, _≤_, _<_}
+use native.Mathlib.Omega.{arith}
+use lib.Dec.{T, eqb→eq, eqb-refl}
+use lib.IntN.{ℤ, pos, negsuc}
+use lib.Signed.{leZ-yes}
+use lib.ListN.{length, getD, take, drop, length-drop}
+use lib.Seq.{take-suc, getD-drop}
+use Rattle.tesl.specs.Lists.{any}
+use Rattle.tesl.specs.Run.{Filled, ticksAt}
+use Rattle.tesl.specs.Fits.{eqZ, lastTags, ticksIn, Obligation, meets}
+use Rattle.tesl.specs.Formula.{instant, Ticking, tag, ticksBelow, LastTagAtMost}
+use Rattle.tesl.proofs.FormulaLists.{and-l, and-r, and-i, or-l, or-r, or-e, T→≡, ≡→T, any-find, any-has, count-snoc}
+use Rattle.tesl.proofs.FormulaParts.{onTime, paid}
+
+-- ---- whole numbers
+
+pub eqZ→eq : (a b : ℤ) → T (eqZ a b) → a ≡ b
+eqZ→eq (pos a) (pos b) t = ap pos (eqb→eq a b t)
+eqZ→eq (pos a) (negsuc b) t = absurd t
+eqZ→eq (negsuc a) (pos b) t = absurd t
+eqZ→eq (negsuc a) (negsuc b) t = ap negsuc (eqb→eq a b t)
+
+eqZ-refl : (a : ℤ) → T (eqZ a a)
+eqZ-refl (pos a) = eqb-refl a
+eqZ-refl (negsuc a) = eqb-refl a
+
+pub eq→eqZ : {a b : ℤ} → a ≡ b → T (eqZ a b)
+eq→eqZ {a} e = subst (λ (z : ℤ). T (eqZ a z)) e (eqZ-refl a)
+
+-- ---- ticks below an instant
+
+-- what `instant` gives past the end
+abbrev pub noInstant : Filled
+noInstant = record { ticks = []; tags = [] }
+
+pub ticks-below : (run : List Filled) (K n : ℕ) → n ≤ length run → ticksIn K (take n run) ≡ ticksBelow run K n
+ticks-below run K zero h = refl
+ticks-below run K (suc n) h =
+    ap (ticksIn K) (take-suc run n noInstant h)
+    ∙ count-snoc (λ (f : Filled). ticksAt f K) (take n run) (instant run n)
+    ∙ ap (λ (c : ℕ). cond (ticksAt (instant run n) K) 1 0 + c) (ticks-below run K n (omega arith))
+
+pub ticks-with : (run : List Filled) (K n : ℕ) → n < length run → ticksIn K (take n run ++ (instant run n ∷ [])) ≡ ticksBelow run K (suc n)
+ticks-with run K n h = ap (ticksIn K) (sym (take-suc run n noInstant h)) ∙ ticks-below run K (suc n) h
+
+-- ---- an obligation: met from instant k on, or on time
+
+last-tag : (run : List Filled) (o : Obligation) → T (onTime (lastTags run) o) ↔ LastTagAtMost run (o .on) (o .due)
+last-tag [] o = (λ t n e. absurd (omega arith), λ h. tt)
+last-tag (f ∷ []) o = (λ t n e. rw (let z : n ≡ 0 = omega arith in z) (leZ-yes t), λ h. (h 0 refl) .le)
+last-tag (f ∷ (g ∷ run)) o =
+    let r = last-tag (g ∷ run) o in
+    (λ t. elim [ zero ↦ λ e. absurd (omega arith) | suc n ↦ λ e. r .0 t n (omega arith) ], λ h. r .1 (λ n e. h (suc n) (ap suc e)))
+
+abbrev pub MetFrom : ℕ → List Filled → Obligation → Type 0
+MetFrom k run o = (m : ℕ) × (k ≤ m) × (m < length run) × Ticking run (o .clock) m × (tag run (o .on) m ≡ o .due)
+
+met-from : (k : ℕ) (run : List Filled) (o : Obligation) → T (any (λ (f : Filled). meets f o) (drop k run)) ↔ MetFrom k run o
+met-from k run o = (λ t. found (any-find (λ (f : Filled). meets f o) (drop k run) noInstant t), back)
+  where
+    ticks : ℕ → Bool
+    ticks m = ticksAt (instant run m) (o .clock)
+
+    due : ℕ → Bool
+    due m = eqZ (tag run (o .on) m) (o .due)
+
+    found : ((j : ℕ) × (j < length (drop k run)) × T (meets (getD (drop k run) j noInstant) o)) → MetFrom k run o
+    found w =
+        let m : ℕ = k + w .0 in
+        let u : T (ticks m && due m) = subst (λ (f : Filled). T (meets f o)) (getD-drop k run (w .0) noInstant) (w .2) in
+        let b : w .0 < length (drop k run) = w .1 in
+        (m, omega arith, omega (arith, length-drop k run), T→≡ (ticks m) (and-l (ticks m) (due m) u), eqZ→eq (tag run (o .on) m) (o .due) (and-r (ticks m) (due m) u))
+
+    back : MetFrom k run o → T (any (λ (f : Filled). meets f o) (drop k run))
+    back w =
+        let m : ℕ = w .0 in
+        let l : k ≤ m = w .1 in
+        let b : m < length run = w .2 in
+        let e : m ≡ k + (m - k) = omega arith in
+        any-has (λ (f : Filled). meets f o) (drop k run) noInstant (m - k) (omega (arith, length-drop k run))
+        (subst (λ (f : Filled). T (meets f o)) (ap (instant run) e ∙ sym (getD-drop k run (m - k) noInstant))
+        (and-i (ticks m) (due m) (≡→T (w .3)) (eq→eqZ (w .4))))
+
+pub paid-one : (k : ℕ) (run : List Filled) (o : Obligation) → T (paid (lastTags run) (drop k run) (o ∷ [])) ↔ (MetFrom k run o ⊎ LastTagAtMost run (o .on) (o .due))
+paid-one k run o =
+    let met : Bool = any (λ (f : Filled). meets f o) (drop k run) in
+    let fair : Bool = onTime (lastTags run) o in (
+      λ t. or-e met fair (and-l (met || fair) true t) (λ u. inl ((met-from k run o) .0 u)) (λ u. inr ((last-tag run o) .0 u)),
+      λ s. and-i (met || fair) true (from-either s) tt,
+    )
+  where
+    from-either : (MetFrom k run o ⊎ LastTagAtMost run (o .on) (o .due)) → T (any (λ (f : Filled). meets f o) (drop k run) || onTime (lastTags run) o)
+    from-either (inl w) = or-l (any (λ (f : Filled). meets f o) (drop k run)) (onTime (lastTags run) o) ((met-from k run o) .1 w)
+    from-either (inr h) = or-r (any (λ (f : Filled). meets f o) (drop k run)) (onTime (lastTags run) o) ((last-tag run o) .1 h)

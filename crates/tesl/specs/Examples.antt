@@ -1,0 +1,140 @@
+-- The lift examples L1 to L11 of document 01, and one of a product beyond 16 bits: one statement, a row each, by computation. Assumes nothing.
+use mathlib.Core.Bool.{Bool, true, false}
+use mathlib.Core.List.{List, [], _∷_, _++_, map}
+use mathlib.Core.Path.{_≡_, refl}
+use Prim.Native.Nat.{ℕ}
+use lib.IntN.{ℤ, pos, negsuc}
+use lib.ListN.{length}
+use Rattle.records.specs.declared.instant.Tick.{Tick}
+use Rattle.records.specs.declared.instant.Tick.the-variants.{Idle, Ticks, Unseen}
+use Rattle.records.specs.declared.line.Line.{Line}
+use Rattle.records.specs.declared.line.Line.the-variants.{Sporadic, Relation, Implies, Excludes, Delayed, Weakly, Strictly, Kills}
+use Rattle.records.specs.Outcome.{taken}
+use Rattle.records.specs.Word.{signed, tagOf}
+use Rattle.records.specs.Record.{isTorn, front, cut}
+use Rattle.records.specs.Line.{lengthOf, clocksOf, lineOf}
+use Rattle.records.specs.Sheet.{SheetValue, readSheet}
+use Rattle.records.specs.Instant.{Cell, tickOf, rawCells, readInstant}
+use Rattle.tesl.specs.Lists.{filter, beginnings}
+use Rattle.tesl.specs.Run.{Instant, Filled, fillings, runFillings}
+use Rattle.tesl.specs.Fits.{fits}
+use Rattle.tesl.specs.Remainder.{remainder, sameRemainder, owes}
+use Rattle.tesl.specs.Answer.{Answer, exhausted, broken, holding, clear, owed, remainders, tooMany, judged, answer}
+use Rattle.tesl.specs.Machine.{accepts, machine, Session, session}
+
+-- a sheet of c clocks with one line
+abbrev sheet : ℕ → Line → SheetValue
+sheet c l = record { clocks = c; lines = l ∷ [] }
+
+-- an instant of one clock, and of two
+abbrev one : Tick → ℤ → Instant
+one t g = record { tick = t; tag = g } ∷ []
+
+abbrev two : Tick → ℤ → Tick → ℤ → Instant
+two t g u h = record { tick = t; tag = g } ∷ record { tick = u; tag = h } ∷ []
+
+-- which fillings of a run fit
+abbrev fitting : SheetValue → List Instant → List Bool
+fitting s run = map (fits s) (runFillings run)
+
+-- 0 delayed by d on 0 implies 1; clock 1 idle unless named
+abbrev delay : ℕ → SheetValue
+delay d = sheet 2 (Delayed 0 0 1 d)
+
+abbrev alone : Tick → ℕ → Instant
+alone t g = two t (pos g) Idle (pos 0)
+
+abbrev eight : List Instant
+eight = map (alone Ticks) (1 ∷ 2 ∷ 3 ∷ 4 ∷ 5 ∷ 6 ∷ 7 ∷ 8 ∷ [])
+
+abbrev five : List Instant
+five = map (alone Unseen) (1 ∷ 2 ∷ 3 ∷ 4 ∷ 5 ∷ [])
+
+-- L7: 0 sporadic -1 on 1; the first instant idle at -1, and then a second -1, or 0
+abbrev reading : SheetValue
+reading = sheet 2 (Sporadic 0 1 (negsuc 0))
+
+abbrev idle : Instant
+idle = two Idle (pos 0) Idle (negsuc 0)
+
+pub record Examples : Type 0 where
+  -- raw 65533 is -3; 32767 is 32,767; 32768 is -32,768
+  L1 : (tagOf 65533 ≡ negsuc 2) × (tagOf 32767 ≡ pos 32767) × (tagOf 32768 ≡ negsuc 32767)
+  -- sporadic line, no instant: fits, owed, live 1
+  L2 : (fitting (sheet 2 (Sporadic 0 1 (pos 5))) [] ≡ true ∷ []) × (answer (sheet 2 (Sporadic 0 1 (pos 5))) [] ≡ holding 1 owed)
+  -- 0 excludes 0: a tick doesn't fit. 0 implies 0: unseen leaves live 1, from two fillings
+  L3 :
+      (fitting (sheet 1 (Excludes 0 0)) (one Ticks (pos 0) ∷ []) ≡ false ∷ [])
+      × (answer (sheet 1 (Excludes 0 0)) (one Ticks (pos 0) ∷ []) ≡ broken)
+      × (fitting (sheet 1 (Implies 0 0)) (one Unseen (pos 0) ∷ []) ≡ true ∷ true ∷ [])
+      × (answer (sheet 1 (Implies 0 0)) (one Unseen (pos 0) ∷ []) ≡ holding 1 clear)
+  -- first instant, both tick: weak precedence fits, strict doesn't
+  L4 :
+      (fitting (sheet 2 (Weakly 0 1)) (two Ticks (pos 0) Ticks (pos 0) ∷ []) ≡ true ∷ [])
+      × (answer (sheet 2 (Weakly 0 1)) (two Ticks (pos 0) Ticks (pos 0) ∷ []) ≡ holding 1 clear)
+      × (fitting (sheet 2 (Strictly 0 1)) (two Ticks (pos 0) Ticks (pos 0) ∷ []) ≡ false ∷ [])
+      × (answer (sheet 2 (Strictly 0 1)) (two Ticks (pos 0) Ticks (pos 0) ∷ []) ≡ broken)
+  -- 0 kills 1, both tick together: doesn't fit; 1 unseen: live 1
+  L5 :
+      (fitting (sheet 2 (Kills 0 1)) (two Ticks (pos 0) Ticks (pos 0) ∷ []) ≡ false ∷ [])
+      × (answer (sheet 2 (Kills 0 1)) (two Ticks (pos 0) Ticks (pos 0) ∷ []) ≡ broken)
+      × (fitting (sheet 2 (Kills 0 1)) (two Ticks (pos 0) Unseen (pos 0) ∷ []) ≡ true ∷ false ∷ [])
+      × (answer (sheet 2 (Kills 0 1)) (two Ticks (pos 0) Unseen (pos 0) ∷ []) ≡ holding 1 clear)
+  -- 0 = 60 × 1 + 0: tags -60, -1 fit; -59, -1 don't
+  L6 :
+      (fitting (sheet 2 (Relation 0 1 (pos 60) (pos 0))) (two Idle (negsuc 59) Idle (negsuc 0) ∷ []) ≡ true ∷ [])
+      × (answer (sheet 2 (Relation 0 1 (pos 60) (pos 0))) (two Idle (negsuc 59) Idle (negsuc 0) ∷ []) ≡ holding 1 clear)
+      × (fitting (sheet 2 (Relation 0 1 (pos 60) (pos 0))) (two Idle (negsuc 58) Idle (negsuc 0) ∷ []) ≡ false ∷ [])
+      × (answer (sheet 2 (Relation 0 1 (pos 60) (pos 0))) (two Idle (negsuc 58) Idle (negsuc 0) ∷ []) ≡ broken)
+  -- idle at -1 fits, a tick at a second -1 meets it; 0 instead breaks
+  L7 :
+      (fitting reading (idle ∷ []) ≡ true ∷ [])
+      × (answer reading (idle ∷ []) ≡ holding 1 owed)
+      × (fitting reading (idle ∷ two Ticks (pos 0) Idle (negsuc 0) ∷ []) ≡ true ∷ [])
+      × (answer reading (idle ∷ two Ticks (pos 0) Idle (negsuc 0) ∷ []) ≡ holding 1 clear)
+      × (fitting reading (idle ∷ two Ticks (pos 0) Idle (pos 0) ∷ []) ≡ false ∷ [])
+      × (answer reading (idle ∷ two Ticks (pos 0) Idle (pos 0) ∷ []) ≡ broken)
+  -- d = 0, clocks 0 and 1 ticking together: still owed
+  L8 : answer (delay 0) (two Ticks (pos 0) Ticks (pos 0) ∷ []) ≡ holding 1 owed
+  -- d = 100, eight ticks at tags 1 to 8: eight owed, holding; a ninth at 9: exhausted
+  L9 :
+      (map owes (remainders (delay 100) eight) ≡ 8 ∷ [])
+      × (answer (delay 100) eight ≡ holding 1 owed)
+      × (map owes (remainders (delay 100) (eight ++ (alone Ticks 9 ∷ []))) ≡ 9 ∷ [])
+      × (answer (delay 100) (eight ++ (alone Ticks 9 ∷ [])) ≡ exhausted)
+  -- d = 100, unseen at tags 1 to 5: live 32; at 6: exhausted
+  L10 : (answer (delay 100) five ≡ holding 32 clear) × (answer (delay 100) (five ++ (alone Unseen 6 ∷ [])) ≡ exhausted)
+  -- the listing, from its bytes: what opening answers, and each instant
+  L11 :
+      session (0x01 ∷ 0x00 ∷ 0x01 ∷ 0x00 ∷ 0x02 ∷ 0x05 ∷ 0x00 ∷ 0x14 ∷ 0x00 ∷ 0x00 ∷ 0x00 ∷ 0x01 ∷ 0x02 ∷ 0x00 ∷ [])
+      ((0x06 ∷ 0x00 ∷ 0x20 ∷ 0x00 ∷ 0x01 ∷ 0xFD ∷ 0xFF ∷ 0x00 ∷ 0x00 ∷ 0x00 ∷ [])
+      ∷ (0x06 ∷ 0x00 ∷ 0x20 ∷ 0x00 ∷ 0x02 ∷ 0xFE ∷ 0xFF ∷ 0x00 ∷ 0x00 ∷ 0x00 ∷ [])
+      ∷ (0x06 ∷ 0x00 ∷ 0x20 ∷ 0x00 ∷ 0x00 ∷ 0xFF ∷ 0xFF ∷ 0x01 ∷ 0x00 ∷ 0x00 ∷ [])
+      ∷ (0x06 ∷ 0x00 ∷ 0x20 ∷ 0x00 ∷ 0x00 ∷ 0x01 ∷ 0x00 ∷ 0x00 ∷ 0x00 ∷ 0x00 ∷ [])
+      ∷ (0x06 ∷ 0x00 ∷ 0x20 ∷ 0x00 ∷ 0x00 ∷ 0x00 ∷ 0x00 ∷ 0x00 ∷ 0x00 ∷ 0x00 ∷ [])
+      ∷ [])
+      ≡ record {
+        opening = taken (holding 1 clear);
+        replies = taken (holding 1 owed) ∷ taken (holding 2 owed) ∷ taken (holding 2 clear) ∷ taken (holding 1 clear) ∷ taken broken ∷ [];
+      }
+  -- 0 = 300 × 1 + 0: tags 24464, 300 don't fit, though 300 × 300 in 16 bits is 24464
+  product :
+      (fitting (sheet 2 (Relation 0 1 (pos 300) (pos 0))) (two Idle (pos 24464) Idle (pos 300) ∷ []) ≡ false ∷ [])
+      × (answer (sheet 2 (Relation 0 1 (pos 300) (pos 0))) (two Idle (pos 24464) Idle (pos 300) ∷ []) ≡ broken)
+
+pub examples : Examples
+unfolding signed isTorn front cut lengthOf clocksOf lineOf readSheet tickOf rawCells readInstant fillings runFillings fits remainder sameRemainder owes remainders tooMany judged answer accepts machine session
+examples = record {
+  L1 = (refl, refl, refl);
+  L2 = (refl, refl);
+  L3 = (refl, refl, refl, refl);
+  L4 = (refl, refl, refl, refl);
+  L5 = (refl, refl, refl, refl);
+  L6 = (refl, refl, refl, refl);
+  L7 = (refl, refl, refl, refl, refl, refl);
+  L8 = refl;
+  L9 = (refl, refl, refl, refl);
+  L10 = (refl, refl);
+  L11 = refl;
+  product = (refl, refl);
+}

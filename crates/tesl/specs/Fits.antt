@@ -1,0 +1,105 @@
+-- Document 01, 'When a filled run fits', clause by clause in its order.
+use mathlib.Core.Bool.{Bool, true, false, not, cond, _&&_, _||_}
+use mathlib.Core.List.{List, [], _∷_, _++_, map}
+use mathlib.Core.Option.{Option, none, some}
+use Prim.Native.Nat.{ℕ}
+use lib.Dec.{leb, eqb}
+use lib.IntN.{ℤ, pos, negsuc, _+ℤ_, _*ℤ_}
+use lib.Signed.{leZ}
+use Rattle.records.specs.declared.line.Line.{Line}
+use Rattle.records.specs.declared.line.Line.the-variants.{Sporadic, Relation, Implies, Excludes, Delayed, Weakly, Strictly, Kills}
+use Rattle.records.specs.Sheet.{SheetValue}
+use Rattle.tesl.specs.Lists.{all, any, filter, count, lastOf, always, flatMap, below}
+use Rattle.tesl.specs.Run.{Filled, ticksAt, tagIn, tagAt}
+
+-- equal whole numbers
+abbrev pub eqZ : ℤ → ℤ → Bool
+eqZ (pos a) (pos b) = eqb a b
+eqZ (pos a) (negsuc b) = false
+eqZ (negsuc a) (pos b) = false
+eqZ (negsuc a) (negsuc b) = eqb a b
+
+-- ---- what holds at each instant
+
+-- the tags of the last instant
+abbrev pub lastTags : List Filled → Option (List ℤ)
+lastTags run = lastOf (map (λ (f : Filled). f .tags) run)
+
+-- no clock's tag is below its tag at the instant before
+abbrev pub noneFalls : ℕ → Option (List ℤ) → List ℤ → Bool
+noneFalls c none now = true
+noneFalls c (some was) now = below c (λ k. leZ (tagIn was k) (tagIn now k))
+
+-- how often clock k has ticked
+abbrev pub ticksIn : ℕ → List Filled → ℕ
+ticksIn k run = count (λ (f : Filled). ticksAt f k) run
+
+-- a line at the instant f, after the run `before`; a line that makes obligations asks nothing here
+abbrev pub holdsAt : Line → List Filled → Filled → Bool
+holdsAt (Relation A B p q) before f = eqZ (tagAt f A) (p *ℤ tagAt f B +ℤ q)
+holdsAt (Implies A B) before f = not (ticksAt f A) || ticksAt f B
+holdsAt (Excludes A B) before f = not (ticksAt f A && ticksAt f B)
+holdsAt (Kills A B) before f = not (ticksAt f B && any (λ (g : Filled). ticksAt g A) (before ++ (f ∷ [])))
+holdsAt (Weakly A B) before f = leb (ticksIn B (before ++ (f ∷ []))) (ticksIn A (before ++ (f ∷ [])))
+holdsAt (Strictly A B) before f = leb (ticksIn B (before ++ (f ∷ []))) (ticksIn A before)
+holdsAt (Sporadic A B t) before f = true
+holdsAt (Delayed A B D d) before f = true
+
+abbrev pub fitsAt : SheetValue → List Filled → Filled → Bool
+fitsAt s before f = noneFalls (s .clocks) (lastTags before) (f .tags) && all (λ (l : Line). holdsAt l before f) (s .lines)
+
+-- ---- obligations
+
+-- an obligation: its clock, its due, and the clock that its due is on
+pub record Obligation : Type 0 where
+  pub clock : ℕ
+  pub due : ℤ
+  pub on : ℕ
+
+-- it is met by a tick of its clock at an instant whose on-tag equals the due
+abbrev pub meets : Filled → Obligation → Bool
+meets f o = ticksAt f (o .clock) && eqZ (tagAt f (o .on)) (o .due)
+
+-- a sporadic line is one from the start
+abbrev pub owedAtStart : Line → List Obligation
+owedAtStart (Sporadic A B t) = record { clock = A; due = t; on = B } ∷ []
+owedAtStart (Relation A B p q) = []
+owedAtStart (Implies A B) = []
+owedAtStart (Excludes A B) = []
+owedAtStart (Delayed A B D d) = []
+owedAtStart (Weakly A B) = []
+owedAtStart (Strictly A B) = []
+owedAtStart (Kills A B) = []
+
+-- each tick of A of a delay line begins one
+abbrev pub owedFrom : Filled → Line → List Obligation
+owedFrom f (Delayed A B D d) = cond (ticksAt f A) (record { clock = D; due = tagAt f B +ℤ pos d; on = B } ∷ []) []
+owedFrom f (Sporadic A B t) = []
+owedFrom f (Relation A B p q) = []
+owedFrom f (Implies A B) = []
+owedFrom f (Excludes A B) = []
+owedFrom f (Weakly A B) = []
+owedFrom f (Strictly A B) = []
+owedFrom f (Kills A B) = []
+
+-- those that no instant of the run meets
+abbrev pub unmetBy : List Filled → List Obligation → List Obligation
+unmetBy run os = filter (λ (o : Obligation). not (any (λ (f : Filled). meets f o) run)) os
+
+-- those begun in the run that no later instant than the one that began them meets
+abbrev pub unmetLater : List Line → List Filled → List Obligation
+unmetLater ls [] = []
+unmetLater ls (f ∷ later) = unmetBy later (flatMap (owedFrom f) ls) ++ unmetLater ls later
+
+-- the unmet obligations of a run
+abbrev pub unmet : List Line → List Filled → List Obligation
+unmet ls run = unmetBy run (flatMap owedAtStart ls) ++ unmetLater ls run
+
+-- an obligation that isn't met must have its due at or above the last on-tag (with no instant it has)
+abbrev pub notLate : Option (List ℤ) → List Obligation → Bool
+notLate none os = true
+notLate (some now) os = all (λ (o : Obligation). leZ (tagIn now (o .on)) (o .due)) os
+
+-- ---- a filled run fits
+unfoldable pub fits : SheetValue → List Filled → Bool
+fits s run = always (fitsAt s) [] run && notLate (lastTags run) (unmet (s .lines) run)

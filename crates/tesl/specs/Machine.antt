@@ -1,0 +1,72 @@
+-- The plain machine: its state is the sheet and the list of accepted instants. It is opened with a sheet's bytes and called with an instant's.
+use mathlib.Core.List.{List, [], _∷_, _++_, map}
+use Prim.Native.Nat.{ℕ, suc}
+use lib.Dec.{leb}
+use lib.ListN.{length}
+use Rattle.records.specs.Outcome.{Outcome, taken, refused, _⇒_, decide}
+use Rattle.records.specs.Record.{Piece, whole, torn, pieces, recordBytes}
+use Rattle.records.specs.Sheet.{SheetValue, readSheet}
+use Rattle.records.specs.Instant.{readInstant}
+use Rattle.tesl.specs.Run.{Instant}
+use Rattle.tesl.specs.Answer.{Answer, answer}
+
+-- 16: 4,000 instants held, checked last
+abbrev pub unlessFull : ℕ → Outcome Instant → Outcome Instant
+unlessFull held (refused n) = refused n
+unlessFull held (taken i) = decide ((leb 4000 held ⇒ 16) ∷ []) i
+
+-- what the machine takes a call's bytes for: 12 to 15 as reading gives them, then 16; a machine has no limits of its own, so 11 never arises
+unfoldable pub accepts : SheetValue → List Instant → List ℕ → Outcome Instant
+accepts s run bytes = unlessFull (length run) (readInstant (s .clocks) bytes)
+
+-- an accepted instant is appended; a refused one changes nothing
+abbrev pub listAfter : List Instant → Outcome Instant → List Instant
+listAfter run (taken i) = run ++ (i ∷ [])
+listAfter run (refused n) = run
+
+-- the answer to an accepted instant, and the number of a refused one
+abbrev pub reply : SheetValue → List Instant → Outcome Instant → Outcome Answer
+reply s run (taken i) = taken (answer s (run ++ (i ∷ [])))
+reply s run (refused n) = refused n
+
+-- the replies to a list of calls, and the list of accepted instants after them
+unfoldable pub machine : SheetValue → List Instant → List (List ℕ) → List (Outcome Answer)
+machine s run [] = []
+machine s run (bytes ∷ calls) = reply s run (accepts s run bytes) ∷ machine s (listAfter run (accepts s run bytes)) calls
+
+unfoldable pub held : SheetValue → List Instant → List (List ℕ) → List Instant
+held s run [] = run
+held s run (bytes ∷ calls) = held s (listAfter run (accepts s run bytes)) calls
+
+-- what opening answers, and every call after it; opening refused yields no monitor to call
+pub record Session : Type 0 where
+  pub opening : Outcome Answer
+  pub replies : List (Outcome Answer)
+
+abbrev pub opened : List (List ℕ) → Outcome SheetValue → Session
+opened calls (taken s) = record { opening = taken (answer s []); replies = machine s [] calls }
+opened calls (refused n) = record { opening = refused n; replies = [] }
+
+unfoldable pub session : List ℕ → List (List ℕ) → Session
+session sheet calls = opened calls (readSheet sheet)
+
+-- ---- the whole log
+
+-- the last answer, or the number of a refusal; and the count of instants taken before it
+pub record LogResult : Type 0 where
+  pub outcome : Outcome Answer
+  pub instants : ℕ
+
+-- the first refusal decides, else the last answer; `last` and `n` are of the replies before
+abbrev pub concluded : Outcome Answer → ℕ → List (Outcome Answer) → LogResult
+concluded last n [] = record { outcome = last; instants = n }
+concluded last n (taken a ∷ replies) = concluded (taken a) (suc n) replies
+concluded last n (refused m ∷ replies) = record { outcome = refused m; instants = n }
+
+-- a log is handed over record by record; of a torn one nothing is handed over, which is 12
+abbrev pub callOf : Piece → List ℕ
+callOf (whole kind body) = recordBytes kind body
+callOf torn = []
+
+unfoldable pub judgeLog : List ℕ → List ℕ → LogResult
+judgeLog sheet log = let s = session sheet (map callOf (pieces log)) in concluded (s .opening) 0 (s .replies)

@@ -1,0 +1,63 @@
+-- Document 01, 'Remainder': what of a fitting filled run bears on the instants to come.
+use mathlib.Core.Bool.{Bool, false, _&&_, Bool·beq}
+use mathlib.Core.List.{List, [], _∷_, map}
+use Prim.Native.Nat.{ℕ, _-_}
+use lib.Dec.{eqb}
+use lib.ListN.{length}
+use Rattle.records.specs.declared.line.Line.{Line}
+use Rattle.records.specs.declared.line.Line.the-variants.{Sporadic, Relation, Implies, Excludes, Delayed, Weakly, Strictly, Kills}
+use Rattle.records.specs.Sheet.{SheetValue}
+use Rattle.tesl.specs.Lists.{any, distinct, within, sameList, table}
+use Rattle.tesl.specs.Run.{Filled, ticksAt}
+use Rattle.tesl.specs.Fits.{eqZ, ticksIn, Obligation, unmet}
+
+pub record Remainder : Type 0 where
+  -- the set of the unmet obligations
+  pub owed : List Obligation
+  -- for each precedes line A's ticks minus B's; 0 for any other line
+  pub leads : List ℕ
+  -- for each clock, whether some kills line has stopped it
+  pub stopped : List Bool
+
+abbrev pub leadOf : List Filled → Line → ℕ
+leadOf run (Weakly A B) = ticksIn A run - ticksIn B run
+leadOf run (Strictly A B) = ticksIn A run - ticksIn B run
+leadOf run (Sporadic A B t) = 0
+leadOf run (Relation A B p q) = 0
+leadOf run (Implies A B) = 0
+leadOf run (Excludes A B) = 0
+leadOf run (Delayed A B D d) = 0
+leadOf run (Kills A B) = 0
+
+-- the line has stopped clock k: a kills line its B, once its A has ticked
+abbrev pub stops : List Filled → ℕ → Line → Bool
+stops run k (Kills A B) = eqb B k && any (λ (g : Filled). ticksAt g A) run
+stops run k (Sporadic A B t) = false
+stops run k (Relation A B p q) = false
+stops run k (Implies A B) = false
+stops run k (Excludes A B) = false
+stops run k (Delayed A B D d) = false
+stops run k (Weakly A B) = false
+stops run k (Strictly A B) = false
+
+unfoldable pub remainder : SheetValue → List Filled → Remainder
+remainder s run = record {
+  owed = unmet (s .lines) run;
+  leads = map (leadOf run) (s .lines);
+  stopped = table (s .clocks) (λ k. any (stops run k) (s .lines));
+}
+
+-- ---- equality; equal obligations count once
+
+abbrev pub sameObligation : Obligation → Obligation → Bool
+sameObligation a b = eqb (a .clock) (b .clock) && eqZ (a .due) (b .due) && eqb (a .on) (b .on)
+
+unfoldable pub sameRemainder : Remainder → Remainder → Bool
+sameRemainder a b =
+    sameList eqb (a .leads) (b .leads)
+    && (sameList Bool·beq (a .stopped) (b .stopped)
+    && (within sameObligation (a .owed) (b .owed) && within sameObligation (b .owed) (a .owed)))
+
+-- how many obligations a remainder owes
+unfoldable pub owes : Remainder → ℕ
+owes r = length (distinct sameObligation (r .owed))

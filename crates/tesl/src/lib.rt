@@ -1,0 +1,1 @@
+// What TESL means here: definitions only, in specs/.
