@@ -4,7 +4,6 @@ use mathlib.Core.List.{List, [], _∷_, _++_, map}
 use mathlib.Core.Path.{_≡_, refl}
 use Prim.Native.Nat.{ℕ}
 use lib.IntN.{ℤ, pos, negsuc}
-use lib.ListN.{length}
 use Rattle.records.specs.declared.instant.Tick.{Tick}
 use Rattle.records.specs.declared.instant.Tick.the-variants.{Idle, Ticks, Unseen}
 use Rattle.records.specs.declared.line.Line.{Line}
@@ -14,13 +13,12 @@ use Rattle.records.specs.Word.{signed, tagOf}
 use Rattle.records.specs.Record.{isTorn, front, cut}
 use Rattle.records.specs.Line.{lengthOf, clocksOf, lineOf}
 use Rattle.records.specs.Sheet.{SheetValue, readSheet}
-use Rattle.records.specs.Instant.{Cell, tickOf, rawCells, readInstant}
-use Rattle.tesl.specs.Lists.{filter, beginnings}
-use Rattle.tesl.specs.Run.{Instant, Filled, fillings, runFillings}
+use Rattle.records.specs.Instant.{tickOf, rawCells, readInstant}
+use Rattle.tesl.specs.Run.{Instant, fillings, runFillings}
 use Rattle.tesl.specs.Fits.{fits}
 use Rattle.tesl.specs.Remainder.{remainder, sameRemainder, owes}
-use Rattle.tesl.specs.Answer.{Answer, exhausted, broken, holding, clear, owed, remainders, tooMany, judged, answer}
-use Rattle.tesl.specs.Machine.{accepts, machine, Session, session}
+use Rattle.tesl.specs.Answer.{exhausted, broken, holding, clear, owed, remainders, tooMany, judged, answer}
+use Rattle.tesl.specs.Machine.{accepts, machine, session}
 
 -- a sheet of c clocks with one line
 abbrev sheet : ℕ → Line → SheetValue

@@ -1,7 +1,7 @@
 -- TESL formula by formula, as the papers write it: quantifiers over the numbers of instants, in document 01's prefix reading (001: sporadic, relation, implies, time delayed; 000: excludes, precedes, kills).
 -- Nothing here is taken from the executable definitions of `Fits`.
 use mathlib.Core.Path.{_≡_}
-use mathlib.Core.Bool.{Bool, true, cond}
+use mathlib.Core.Bool.{true, cond}
 use mathlib.Core.List.{List, [], _∷_}
 use mathlib.Core.Logic.{_⊎_}
 use Prim.Native.Nat.{ℕ, zero, suc, _+_, _<_, _≤_}

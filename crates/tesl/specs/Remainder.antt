@@ -1,6 +1,6 @@
 -- Document 01, 'Remainder': what of a fitting filled run bears on the instants to come.
 use mathlib.Core.Bool.{Bool, false, _&&_, Bool·beq}
-use mathlib.Core.List.{List, [], _∷_, map}
+use mathlib.Core.List.{List, map}
 use Prim.Native.Nat.{ℕ, _-_}
 use lib.Dec.{eqb}
 use lib.ListN.{length}

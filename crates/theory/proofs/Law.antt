@@ -1,0 +1,101 @@
+-- What a kind of line owes the theorems about steps: the four parts of its law; and each part for the kinds that have nothing of it. Assumes nothing.
+use mathlib.Core.Bool.{Bool, true, false, _||_}
+use mathlib.Core.List.{List, [], _∷_, _++_}
+use mathlib.Core.Path.{_≡_, sym, _∙_, subst}
+use Prim.Native.Nat.{ℕ, suc, _≤_, _<_}
+use native.Mathlib.Omega.{arith}
+use lib.Dec.{T, leb}
+use lib.ListN.{length, getD}
+use Rattle.records.specs.declared.line.Line.{Line}
+use Rattle.records.specs.declared.line.Line.the-variants.{Sporadic, Relation, Implies, Excludes, Delayed, Weakly, Strictly, Kills}
+use Rattle.records.specs.Line.{isSporadic, kindOf}
+use Rattle.records.specs.Types.{IsTag, IsLineValue}
+use Rattle.tesl.specs.Lists.{all}
+use Rattle.tesl.specs.Run.{Filled, ticksAt, tagAt}
+use Rattle.tesl.specs.Fits.{ticksIn, holdsAt, Obligation, owedAtStart, owedFrom}
+use Rattle.tesl.specs.Remainder.{leadOf, stops}
+use Rattle.theory.specs.Step.{bit, lineOk, nextLead, lineBelow}
+use Rattle.theory.specs.Limits.{dueOk, clocksOk}
+
+-- a precedes line's B has not ticked more often than its A, so that its lead is a difference
+abbrev pub ordered : List Filled → Line → Bool
+ordered run (Weakly A B) = leb (ticksIn B run) (ticksIn A run)
+ordered run (Strictly A B) = leb (ticksIn B run) (ticksIn A run)
+ordered run (Sporadic A B t) = true
+ordered run (Relation A B p q) = true
+ordered run (Implies A B) = true
+ordered run (Excludes A B) = true
+ordered run (Delayed A B D d) = true
+ordered run (Kills A B) = true
+
+-- no clock that is stopped ticks at f
+abbrev pub Quiet : List Bool → Filled → Type 0
+Quiet stopped f = (k : ℕ) → T (getD stopped k false) → T (ticksAt f k) → ⊥
+
+-- ---- the line's lead
+pub record Leads (l : Line) : Type 0 where
+  pub at-start : T (ordered [] l)
+  pub none : leadOf [] l ≡ 0
+  pub stays : (run : List Filled) (f : Filled) → T (holdsAt l run f) → T (ordered (run ++ (f ∷ [])) l)
+  pub after : (run : List Filled) (f : Filled) → T (ordered run l) → leadOf (run ++ (f ∷ [])) l ≡ nextLead f l (leadOf run l)
+  pub grows : (f : Filled) (n held : ℕ) → n ≤ held → nextLead f l n ≤ suc held
+
+-- ---- the clocks that it has stopped
+pub record Stops (l : Line) : Type 0 where
+  pub after : (run : List Filled) (f : Filled) (k : ℕ) → stops (run ++ (f ∷ [])) k l ≡ (stops run k l || stops (f ∷ []) k l)
+  pub below : (run : List Filled) (c k : ℕ) → T (lineBelow c l) → T (stops run k l) → k < c
+  pub quiet : (run : List Filled) (f : Filled) (k : ℕ) → T (holdsAt l run f) → T (stops run k l) → T (ticksAt f k) → ⊥
+
+-- ---- its obligations: how many from the start, their clocks, and their dues from tags and a delay of 16 bits
+pub record Owes (l : Line) : Type 0 where
+  pub start-number : length (owedAtStart l) ≤ bit (isSporadic (kindOf l))
+  pub start-clocks : (c : ℕ) → T (lineBelow c l) → T (all (clocksOk c) (owedAtStart l))
+  pub begun-clocks : (c : ℕ) (f : Filled) → T (lineBelow c l) → T (all (clocksOk c) (owedFrom f l))
+  pub start-dues : IsLineValue l → T (all (λ (o : Obligation). dueOk (o .due)) (owedAtStart l))
+  pub begun-dues : (f : Filled) → ((k : ℕ) → IsTag (tagAt f k)) → IsLineValue l → T (all (λ (o : Obligation). dueOk (o .due)) (owedFrom f l))
+
+-- ---- the step asks of it what the definition asks, where the stopped clocks are those that its kind has stopped and none ticks
+pub record Judged (l : Line) : Type 0 where
+  pub asks : (run : List Filled) (f : Filled) (stopped : List Bool) → Quiet stopped f → T (ordered run l)
+      → T (holdsAt l run f) → T (lineOk f stopped l (leadOf run l))
+  pub suffices : (run : List Filled) (f : Filled) (stopped : List Bool) → ((k : ℕ) → T (stops run k l) → T (getD stopped k false)) → T (ordered run l)
+      → T (lineOk f stopped l (leadOf run l)) → T (holdsAt l run f)
+
+pub record Law (l : Line) : Type 0 where
+  pub leads : Leads l
+  pub stops : Stops l
+  pub owes : Owes l
+  pub judged : Judged l
+
+-- ---- a kind without the part
+pub no-lead : (l : Line) → ((run : List Filled) → ordered run l ≡ true) → ((run : List Filled) → leadOf run l ≡ 0)
+    → ((f : Filled) (n : ℕ) → nextLead f l n ≡ 0) → Leads l
+no-lead l o e z = record {
+  at-start = subst T (sym (o [])) tt;
+  none = e [];
+  stays = λ run f h. subst T (sym (o (run ++ (f ∷ [])))) tt;
+  after = λ run f h. e (run ++ (f ∷ [])) ∙ sym (z f (leadOf run l));
+  grows = λ f n held h. omega (arith, z f n);
+}
+
+pub no-stop : (l : Line) → ((run : List Filled) (k : ℕ) → stops run k l ≡ false) → Stops l
+no-stop l e = record {
+  after = λ run f k. rw (e (run ++ (f ∷ [])) k, e run k, e (f ∷ []) k);
+  below = λ run c k w t. absurd (subst T (e run k) t);
+  quiet = λ run f k h t u. subst T (e run k) t;
+}
+
+pub no-owed : (l : Line) → owedAtStart l ≡ [] → ((f : Filled) → owedFrom f l ≡ []) → Owes l
+no-owed l e g = record {
+  start-number = rw e (omega arith);
+  start-clocks = λ c w. rw e tt;
+  begun-clocks = λ c f w. rw (g f) tt;
+  start-dues = λ v. rw e tt;
+  begun-dues = λ f t v. rw (g f) tt;
+}
+
+pub by-instant : (l : Line) → ((run : List Filled) (f : Filled) (stopped : List Bool) → lineOk f stopped l (leadOf run l) ≡ holdsAt l run f) → Judged l
+by-instant l e = record {
+  asks = λ run f stopped q o h. subst T (sym (e run f stopped)) h;
+  suffices = λ run f stopped i o h. subst T (e run f stopped) h;
+}

@@ -1,0 +1,25 @@
+-- Lists, sets and whole numbers.
+pub mod Lists
+pub mod Sets
+pub mod Whole
+-- What each kind of line gives: a law, and one for each kind.
+pub mod Law
+pub mod LineKinds
+-- One instant more: the step theorem, what it cannot tell apart, the fillings, and the recursion over clocks.
+pub mod Owed
+pub mod Step
+pub mod Respect
+pub mod Tidy
+pub mod Fillings
+pub mod Fill
+-- What is held, what to answer from it, and its limits.
+pub mod Held
+pub mod Answers
+pub mod Limits
+pub mod Opened
+pub mod Accepted
+pub mod Tracks
+-- Demand 2, for runs without unseen ticks.
+pub mod Seen
+-- Demand 3, for a monitor of any kind.
+pub mod Machine

@@ -1,0 +1,135 @@
+-- The limits of a remainder (refusal 11): the step keeps them from any remainder within them, and what is held after a run is within them, at most 32 with at most 8 obligations each, unless exhausted. Assumes nothing.
+use mathlib.Core.Bool.{Bool, not, _&&_, or-false}
+use mathlib.Core.List.{List, [], _∷_, _++_, map}
+use mathlib.Core.Logic.{_≢_}
+use mathlib.Core.Path.{_≡_, sym, ap, _∙_, subst}
+use Prim.Native.Nat.{ℕ, zero, suc}
+use native.Mathlib.Omega.{arith}
+use lib.Dec.{T, T-not, not-T, leb, leb→le, le→leb}
+use lib.ListN.{length, length-append}
+use Rattle.records.specs.declared.line.Line.{Line}
+use Rattle.records.specs.Sheet.{SheetValue}
+use Rattle.records.specs.Types.{All, IsTag, IsLineValue, IsInstant}
+use Rattle.tesl.specs.Lists.{all, any}
+use Rattle.tesl.specs.Run.{Instant, ticksOf, tagsOf, Filled, tagIn, tagAt, fillTicks, fillings, runFillings}
+use Rattle.tesl.specs.Fits.{Obligation, unmet, fits}
+use Rattle.tesl.specs.Remainder.{Remainder, leadOf, remainder, sameRemainder, owes}
+use Rattle.tesl.specs.Answer.{exhausted, remainders, answer}
+use Rattle.theory.specs.Step.{nextLead, nextLeads, nextOwed, next, stepOk, lastTagsOf, nexts, wellFormed}
+use Rattle.theory.specs.Limits.{dueOk, clocksOk, withinLimits, HeldLimits}
+use Rattle.theory.specs.Held.{Held}
+use Rattle.theory.proofs.Lists.{and-l, and-r, and-i, any-map, any-imp, none-any, all-as-any, snoc-ind, snoc-each}
+use Rattle.theory.proofs.LineKinds.{law}
+use Rattle.theory.proofs.Owed.{start-all, next-all, start-clocks, next-clocks}
+use Rattle.theory.proofs.Sets.{any-set, distinct-set}
+use Rattle.theory.proofs.Respect.{remainder-equivalence, alike, any-owed}
+use Rattle.theory.proofs.Fillings.{found, any-nexts, found-snoc}
+use Rattle.theory.proofs.Answers.{held-few}
+
+-- ---- one step
+
+leads-within : (f : Filled) (held : ℕ) (ls : List Line) (ns : List ℕ) → T (all (λ (n : ℕ). leb n held) ns)
+    → T (all (λ (n : ℕ). leb n (suc held)) (nextLeads (nextLead f) ls ns))
+leads-within f held [] ns t = tt
+leads-within f held (l ∷ ls) [] t =
+    let n = nextLead f l 0 in
+    let ns = nextLeads (nextLead f) ls [] in
+    and-i (leb n (suc held)) (all (λ (n : ℕ). leb n (suc held)) ns) (le→leb n (suc held) (law l .leads .grows f 0 held (omega arith))) (leads-within f held ls [] tt)
+leads-within f held (l ∷ ls) (m ∷ ms) t =
+    let n = nextLead f l m in
+    let ns = nextLeads (nextLead f) ls ms in
+    let small = all (λ (n : ℕ). leb n held) ms in
+    and-i (leb n (suc held)) (all (λ (n : ℕ). leb n (suc held)) ns)
+    (le→leb n (suc held) (law l .leads .grows f m held (leb→le m held (and-l (leb m held) small t))))
+    (leads-within f held ls ms (and-r (leb m held) small t))
+
+-- the limits cannot tell apart what is the same, however its obligations are kept
+pub same-within : (c held : ℕ) (a b : Remainder) → T (sameRemainder a b) → withinLimits c held a ≡ withinLimits c held b
+unfolding withinLimits
+same-within c held a b t =
+    let h = alike a b t in
+    let test : (p : Obligation → Bool) → all p (a .owed) ≡ all p (b .owed) =
+    λ p. all-as-any p (a .owed) ∙ ap not (any-owed (λ o. not (p o)) (a .owed) (b .owed) (h .owed)) ∙ sym (all-as-any p (b .owed)) in
+    rw (test (clocksOk c), test (λ o. dueOk (o .due)), h .leads)
+
+-- a sheet as it is read: clocks of lines below C, fields of their sizes
+module _ (s : SheetValue) (wf : T (wellFormed s)) (values : All IsLineValue (s .lines)) where
+  pub next-within : (f : Filled) → ((k : ℕ) → IsTag (tagAt f k)) → (held : ℕ) (r : Remainder)
+      → T (withinLimits (s .clocks) held r) → T (withinLimits (s .clocks) (suc held) (next s f r))
+  unfolding withinLimits next
+  next-within f tags held r t =
+      let dues : Obligation → Bool = λ o. dueOk (o .due) in
+      let u = and-l (all (clocksOk (s .clocks)) (r .owed) && all dues (r .owed)) (all (λ (n : ℕ). leb n held) (r .leads)) t in
+      let after = nextOwed (s .lines) f (r .owed) in
+      let leads = nextLeads (nextLead f) (s .lines) (r .leads) in
+      and-i (all (clocksOk (s .clocks)) after && all dues after) (all (λ (n : ℕ). leb n (suc held)) leads)
+      (and-i (all (clocksOk (s .clocks)) after) (all dues after)
+      (next-clocks (s .clocks) (s .lines) wf f (r .owed) (and-l (all (clocksOk (s .clocks)) (r .owed)) (all dues (r .owed)) u))
+      (next-all dues IsLineValue f (λ l v. law l .owes .begun-dues f tags v) (s .lines) values (r .owed) (and-r (all (clocksOk (s .clocks)) (r .owed)) (all dues (r .owed)) u)))
+      (leads-within f held (s .lines) (r .leads) (and-r (all (clocksOk (s .clocks)) (r .owed) && all dues (r .owed)) (all (λ (n : ℕ). leb n held) (r .leads)) t))
+
+  pub start-within : T (withinLimits (s .clocks) 0 (remainder s []))
+  unfolding withinLimits remainder
+  start-within =
+      let dues : Obligation → Bool = λ o. dueOk (o .due) in
+      let owed = unmet (s .lines) [] in
+      and-i (all (clocksOk (s .clocks)) owed && all dues owed) (all (λ (n : ℕ). leb n 0) (map (leadOf []) (s .lines)))
+      (and-i (all (clocksOk (s .clocks)) owed) (all dues owed) (start-clocks (s .clocks) (s .lines) wf)
+      (start-all dues IsLineValue (λ l v. law l .owes .start-dues v) (s .lines) values))
+      (no-leads (s .lines))
+    where
+      no-leads : (ls : List Line) → T (all (λ (n : ℕ). leb n 0) (map (leadOf []) ls))
+      no-leads [] = tt
+      no-leads (l ∷ ls) =
+          and-i (leb (leadOf [] l) 0) (all (λ (n : ℕ). leb n 0) (map (leadOf []) ls))
+          (le→leb (leadOf [] l) 0 (omega (arith, law l .leads .none))) (no-leads ls)
+
+  -- ---- the remainders of a run
+
+  instant-tags : (i : Instant) → IsInstant i → (k : ℕ) → IsTag (tagIn (tagsOf i) k)
+  instant-tags [] h k = omega arith
+  instant-tags (c ∷ i) h zero = h .0
+  instant-tags (c ∷ i) h (suc k) = instant-tags i (h .1) k
+
+  beyond : ℕ → Remainder → Bool
+  beyond held r = not (withinLimits (s .clocks) held r)
+
+  -- a successor beyond the limits has a remainder beyond them before it
+  nexts-within : (run : List Instant) (i : Instant) → IsInstant i → (held : ℕ) (r : Remainder) → T (any (beyond (suc held)) (nexts s (lastTagsOf run) i r)) → T (beyond held r)
+  unfolding beyond fillings
+  nexts-within run i h held r t = not-T (withinLimits (s .clocks) held r) (λ w.
+      none-any (λ (b : List Bool). late (filledBy b)) (fillTicks (ticksOf i))
+      (λ b u. T-not (withinLimits (s .clocks) (suc held) (next s (filledBy b) r)) (and-r (stepOk s (lastTagsOf run) (filledBy b) r) (beyond (suc held) (next s (filledBy b) r)) u)
+      (next-within (filledBy b) (instant-tags i h) held r w))
+      (subst T (any-nexts s (lastTagsOf run) i (beyond (suc held)) r ∙ any-map late filledBy (fillTicks (ticksOf i))) t))
+    where
+      filledBy : List Bool → Filled
+      filledBy b = record { ticks = b; tags = tagsOf i }
+
+      late : Filled → Bool
+      late f = stepOk s (lastTagsOf run) f r && beyond (suc held) (next s f r)
+
+  found-within : (run : List Instant) → All IsInstant run → T (any (beyond (length run)) (found s run)) → ⊥
+  unfolding beyond fits runFillings
+  found-within = snoc-ind (λ (run : List Instant). All IsInstant run → T (any (beyond (length run)) (found s run)) → ⊥)
+      (λ h t. T-not (withinLimits (s .clocks) 0 (remainder s [])) (subst T (or-false (beyond 0 (remainder s []))) t) start-within)
+      (λ run i ih h t.
+      let r = snoc-each IsInstant run h in
+      let n : length (run ++ (i ∷ [])) ≡ suc (length run) = omega (arith, length-append run (i ∷ [])) in
+      ih (r .0) (any-imp (λ (x : Remainder). any (beyond (suc (length run))) (nexts s (lastTagsOf run) i x)) (beyond (length run)) (found s run) (nexts-within run i (r .1) (length run))
+      (subst T (found-snoc s wf run i (beyond (suc (length run)))) (subst (λ (m : ℕ). T (any (beyond m) (found s (run ++ (i ∷ []))))) n t))))
+
+  -- ---- what is held
+
+  pub held-within : (run : List Instant) (rs : List Remainder) → All IsInstant run → answer s run ≢ exhausted → Held s run rs → HeldLimits (s .clocks) (length run) rs
+  unfolding remainders beyond
+  held-within run rs h n held =
+      let few = held-few s run rs n held in
+      record {
+        live = few .0;
+        owe = few .1;
+        within = subst T (sym (all-as-any (withinLimits (s .clocks) (length run)) rs)) (not-T (any (beyond (length run)) rs)
+            (λ t. found-within run h (subst T
+            (any-set sameRemainder remainder-equivalence (beyond (length run)) (λ x y e u. subst (λ (b : Bool). T (not b)) (same-within (s .clocks) (length run) x y e) u) rs (found s run)
+            (λ x. held .these x ∙ distinct-set sameRemainder remainder-equivalence (found s run) x)) t)));
+      }

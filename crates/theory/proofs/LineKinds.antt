@@ -1,0 +1,197 @@
+-- The law of each kind of line, one after the other; a new kind adds its law and its clause of `law`. Assumes nothing.
+use mathlib.Core.Bool.{Bool, true, false, cond, _&&_, _||_, and-or-distrib-left}
+use mathlib.Core.List.{List, [], _∷_, _++_}
+use mathlib.Core.Path.{_≡_, refl, sym, subst}
+use Prim.Native.Nat.{ℕ, suc, _+_, _-_, _≤_, _<_}
+use native.Mathlib.Omega.{arith}
+use lib.Dec.{T, T-not, not-T, leb, ltb, eqb, leb→le, le→leb, ltb→lt, eqb→eq, eqb-refl}
+use lib.IntN.{ℤ, pos, _+ℤ_}
+use lib.ListN.{getD}
+use Rattle.records.specs.declared.line.Line.{Line}
+use Rattle.records.specs.declared.line.Line.the-variants.{Sporadic, Relation, Implies, Excludes, Delayed, Weakly, Strictly, Kills}
+use Rattle.records.specs.Line.{clocksOf}
+use Rattle.tesl.specs.Lists.{all, any}
+use Rattle.tesl.specs.Run.{Filled, ticksAt, tagAt}
+use Rattle.tesl.specs.Fits.{ticksIn, Obligation}
+use Rattle.theory.specs.Step.{bit}
+use Rattle.theory.specs.Limits.{dueOk, clocksOk}
+use Rattle.theory.proofs.Lists.{and-l, and-r, and-i, or-l, or-r, or-e, any-append, any-snoc, count-snoc}
+use Rattle.theory.proofs.Whole.{tag-due, delay-due}
+use Rattle.theory.proofs.Law.{Law, no-lead, no-stop, no-owed, by-instant}
+
+-- ---- sporadic: an obligation from the start
+
+two-clocks : (a b c : ℕ) → T (ltb a c && (ltb b c && true)) → T (ltb a c && ltb b c && true)
+two-clocks a b c t =
+    let u = and-r (ltb a c) (ltb b c && true) t in
+    and-i (ltb a c && ltb b c) true (and-i (ltb a c) (ltb b c) (and-l (ltb a c) (ltb b c && true) t) (and-l (ltb b c) true u)) tt
+
+sporadic-law : (A B : ℕ) (t : ℤ) → Law (Sporadic A B t)
+unfolding clocksOf
+sporadic-law A B t = record {
+  leads = no-lead (Sporadic A B t) (λ run. refl) (λ run. refl) (λ f n. refl);
+  stops = no-stop (Sporadic A B t) (λ run k. refl);
+  owes = record {
+    start-number = omega arith;
+    start-clocks = λ c w. two-clocks A B c w;
+    begun-clocks = λ c f w. tt;
+    start-dues = λ v. and-i (dueOk t) true (tag-due t (v .2)) tt;
+    begun-dues = λ f g v. tt;
+  };
+  judged = by-instant (Sporadic A B t) (λ run f stopped. refl);
+}
+
+-- ---- relation, implies, excludes: by the instant alone
+
+relation-law : (A B : ℕ) (p q : ℤ) → Law (Relation A B p q)
+relation-law A B p q = record {
+  leads = no-lead (Relation A B p q) (λ run. refl) (λ run. refl) (λ f n. refl);
+  stops = no-stop (Relation A B p q) (λ run k. refl);
+  owes = no-owed (Relation A B p q) refl (λ f. refl);
+  judged = by-instant (Relation A B p q) (λ run f stopped. refl);
+}
+
+implies-law : (A B : ℕ) → Law (Implies A B)
+implies-law A B = record {
+  leads = no-lead (Implies A B) (λ run. refl) (λ run. refl) (λ f n. refl);
+  stops = no-stop (Implies A B) (λ run k. refl);
+  owes = no-owed (Implies A B) refl (λ f. refl);
+  judged = by-instant (Implies A B) (λ run f stopped. refl);
+}
+
+excludes-law : (A B : ℕ) → Law (Excludes A B)
+excludes-law A B = record {
+  leads = no-lead (Excludes A B) (λ run. refl) (λ run. refl) (λ f n. refl);
+  stops = no-stop (Excludes A B) (λ run k. refl);
+  owes = no-owed (Excludes A B) refl (λ f. refl);
+  judged = by-instant (Excludes A B) (λ run f stopped. refl);
+}
+
+-- ---- delayed: each tick of A begins an obligation
+
+-- what holds of the one obligation holds of what a tick or none of A begins
+when-ticks : (p : Obligation → Bool) (b : Bool) (o : Obligation) → T (p o) → T (all p (cond b (o ∷ []) []))
+when-ticks p true o t = and-i (p o) true t tt
+when-ticks p false o t = tt
+
+delayed-law : (A B D d : ℕ) → Law (Delayed A B D d)
+unfolding clocksOf
+delayed-law A B D d = record {
+  leads = no-lead (Delayed A B D d) (λ run. refl) (λ run. refl) (λ f n. refl);
+  stops = no-stop (Delayed A B D d) (λ run k. refl);
+  owes = record {
+    start-number = omega arith;
+    start-clocks = λ c w. tt;
+    begun-clocks = λ c f w.
+        let u = and-r (ltb A c) (ltb B c && (ltb D c && true)) w in
+        when-ticks (clocksOk c) (ticksAt f A) (begun f)
+        (and-i (ltb D c) (ltb B c) (and-l (ltb D c) true (and-r (ltb B c) (ltb D c && true) u)) (and-l (ltb B c) (ltb D c && true) u));
+    start-dues = λ v. tt;
+    begun-dues = λ f g v. when-ticks (λ (o : Obligation). dueOk (o .due)) (ticksAt f A) (begun f) (delay-due (tagAt f B) d (g B) (v .3));
+  };
+  judged = by-instant (Delayed A B D d) (λ run f stopped. refl);
+}
+  where
+    begun : Filled → Obligation
+    begun f = record { clock = D; due = tagAt f B +ℤ pos d; on = B }
+
+-- ---- precedes: the lead
+
+ticksIn-snoc : (k : ℕ) (run : List Filled) (f : Filled) → ticksIn k (run ++ (f ∷ [])) ≡ ticksIn k run + bit (ticksAt f k)
+ticksIn-snoc k run f = count-snoc (λ (g : Filled). ticksAt g k) run f
+
+lead-after : (A B : ℕ) (run : List Filled) (f : Filled) → T (leb (ticksIn B run) (ticksIn A run))
+    → ticksIn A (run ++ (f ∷ [])) - ticksIn B (run ++ (f ∷ [])) ≡ ticksIn A run - ticksIn B run + bit (ticksAt f A) - bit (ticksAt f B)
+lead-after A B run f o = omega (arith, leb→le (ticksIn B run) (ticksIn A run) o, ticksIn-snoc A run f, ticksIn-snoc B run f)
+
+lead-grows : (a b : Bool) (n held : ℕ) → n ≤ held → n + bit a - bit b ≤ suc held
+lead-grows true b n held h = omega arith
+lead-grows false b n held h = omega arith
+
+weakly-law : (A B : ℕ) → Law (Weakly A B)
+weakly-law A B = record {
+  leads = record {
+    at-start = tt;
+    none = refl;
+    stays = λ run f h. h;
+    after = lead-after A B;
+    grows = λ f n held h. lead-grows (ticksAt f A) (ticksAt f B) n held h;
+  };
+  stops = no-stop (Weakly A B) (λ run k. refl);
+  owes = no-owed (Weakly A B) refl (λ f. refl);
+  judged = record {
+    asks = λ run f stopped q o h. le→leb (bit (ticksAt f B)) (ticksIn A run - ticksIn B run + bit (ticksAt f A))
+        (omega (arith, leb→le (ticksIn B run) (ticksIn A run) o, leb→le (ticksIn B (run ++ (f ∷ []))) (ticksIn A (run ++ (f ∷ []))) h, ticksIn-snoc A run f, ticksIn-snoc B run f));
+    suffices = λ run f stopped i o h. le→leb (ticksIn B (run ++ (f ∷ []))) (ticksIn A (run ++ (f ∷ [])))
+        (omega (arith, leb→le (ticksIn B run) (ticksIn A run) o, leb→le (bit (ticksAt f B)) (ticksIn A run - ticksIn B run + bit (ticksAt f A)) h, ticksIn-snoc A run f, ticksIn-snoc B run f));
+  };
+}
+
+strictly-law : (A B : ℕ) → Law (Strictly A B)
+strictly-law A B = record {
+  leads = record {
+    at-start = tt;
+    none = refl;
+    stays = λ run f h. le→leb (ticksIn B (run ++ (f ∷ []))) (ticksIn A (run ++ (f ∷ [])))
+        (omega (arith, leb→le (ticksIn B (run ++ (f ∷ []))) (ticksIn A run) h, ticksIn-snoc A run f));
+    after = lead-after A B;
+    grows = λ f n held h. lead-grows (ticksAt f A) (ticksAt f B) n held h;
+  };
+  stops = no-stop (Strictly A B) (λ run k. refl);
+  owes = no-owed (Strictly A B) refl (λ f. refl);
+  judged = record {
+    asks = λ run f stopped q o h. le→leb (bit (ticksAt f B)) (ticksIn A run - ticksIn B run)
+        (omega (arith, leb→le (ticksIn B run) (ticksIn A run) o, leb→le (ticksIn B (run ++ (f ∷ []))) (ticksIn A run) h, ticksIn-snoc B run f));
+    suffices = λ run f stopped i o h. le→leb (ticksIn B (run ++ (f ∷ []))) (ticksIn A run)
+        (omega (arith, leb→le (ticksIn B run) (ticksIn A run) o, leb→le (bit (ticksAt f B)) (ticksIn A run - ticksIn B run) h, ticksIn-snoc B run f));
+  };
+}
+
+-- ---- kills: the stopped clock
+
+kills-law : (A B : ℕ) → Law (Kills A B)
+unfolding clocksOf
+kills-law A B = record {
+  leads = no-lead (Kills A B) (λ run. refl) (λ run. refl) (λ f n. refl);
+  stops = record {
+    after = λ run f k. rw (any-append ticked run (f ∷ [])) (and-or-distrib-left (eqb B k) (any ticked run) (any ticked (f ∷ [])));
+    below = λ run c k w t.
+        subst (λ (j : ℕ). j < c) (eqb→eq B k (and-l (eqb B k) (any ticked run) t)) (ltb→lt B c (and-l (ltb B c) true (and-r (ltb A c) (ltb B c && true) w)));
+    quiet = λ run f k h t u. T-not (ticksAt f B && any ticked (run ++ (f ∷ []))) h
+        (and-i (ticksAt f B) (any ticked (run ++ (f ∷ []))) (subst (λ (j : ℕ). T (ticksAt f j)) (sym (eqb→eq B k (and-l (eqb B k) (any ticked run) t))) u)
+        (subst T (sym (any-snoc ticked run f)) (or-l (any ticked run) (ticked f) (and-r (eqb B k) (any ticked run) t))));
+  };
+  owes = no-owed (Kills A B) refl (λ f. refl);
+  judged = record {
+    asks = λ run f stopped q o h.
+        let dead = getD stopped B false || ticked f in
+        not-T (ticksAt f B && dead)
+        (λ t. or-e (getD stopped B false) (ticked f) (and-r (ticksAt f B) dead t)
+        (λ u. q B u (and-l (ticksAt f B) dead t))
+        (λ u. T-not (ticksAt f B && any ticked (run ++ (f ∷ []))) h
+        (and-i (ticksAt f B) (any ticked (run ++ (f ∷ []))) (and-l (ticksAt f B) dead t)
+        (subst T (sym (any-snoc ticked run f)) (or-r (any ticked run) (ticked f) u)))));
+    suffices = λ run f stopped i o h.
+        let dead = getD stopped B false || ticked f in
+        not-T (ticksAt f B && any ticked (run ++ (f ∷ [])))
+        (λ t. T-not (ticksAt f B && dead) h
+        (and-i (ticksAt f B) dead (and-l (ticksAt f B) (any ticked (run ++ (f ∷ []))) t)
+        (or-e (any ticked run) (ticked f) (subst T (any-snoc ticked run f) (and-r (ticksAt f B) (any ticked (run ++ (f ∷ []))) t))
+        (λ u. or-l (getD stopped B false) (ticked f) (i B (and-i (eqb B B) (any ticked run) (eqb-refl B) u)))
+        (λ u. or-r (getD stopped B false) (ticked f) u))));
+  };
+}
+  where
+    ticked : Filled → Bool
+    ticked g = ticksAt g A
+
+-- ---- every line
+pub law : (l : Line) → Law l
+law (Sporadic A B t) = sporadic-law A B t
+law (Relation A B p q) = relation-law A B p q
+law (Implies A B) = implies-law A B
+law (Excludes A B) = excludes-law A B
+law (Delayed A B D d) = delayed-law A B D d
+law (Weakly A B) = weakly-law A B
+law (Strictly A B) = strictly-law A B
+law (Kills A B) = kills-law A B

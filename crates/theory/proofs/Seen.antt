@@ -1,0 +1,173 @@
+-- Runs without unseen ticks: there is one filling, the answer is broken exactly when TESL's formulas fail for it, and else it is holding with live 1, clear exactly when nothing is owed.
+-- And in a fitting run no precedes line has B ahead of A. Assumes nothing.
+use mathlib.Core.Bool.{Bool, true, false, cond, _||_}
+use mathlib.Core.List.{List, [], _∷_, _++_, map}
+use mathlib.Core.Logic.{_↔_}
+use mathlib.Core.Path.{_≡_, refl, sym, ap, _∙_}
+use Prim.Native.Nat.{ℕ, zero, suc, _≤_}
+use native.Mathlib.Nat.{le-refl}
+use native.Mathlib.Omega.{arith}
+use lib.Dec.{T, eqb, eqb→eq}
+use lib.ListN.{length}
+use lib.Seq.{take-length}
+use Rattle.records.specs.declared.line.Line.{Line}
+use Rattle.records.specs.declared.line.Line.the-variants.{Sporadic, Relation, Implies, Excludes, Delayed, Weakly, Strictly, Kills}
+use Rattle.records.specs.declared.instant.Tick.{Tick}
+use Rattle.records.specs.declared.instant.Tick.the-variants.{Idle, Ticks, Unseen}
+use Rattle.records.specs.Sheet.{SheetValue}
+use Rattle.records.specs.Types.{All}
+use Rattle.tesl.specs.Lists.{all, any, filter, distinct, flatMap, beginnings}
+use Rattle.tesl.specs.Run.{Instant, ticksOf, tagsOf, Filled, fillTicks, fillings, runFillings}
+use Rattle.tesl.specs.Fits.{ticksIn, Obligation, unmet, fits}
+use Rattle.tesl.specs.Remainder.{remainder, sameRemainder, sameObligation, owes}
+use Rattle.tesl.specs.Answer.{Standing, clear, owed, exhausted, broken, holding, remainders, tooMany, standing, judged, answer}
+use Rattle.tesl.specs.Formula.{ticksBelow, Holds, NoneFalls, EachHolds}
+use Rattle.tesl.proofs.FormulaLists.{and-l, and-r, or-e, T→≡}
+use Rattle.tesl.proofs.FormulaOwed.{ticks-below}
+use Rattle.tesl.proofs.Formula.{fits-holds}
+
+-- ---- precedence: the subtraction of a remainder's leads cuts nothing
+
+abbrev pub NotAhead : List Filled → Line → Type 0
+NotAhead run (Weakly A B) = ticksIn B run ≤ ticksIn A run
+NotAhead run (Strictly A B) = ticksIn B run ≤ ticksIn A run
+NotAhead run (Sporadic A B t) = Unit {0}
+NotAhead run (Relation A B p q) = Unit {0}
+NotAhead run (Implies A B) = Unit {0}
+NotAhead run (Excludes A B) = Unit {0}
+NotAhead run (Delayed A B D d) = Unit {0}
+NotAhead run (Kills A B) = Unit {0}
+
+-- K's ticks in a run of n instants
+all-ticks : (run : List Filled) (K n : ℕ) → length run ≡ n → ticksIn K run ≡ ticksBelow run K n
+all-ticks run K n e = ap (ticksIn K) (sym (take-length run)) ∙ ticks-below run K (length run) (le-refl (length run)) ∙ ap (ticksBelow run K) e
+
+weakly-ordered : (run : List Filled) (A B n : ℕ) → length run ≡ n → Holds (Weakly A B) run → ticksIn B run ≤ ticksIn A run
+weakly-ordered run A B zero e h = omega (arith, all-ticks run A zero e, all-ticks run B zero e)
+weakly-ordered run A B (suc n) e h = omega (arith, all-ticks run A (suc n) e, all-ticks run B (suc n) e, h n (omega arith))
+
+strictly-weakly : (run : List Filled) (A B : ℕ) → Holds (Strictly A B) run → Holds (Weakly A B) run
+strictly-weakly run A B h n b = omega (arith, h n b)
+
+line-ordered : (l : Line) (run : List Filled) → Holds l run → NotAhead run l
+line-ordered (Weakly A B) run h = weakly-ordered run A B (length run) refl h
+line-ordered (Strictly A B) run h = weakly-ordered run A B (length run) refl (strictly-weakly run A B h)
+line-ordered (Sporadic A B t) run h = tt
+line-ordered (Relation A B p q) run h = tt
+line-ordered (Implies A B) run h = tt
+line-ordered (Excludes A B) run h = tt
+line-ordered (Delayed A B D d) run h = tt
+line-ordered (Kills A B) run h = tt
+
+pub never-ahead : (s : SheetValue) (run : List Filled) → T (fits s run) → All (NotAhead run) (s .lines)
+never-ahead s run t = each (s .lines) (((fits-holds s run) .0 t) .1)
+  where
+    each : (ls : List Line) → EachHolds ls run → All (NotAhead run) ls
+    each [] h = tt
+    each (l ∷ ls) h = (line-ordered l run (h .0), each ls (h .1))
+
+-- ---- a run without unseen ticks, and its one filling
+
+abbrev pub isSeen : Tick → Bool
+isSeen Idle = true
+isSeen Ticks = true
+isSeen Unseen = false
+
+abbrev pub Seen : List Instant → Type 0
+Seen run = T (all (λ (i : Instant). all isSeen (ticksOf i)) run)
+
+abbrev pub ticked : Tick → Bool
+ticked Idle = false
+ticked Ticks = true
+ticked Unseen = false
+
+abbrev pub seenRun : List Instant → List Filled
+seenRun run = map (λ (i : Instant). record { ticks = map ticked (ticksOf i); tags = tagsOf i }) run
+
+one-tick-list : (ts : List Tick) → T (all isSeen ts) → fillTicks ts ≡ map ticked ts ∷ []
+one-tick-list [] t = refl
+one-tick-list (Idle ∷ ts) t = ap (map (λ (r : List Bool). false ∷ r)) (one-tick-list ts t)
+one-tick-list (Ticks ∷ ts) t = ap (map (λ (r : List Bool). true ∷ r)) (one-tick-list ts t)
+one-tick-list (Unseen ∷ ts) t = absurd t
+
+one-filling : (run : List Instant) → Seen run → runFillings run ≡ seenRun run ∷ []
+unfolding runFillings fillings
+one-filling [] t = refl
+one-filling (i ∷ run) t =
+    ap (λ (bs : List (List Bool)). flatMap (λ (f : Filled). map (λ (r : List Filled). f ∷ r) (runFillings run)) (map (λ (b : List Bool). record { ticks = b; tags = tagsOf i }) bs))
+    (one-tick-list (ticksOf i) (and-l (all isSeen (ticksOf i)) (all (λ (j : Instant). all isSeen (ticksOf j)) run) t))
+    ∙ ap (λ (rs : List (List Filled)). map (λ (r : List Filled). record { ticks = map ticked (ticksOf i); tags = tagsOf i } ∷ r) rs ++ [])
+    (one-filling run (and-r (all isSeen (ticksOf i)) (all (λ (j : Instant). all isSeen (ticksOf j)) run) t))
+
+-- ---- the answer
+
+some-kept : {A : Type 0} (same : A → A → Bool) (x : A) (xs : List A) → length (distinct same (x ∷ xs)) ≡ 0 → ⊥
+some-kept {A} same x xs = go (distinct same xs)
+  where
+    go : (d : List A) → length (cond (any (same x) d) d (x ∷ d)) ≡ 0 → ⊥
+    go [] = λ e. omega arith
+    go (y ∷ d) = elim (any (same x) (y ∷ d)) as (λ b. length (cond b (y ∷ d) (x ∷ (y ∷ d))) ≡ 0 → ⊥) [ true ↦ λ e. omega arith | false ↦ λ e. omega arith ]
+
+-- where the count of obligations is 0, there is none
+none-owed : (os : List Obligation) → length (distinct sameObligation os) ≡ 0 → os ≡ []
+none-owed [] e = refl
+none-owed (o ∷ os) e = absurd (some-kept sameObligation o os e)
+
+clear-when : (b : Bool) → cond b clear owed ≡ clear → T b
+clear-when true e = tt
+clear-when false e = let z : _≡_ {A = ℕ} 0 1 = cc in omega arith
+
+clear-exactly : (s : SheetValue) (f : List Filled) → (standing (remainder s f ∷ []) ≡ clear) ↔ (unmet (s .lines) f ≡ [])
+unfolding remainder owes
+clear-exactly s f = (
+  λ e. let n = length (distinct sameObligation (unmet (s .lines) f)) in none-owed (unmet (s .lines) f) (eqb→eq n 0 (or-e (eqb n 0) false (clear-when (eqb n 0 || false) e) (λ u. u) absurd)),
+  λ e. ap (λ (os : List Obligation). cond (eqb (length (distinct sameObligation os)) 0 || false) clear owed) e,
+)
+
+module _ (s : SheetValue) (run : List Instant) where
+  not-exhausted : (answer s run ≡ exhausted → ⊥) → answer s run ≡ judged (remainders s run)
+  unfolding answer
+  not-exhausted n = go (any (λ (b : List Instant). tooMany (remainders s b)) (beginnings run)) n
+    where
+      go : (b : Bool) → (cond b exhausted (judged (remainders s run)) ≡ exhausted → ⊥) → cond b exhausted (judged (remainders s run)) ≡ judged (remainders s run)
+      go true n = absurd (n refl)
+      go false n = refl
+
+  one-remainder : (f : List Filled) → runFillings run ≡ f ∷ [] → remainders s run ≡ cond (fits s f) (remainder s f ∷ []) []
+  unfolding remainders
+  one-remainder f e = ap (λ (fs : List (List Filled)). distinct sameRemainder (map (remainder s) (filter (fits s) fs))) e
+      ∙ elim (fits s f) as (λ b. distinct sameRemainder (map (remainder s) (cond b (f ∷ []) [])) ≡ cond b (remainder s f ∷ []) []) [ true ↦ refl | false ↦ refl ]
+
+fails : (b : Bool) → (T b → ⊥) → b ≡ false
+fails true n = absurd (n tt)
+fails false n = refl
+
+-- what the machine answers for a run whose ticks are all seen: f is its one filling
+pub record Judged (s : SheetValue) (run : List Instant) (f : List Filled) : Type 0 where
+  pub the-filling : runFillings run ≡ f ∷ []
+  pub breaks : (answer s run ≡ broken) ↔ (NoneFalls (s .clocks) f × EachHolds (s .lines) f → ⊥)
+  pub else-holds : NoneFalls (s .clocks) f × EachHolds (s .lines) f → (st : Standing) × (answer s run ≡ holding 1 st) × ((st ≡ clear) ↔ (unmet (s .lines) f ≡ []))
+
+pub seen-judged : (s : SheetValue) (run : List Instant) → Seen run → (answer s run ≡ exhausted → ⊥) → Judged s run (seenRun run)
+unfolding judged
+seen-judged s run t n = record {
+  the-filling = one-filling run t;
+  breaks = (
+    λ e h. let w = holds h in let z : _≡_ {A = ℕ} 0 1 = cc (w .1) in omega arith,
+    λ no. said ∙ ap (λ (b : Bool). judged (cond b (remainder s f ∷ []) [])) (fails (fits s f) (λ u. no ((fits-holds s f) .0 u))),
+  );
+  else-holds = holds;
+}
+  where
+    f : List Filled
+    f = seenRun run
+
+    said : answer s run ≡ judged (cond (fits s f) (remainder s f ∷ []) [])
+    said = not-exhausted s run n ∙ ap judged (one-remainder s run f (one-filling run t))
+
+    holds : NoneFalls (s .clocks) f × EachHolds (s .lines) f → (st : Standing) × (answer s run ≡ holding 1 st) × ((st ≡ clear) ↔ (unmet (s .lines) f ≡ []))
+    holds h = (
+      standing (remainder s f ∷ []),
+      said ∙ ap (λ (b : Bool). judged (cond b (remainder s f ∷ []) [])) (T→≡ (fits s f) ((fits-holds s f) .1 h)),
+      clear-exactly s f,
+    )

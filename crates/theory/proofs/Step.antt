@@ -1,0 +1,153 @@
+-- The step: a filled run with one more instant fits where the run fits and the instant may follow its remainder, and its remainder is the step's. Assumes nothing.
+use mathlib.Core.Bool.{Bool, true, false, _&&_, _||_, and-true, and-false}
+use mathlib.Core.List.{List, [], _∷_, _++_, map}
+use mathlib.Core.Option.{some}
+use mathlib.Core.Path.{_≡_, refl, sym, ap, _∙_, subst, fun-ext}
+use Prim.Native.Nat.{ℕ, zero, suc, _<_}
+use lib.Dec.{T}
+use lib.ListN.{getD}
+use Rattle.records.specs.declared.line.Line.{Line}
+use Rattle.records.specs.Sheet.{SheetValue}
+use Rattle.tesl.specs.Lists.{all, any, table, always}
+use Rattle.tesl.specs.Run.{Filled, ticksAt}
+use Rattle.tesl.specs.Fits.{lastTags, noneFalls, holdsAt, fitsAt, unmet, notLate, fits}
+use Rattle.tesl.specs.Remainder.{leadOf, stops, remainder}
+use Rattle.theory.specs.Step.{lineOk, linesOk, nextLead, nextLeads, nextOwed, next, stepOk, lineBelow, wellFormed}
+use Rattle.theory.proofs.Lists.{and-l, and-r, and-i, or-l, or-r, or-e, T→≡, bool-ext, lastOf-map-snoc, always-snoc, snoc-ind, all-of, all-imp, table-at, table-ext}
+use Rattle.theory.proofs.Law.{ordered, Quiet}
+use Rattle.theory.proofs.LineKinds.{law}
+use Rattle.theory.proofs.Owed.{unmet-snoc, unmet-clocks, earlier}
+
+-- ---- leads
+
+always-ordered : (s : SheetValue) (run : List Filled) → T (always (fitsAt s) [] run) → T (all (ordered run) (s .lines))
+always-ordered s = snoc-ind (λ (run : List Filled). T (always (fitsAt s) [] run) → T (all (ordered run) (s .lines)))
+    (λ t. all-of (ordered []) (s .lines) (λ l. law l .leads .at-start))
+    (λ run f h t. all-imp (λ (l : Line). holdsAt l run f) (ordered (run ++ (f ∷ []))) (s .lines) (λ l u. law l .leads .stays run f u)
+    (and-r (noneFalls (s .clocks) (lastTags run) (f .tags)) (all (λ (l : Line). holdsAt l run f) (s .lines))
+    (and-r (always (fitsAt s) [] run) (fitsAt s run f) (subst T (always-snoc (fitsAt s) [] run f) t))))
+
+leads-snoc : (run : List Filled) (f : Filled) (ls : List Line) → T (all (ordered run) ls)
+    → map (leadOf (run ++ (f ∷ []))) ls ≡ nextLeads (nextLead f) ls (map (leadOf run) ls)
+leads-snoc run f [] t = refl
+leads-snoc run f (l ∷ ls) t =
+    λ i. law l .leads .after run f (and-l (ordered run l) (all (ordered run) ls) t) i
+    ∷ leads-snoc run f ls (and-r (ordered run l) (all (ordered run) ls) t) i
+
+-- ---- stopped clocks
+
+any-or : (p q : Line → Bool) (ls : List Line) → any (λ l. p l || q l) ls ≡ (any p ls || any q ls)
+any-or p q [] = refl
+any-or p q (l ∷ ls) = rw (any-or p q ls) (four (p l) (q l) (any p ls) (any q ls))
+  where
+    four : (a b c d : Bool) → (a || b || (c || d)) ≡ (a || c || (b || d))
+    four true b c d = refl
+    four false true true d = refl
+    four false true false d = refl
+    four false false c d = refl
+
+stopped-snoc : (s : SheetValue) (run : List Filled) (f : Filled) → remainder s (run ++ (f ∷ [])) .stopped ≡ next s f (remainder s run) .stopped
+unfolding remainder next
+stopped-snoc s run f = table-ext (s .clocks) (λ k. any (stops (run ++ (f ∷ [])) k) (s .lines))
+    (λ k. getD (remainder s run .stopped) k false || any (stops (f ∷ []) k) (s .lines))
+    (λ k h. ap (λ (p : Line → Bool). any p (s .lines)) (fun-ext (λ l. law l .stops .after run f k))
+    ∙ any-or (stops run k) (stops (f ∷ []) k) (s .lines)
+    ∙ ap (λ (b : Bool). b || any (stops (f ∷ []) k) (s .lines)) (sym (table-at (s .clocks) (λ j. any (stops run j) (s .lines)) k false h)))
+
+-- ---- the remainder of a run whose instants fit, with one more
+pub remainder-snoc : (s : SheetValue) (run : List Filled) (f : Filled) → T (always (fitsAt s) [] run)
+    → remainder s (run ++ (f ∷ [])) ≡ next s f (remainder s run)
+unfolding remainder next
+remainder-snoc s run f t = λ i. record {
+  owed = unmet-snoc (s .lines) run f i;
+  leads = leads-snoc run f (s .lines) (always-ordered s run t) i;
+  stopped = stopped-snoc s run f i;
+}
+
+-- ---- lines
+
+module _ (run : List Filled) (f : Filled) (stopped : List Bool) where
+  all-ask : Quiet stopped f → (ls : List Line) → T (all (ordered run) ls)
+      → T (all (λ (l : Line). holdsAt l run f) ls) → T (linesOk (lineOk f stopped) ls (map (leadOf run) ls))
+  all-ask quiet [] o h = tt
+  all-ask quiet (l ∷ ls) o h =
+      let hs = all (λ (l : Line). holdsAt l run f) ls in
+      and-i (lineOk f stopped l (leadOf run l)) (linesOk (lineOk f stopped) ls (map (leadOf run) ls))
+      (law l .judged .asks run f stopped quiet (and-l (ordered run l) (all (ordered run) ls) o) (and-l (holdsAt l run f) hs h))
+      (all-ask quiet ls (and-r (ordered run l) (all (ordered run) ls) o) (and-r (holdsAt l run f) hs h))
+
+  all-suffice : (ls : List Line) → ((k : ℕ) → T (any (stops run k) ls) → T (getD stopped k false)) → T (all (ordered run) ls)
+      → T (linesOk (lineOk f stopped) ls (map (leadOf run) ls)) → T (all (λ (l : Line). holdsAt l run f) ls)
+  all-suffice [] among o h = tt
+  all-suffice (l ∷ ls) among o h =
+      let ok = lineOk f stopped l (leadOf run l) in
+      let oks = linesOk (lineOk f stopped) ls (map (leadOf run) ls) in
+      and-i (holdsAt l run f) (all (λ (l : Line). holdsAt l run f) ls)
+      (law l .judged .suffices run f stopped (λ k t. among k (or-l (stops run k l) (any (stops run k) ls) t)) (and-l (ordered run l) (all (ordered run) ls) o) (and-l ok oks h))
+      (all-suffice ls (λ k t. among k (or-r (stops run k l) (any (stops run k) ls) t)) (and-r (ordered run l) (all (ordered run) ls) o) (and-r ok oks h))
+
+-- a stopped clock does not tick at f, where every line holds; and it is one of the sheet's
+quiet-all : (run : List Filled) (f : Filled) (k : ℕ) (ls : List Line) → T (all (λ (l : Line). holdsAt l run f) ls) → T (any (stops run k) ls) → T (ticksAt f k) → ⊥
+quiet-all run f k [] h s u = s
+quiet-all run f k (l ∷ ls) h s u =
+    let hs = all (λ (l : Line). holdsAt l run f) ls in
+    or-e (stops run k l) (any (stops run k) ls) s
+    (λ v. law l .stops .quiet run f k (and-l (holdsAt l run f) hs h) v u)
+    (λ v. quiet-all run f k ls (and-r (holdsAt l run f) hs h) v u)
+
+stops-below : (run : List Filled) (c k : ℕ) (ls : List Line) → T (all (lineBelow c) ls) → T (any (stops run k) ls) → k < c
+stops-below run c k [] w t = absurd t
+stops-below run c k (l ∷ ls) w t =
+    or-e (stops run k l) (any (stops run k) ls) t
+    (law l .stops .below run c k (and-l (lineBelow c l) (all (lineBelow c) ls) w))
+    (stops-below run c k ls (and-r (lineBelow c l) (all (lineBelow c) ls) w))
+
+table-says : (n : ℕ) (p : ℕ → Bool) (k : ℕ) → T (getD (table n p) k false) → T (p k)
+table-says zero p k t = absurd t
+table-says (suc n) p zero t = t
+table-says (suc n) p (suc k) t = table-says n (λ j. p (suc j)) k t
+
+lines-same : (s : SheetValue) (run : List Filled) (f : Filled) → T (wellFormed s) → T (all (ordered run) (s .lines))
+    → all (λ (l : Line). holdsAt l run f) (s .lines) ≡ linesOk (lineOk f (remainder s run .stopped)) (s .lines) (remainder s run .leads)
+unfolding remainder
+lines-same s run f w o =
+    let stopped = remainder s run .stopped in
+    bool-ext (all (λ (l : Line). holdsAt l run f) (s .lines)) (linesOk (lineOk f stopped) (s .lines) (remainder s run .leads))
+    (λ h. all-ask run f stopped (λ k t. quiet-all run f k (s .lines) h (table-says (s .clocks) (λ j. any (stops run j) (s .lines)) k t)) (s .lines) o h)
+    (λ h. all-suffice run f stopped (s .lines)
+    (λ k t. subst T (sym (table-at (s .clocks) (λ j. any (stops run j) (s .lines)) k false (stops-below run (s .clocks) k (s .lines) w t))) t) o h)
+
+-- ---- a filled run with one more instant
+
+implied : (n h d e : Bool) → (T n → T e → T d) → (n && h && e) ≡ (d && (n && h && e))
+implied false h d e r = sym (and-false d)
+implied true false d e r = sym (and-false d)
+implied true true d false r = sym (and-false d)
+implied true true d true r = sym (and-true d ∙ T→≡ d (r tt tt))
+
+pub fits-snoc : (s : SheetValue) (run : List Filled) (f : Filled) → T (wellFormed s)
+    → fits s (run ++ (f ∷ [])) ≡ (fits s run && stepOk s (lastTags run) f (remainder s run))
+unfolding fits stepOk remainder
+fits-snoc s run f w =
+    rw (always-snoc (fitsAt s) [] run f, lastOf-map-snoc (λ (g : Filled). g .tags) run f, unmet-snoc (s .lines) run f) (by-test (always (fitsAt s) [] run) (always-ordered s run))
+  where
+    rising : Bool
+    rising = noneFalls (s .clocks) (lastTags run) (f .tags)
+
+    hold : Bool
+    hold = all (λ (l : Line). holdsAt l run f) (s .lines)
+
+    may : Bool
+    may = linesOk (lineOk f (remainder s run .stopped)) (s .lines) (remainder s run .leads)
+
+    due : Bool
+    due = notLate (lastTags run) (unmet (s .lines) run)
+
+    dueNow : Bool
+    dueNow = notLate (some (f .tags)) (nextOwed (s .lines) f (unmet (s .lines) run))
+
+    by-test : (a : Bool) → (T a → T (all (ordered run) (s .lines))) → (a && (rising && hold) && dueNow) ≡ (a && due && (rising && may && dueNow))
+    by-test false o = refl
+    by-test true o =
+        ap (λ (h : Bool). rising && h && dueNow) (lines-same s run f w (o tt))
+        ∙ implied rising may due dueNow (λ u v. earlier (s .clocks) (s .lines) (lastTags run) f (unmet (s .lines) run) (unmet-clocks (s .clocks) (s .lines) w run) u v)

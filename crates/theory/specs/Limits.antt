@@ -1,0 +1,53 @@
+-- The limits of a monitor (refusal 11), as numbers: of its sheet, of the list of instants, of a remainder of c clocks with `held` instants, and of those held. Assumes nothing.
+use mathlib.Core.Bool.{Bool, _&&_}
+use mathlib.Core.List.{List, map}
+use mathlib.Core.Path.{_≡_}
+use Prim.Native.Nat.{ℕ, _≤_}
+use lib.Dec.{T, leb, ltb}
+use lib.IntN.{ℤ, pos, negsuc}
+use lib.ListN.{length}
+use lib.Signed.{leZ}
+use Rattle.records.specs.Line.{kindOf, sporadics}
+use Rattle.records.specs.Sheet.{SheetValue}
+use Rattle.records.specs.Types.{All, IsLineValue, IsInstant}
+use Rattle.tesl.specs.Lists.{all}
+use Rattle.tesl.specs.Run.{Instant}
+use Rattle.tesl.specs.Fits.{Obligation}
+use Rattle.tesl.specs.Remainder.{Remainder, owes}
+use Rattle.theory.specs.Step.{wellFormed}
+
+-- ---- a sheet value within its own
+pub record SheetLimits (s : SheetValue) : Type 0 where
+  pub clocks-least : 1 ≤ s .clocks
+  pub clocks-most : s .clocks ≤ 8
+  pub lines-most : length (s .lines) ≤ 16
+  pub sporadics-most : sporadics (map kindOf (s .lines)) ≤ 8
+  pub clocks-below : T (wellFormed s)
+  pub values : All IsLineValue (s .lines)
+
+-- ---- the list of accepted instants: at most 4,000, a cell for each clock
+pub record ListLimits (s : SheetValue) (run : List Instant) : Type 0 where
+  pub instants-most : length run ≤ 4000
+  pub sizes : All (λ (i : Instant). length i ≡ s .clocks) run
+  pub values : All IsInstant run
+
+-- ---- a remainder
+
+-- dues −32,768 to 98,302
+abbrev pub dueOk : ℤ → Bool
+dueOk z = leZ (negsuc 32767) z && leZ z (pos 98302)
+
+-- an obligation's clocks below c
+abbrev pub clocksOk : ℕ → Obligation → Bool
+clocksOk c o = ltb (o .clock) c && ltb (o .on) c
+
+-- ticks minus ticks 0 to the instants held; the number of obligations is apart
+unfoldable pub withinLimits : ℕ → ℕ → Remainder → Bool
+withinLimits c held r =
+    all (clocksOk c) (r .owed) && all (λ (o : Obligation). dueOk (o .due)) (r .owed) && all (λ (n : ℕ). leb n held) (r .leads)
+
+-- ---- those held: live 0 to 32, obligations 0 to 8 each
+pub record HeldLimits (c held : ℕ) (rs : List Remainder) : Type 0 where
+  pub live : length rs ≤ 32
+  pub owe : T (all (λ (r : Remainder). leb (owes r) 8) rs)
+  pub within : T (all (withinLimits c held) rs)

@@ -1,0 +1,55 @@
+-- The run of a monitor of any kind: it is opened with a sheet's bytes and called with a list of instants' bytes; and what it means that its single calls follow the plain machine. Assumes nothing.
+use mathlib.Core.List.{List, [], _∷_}
+use mathlib.Core.Option.{Option, none, some}
+use mathlib.Core.Path.{_≡_}
+use Prim.Native.Nat.{ℕ}
+use Rattle.records.specs.Outcome.{Outcome, taken, refused}
+use Rattle.records.specs.Sheet.{SheetValue, readSheet}
+use Rattle.tesl.specs.Run.{Instant}
+use Rattle.tesl.specs.Answer.{Answer, answer}
+use Rattle.tesl.specs.Machine.{Session, session, accepts, listAfter, reply, held}
+
+-- what opening gives unless it refuses: an answer and a monitor
+pub record Opened (M : Type 0) : Type 0 where
+  pub said : Answer
+  pub monitor : M
+
+-- ---- a run; `Opens sheet outcome`: opening with these bytes had that outcome; `Observes m bytes given m′`: the call from m with these bytes replied so and left m′
+
+-- a list of calls from m, the replies, and the monitor after it
+pub data Calls {M : Type 0} (Observes : M → List ℕ → Outcome Answer → M → Type 0) : M → List (List ℕ) → List (Outcome Answer) → M → Type 0 where
+  no-call : {m : M} → Calls Observes m [] [] m
+  call : {m m′ last : M} {bytes : List ℕ} {given : Outcome Answer} {calls : List (List ℕ)} {replies : List (Outcome Answer)}
+      → Observes m bytes given m′ → Calls Observes m′ calls replies last → Calls Observes m (bytes ∷ calls) (given ∷ replies) last
+
+-- an opening and the calls after it, what was answered, and the last monitor; opening refused yields no monitor to call
+pub data Ran {M : Type 0} (Opens : List ℕ → Outcome (Opened M) → Type 0) (Observes : M → List ℕ → Outcome Answer → M → Type 0)
+    : List ℕ → List (List ℕ) → Session → Option M → Type 0 where
+  not-opened : {sheet : List ℕ} {calls : List (List ℕ)} {n : ℕ} → Opens sheet (refused n) → Ran Opens Observes sheet calls (record { opening = refused n; replies = [] }) none
+  opened : {sheet : List ℕ} {calls : List (List ℕ)} {o : Opened M} {replies : List (Outcome Answer)} {last : M}
+      → Opens sheet (taken o) → Calls Observes (o .monitor) calls replies last → Ran Opens Observes sheet calls (record { opening = taken (o .said); replies = replies }) (some last)
+
+-- ---- single calls and the whole run; `Follows s run m`: m is a monitor of the sheet s after the instants run
+
+module _ {M : Type 0} (Follows : SheetValue → List Instant → M → Type 0) where
+  -- opening: the machine's number, or its answer and a monitor that follows the sheet with no instant
+  pub data Opening (sheet : List ℕ) : Outcome (Opened M) → Type 0 where
+    refuses : {n : ℕ} → readSheet sheet ≡ refused n → Opening sheet (refused n)
+    opens : {s : SheetValue} {o : Opened M} → readSheet sheet ≡ taken s → o .said ≡ answer s [] → Follows s [] (o .monitor) → Opening sheet (taken o)
+
+  -- a call from a monitor that follows s and run: the machine's reply, and a monitor that follows the machine's list after it
+  pub record Observing (s : SheetValue) (run : List Instant) (bytes : List ℕ) (given : Outcome Answer) (m′ : M) : Type 0 where
+    pub same : given ≡ reply s run (accepts s run bytes)
+    pub follows : Follows s (listAfter run (accepts s run bytes)) m′
+
+  -- the whole run: what was answered is the machine's session; where the sheet is read, there is a last monitor and it follows the machine's list
+  pub record SameSession (sheet : List ℕ) (calls : List (List ℕ)) (answered : Session) (last : Option M) : Type 0 where
+    pub same : answered ≡ session sheet calls
+    pub follows : (s : SheetValue) → readSheet sheet ≡ taken s → (m : M) × (last ≡ some m) × Follows s (held s [] calls) m
+
+-- each single call follows the machine
+pub record FollowsMachine {M : Type 0} (Opens : List ℕ → Outcome (Opened M) → Type 0) (Observes : M → List ℕ → Outcome Answer → M → Type 0)
+    (Follows : SheetValue → List Instant → M → Type 0) : Type 0 where
+  pub opening : (sheet : List ℕ) (outcome : Outcome (Opened M)) → Opens sheet outcome → Opening Follows sheet outcome
+  pub observing : (s : SheetValue) (run : List Instant) (m m′ : M) (bytes : List ℕ) (given : Outcome Answer)
+      → Follows s run m → Observes m bytes given m′ → Observing Follows s run bytes given m′

@@ -1,0 +1,86 @@
+-- One instant on a remainder: whether a filled instant may follow, and the remainder after it. Nothing here looks at the run before. Assumes nothing.
+use mathlib.Core.Bool.{Bool, true, false, not, _&&_, _||_}
+use mathlib.Core.List.{List, [], _∷_, _++_, map}
+use mathlib.Core.Option.{Option, some}
+use Prim.Native.Nat.{ℕ, _+_, _-_}
+use lib.Dec.{leb}
+use lib.IntN.{ℤ, _+ℤ_, _*ℤ_}
+use lib.ListN.{getD}
+use Rattle.records.specs.declared.line.Line.{Line}
+use Rattle.records.specs.declared.line.Line.the-variants.{Sporadic, Relation, Implies, Excludes, Delayed, Weakly, Strictly, Kills}
+use Rattle.records.specs.Line.{clocksBelow, kindOf, bodyOf}
+use Rattle.records.specs.Sheet.{SheetValue}
+use Rattle.tesl.specs.Lists.{all, any, filter, flatMap, lastOf, table}
+use Rattle.tesl.specs.Run.{Instant, tagsOf, Filled, ticksAt, tagAt, fillings}
+use Rattle.tesl.specs.Fits.{eqZ, noneFalls, Obligation, meets, owedFrom, notLate}
+use Rattle.tesl.specs.Remainder.{Remainder, stops}
+
+abbrev pub bit : Bool → ℕ
+bit true = 1
+bit false = 0
+
+-- ---- a line at the instant f: does it hold, by the clocks stopped before and the line's lead; and its lead after
+abbrev pub lineOk : Filled → List Bool → Line → ℕ → Bool
+lineOk f stopped (Relation A B p q) lead = eqZ (tagAt f A) (p *ℤ tagAt f B +ℤ q)
+lineOk f stopped (Implies A B) lead = not (ticksAt f A) || ticksAt f B
+lineOk f stopped (Excludes A B) lead = not (ticksAt f A && ticksAt f B)
+lineOk f stopped (Kills A B) lead = not (ticksAt f B && (getD stopped B false || ticksAt f A))
+lineOk f stopped (Weakly A B) lead = leb (bit (ticksAt f B)) (lead + bit (ticksAt f A))
+lineOk f stopped (Strictly A B) lead = leb (bit (ticksAt f B)) lead
+lineOk f stopped (Sporadic A B t) lead = true
+lineOk f stopped (Delayed A B D d) lead = true
+
+abbrev pub nextLead : Filled → Line → ℕ → ℕ
+nextLead f (Weakly A B) lead = lead + bit (ticksAt f A) - bit (ticksAt f B)
+nextLead f (Strictly A B) lead = lead + bit (ticksAt f A) - bit (ticksAt f B)
+nextLead f (Sporadic A B t) lead = 0
+nextLead f (Relation A B p q) lead = 0
+nextLead f (Implies A B) lead = 0
+nextLead f (Excludes A B) lead = 0
+nextLead f (Delayed A B D d) lead = 0
+nextLead f (Kills A B) lead = 0
+
+-- ---- all lines; a line past the end of the leads has lead 0
+abbrev pub linesOk : (Line → ℕ → Bool) → List Line → List ℕ → Bool
+linesOk ok [] leads = true
+linesOk ok (l ∷ ls) [] = ok l 0 && linesOk ok ls []
+linesOk ok (l ∷ ls) (n ∷ leads) = ok l n && linesOk ok ls leads
+
+abbrev pub nextLeads : (Line → ℕ → ℕ) → List Line → List ℕ → List ℕ
+nextLeads after [] leads = []
+nextLeads after (l ∷ ls) [] = after l 0 ∷ nextLeads after ls []
+nextLeads after (l ∷ ls) (n ∷ leads) = after l n ∷ nextLeads after ls leads
+
+-- those that f doesn't meet, then those that f begins
+abbrev pub nextOwed : List Line → Filled → List Obligation → List Obligation
+nextOwed ls f os = filter (λ (o : Obligation). not (meets f o)) os ++ flatMap (owedFrom f) ls
+
+-- ---- a remainder after f
+unfoldable pub next : SheetValue → Filled → Remainder → Remainder
+next s f r = record {
+  owed = nextOwed (s .lines) f (r .owed);
+  leads = nextLeads (nextLead f) (s .lines) (r .leads);
+  stopped = table (s .clocks) (λ k. getD (r .stopped) k false || any (stops (f ∷ []) k) (s .lines));
+}
+
+-- f may follow a run with the remainder r, whose last tags are `last`
+unfoldable pub stepOk : SheetValue → Option (List ℤ) → Filled → Remainder → Bool
+stepOk s last f r =
+    noneFalls (s .clocks) last (f .tags)
+    && linesOk (lineOk f (r .stopped)) (s .lines) (r .leads)
+    && notLate (some (f .tags)) (nextOwed (s .lines) f (r .owed))
+
+-- the tags of a run's last instant
+abbrev pub lastTagsOf : List Instant → Option (List ℤ)
+lastTagsOf run = lastOf (map tagsOf run)
+
+-- the remainders after an instant's fillings that may follow
+unfoldable pub nexts : SheetValue → Option (List ℤ) → Instant → Remainder → List Remainder
+nexts s last i r = map (λ (f : Filled). next s f r) (filter (λ (f : Filled). stepOk s last f r) (fillings i))
+
+-- ---- each clock of a line is below C, as reading has it (7)
+abbrev pub lineBelow : ℕ → Line → Bool
+lineBelow c l = clocksBelow c (kindOf l) (bodyOf l)
+
+abbrev pub wellFormed : SheetValue → Bool
+wellFormed s = all (lineBelow (s .clocks)) (s .lines)

@@ -1,0 +1,50 @@
+-- What a monitor keeps of a run, when that is right, and what observing may find: in any order of work, a reason to answer exhausted, or every successor. Assumes nothing.
+use mathlib.Core.Bool.{not}
+use mathlib.Core.List.{List}
+use mathlib.Core.Logic.{_≢_}
+use mathlib.Core.Option.{Option, some}
+use mathlib.Core.Path.{_≡_}
+use Prim.Native.Nat.{ℕ, suc, _≤_, _<_}
+use lib.Dec.{T, leb}
+use lib.IntN.{ℤ}
+use lib.ListN.{length}
+use Rattle.records.specs.Sheet.{SheetValue}
+use Rattle.tesl.specs.Lists.{all, any}
+use Rattle.tesl.specs.Run.{Instant, tagsOf}
+use Rattle.tesl.specs.Remainder.{Remainder, sameRemainder, owes}
+use Rattle.tesl.specs.Answer.{Answer, exhausted, judged, answer}
+use Rattle.theory.specs.Sets.{apart, Covers, EachOnce}
+use Rattle.theory.specs.Step.{lastTagsOf}
+use Rattle.theory.specs.Held.{Held, successors}
+
+-- of the instants only their number, the last tags and the last answer; and the remainders
+pub record State : Type 0 where
+  pub instants : ℕ
+  pub last : Option (List ℤ)
+  pub said : Answer
+  pub live : List Remainder
+
+-- the state is one after the run; once exhausted, its remainders are free
+pub record Tracks (s : SheetValue) (run : List Instant) (m : State) : Type 0 where
+  pub instants : m .instants ≡ length run
+  pub last : m .last ≡ lastTagsOf run
+  pub said : m .said ≡ answer s run
+  pub live : m .said ≢ exhausted → Held s run (m .live)
+
+-- the state after the instant i, with this answer and these remainders
+abbrev pub stateAfter : State → Instant → Answer → List Remainder → State
+stateAfter m i said live = record { instants = suc (m .instants); last = some (tagsOf i); said = said; live = live }
+
+-- what observing i found of the held ones rs: the answer, and the new ones to hold
+pub data Finding (s : SheetValue) (last : Option (List ℤ)) (i : Instant) (rs : List Remainder) : Answer → List Remainder → Type 0 where
+  -- more than 32 distinct ones among the successors
+  many : {new : List Remainder} (among : List Remainder) → T (apart sameRemainder among) → Covers sameRemainder among (successors s last i rs) → 32 < length among
+      → Finding s last i rs exhausted new
+  -- 32 distinct ones among the successors, and one that is none of them
+  one-more : {new : List Remainder} (among : List Remainder) → T (apart sameRemainder among) → Covers sameRemainder among (successors s last i rs) → 32 ≤ length among
+      → (x : Remainder) → T (any (sameRemainder x) (successors s last i rs)) → T (not (any (sameRemainder x) among)) → Finding s last i rs exhausted new
+  -- one with more than eight obligations among the successors
+  owed : {new : List Remainder} (x : Remainder) → T (any (sameRemainder x) (successors s last i rs)) → 8 < owes x → Finding s last i rs exhausted new
+  -- every successor once, at most 32 with at most eight obligations each
+  every : {new : List Remainder} → EachOnce sameRemainder new (successors s last i rs) → length new ≤ 32 → T (all (λ (r : Remainder). leb (owes r) 8) new)
+      → Finding s last i rs (judged new) new
