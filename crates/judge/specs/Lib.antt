@@ -1,0 +1,3 @@
+-- What the contracts of the monitor's functions cite.
+pub mod View
+pub mod Questions

@@ -1,0 +1,69 @@
+-- What a line asks of an instant, split by what the question depends on: the tags (once per instant), the ticks (once per filling), what a remainder carries.
+-- And what a line makes of what is carried.
+use mathlib.Core.Bool.{Bool, true, false, not, cond, _&&_, _||_}
+use mathlib.Core.List.{List, []}
+use Prim.Native.Nat.{ℕ, _+_}
+use lib.Dec.{leb}
+use lib.IntN.{ℤ, _+ℤ_, _*ℤ_}
+use lib.ListN.{getD, set}
+use Rattle.records.specs.declared.line.Line.{Line}
+use Rattle.records.specs.declared.line.Line.the-variants.{Sporadic, Relation, Implies, Excludes, Delayed, Weakly, Strictly, Kills}
+use Rattle.tesl.specs.Run.{tagIn}
+use Rattle.tesl.specs.Fits.{eqZ}
+use Rattle.theory.specs.Step.{bit, nextLead}
+use Rattle.judge.specs.View.{filledOf}
+
+-- clock k of a list of ticks, or of the stopped clocks
+abbrev pub tickIn : List Bool → ℕ → Bool
+tickIn ticks k = getD ticks k false
+
+-- ---- what a line asks
+
+abbrev pub tagsHold : List ℤ → Line → Bool
+tagsHold tags (Relation A B p q) = eqZ (tagIn tags A) (p *ℤ tagIn tags B +ℤ q)
+tagsHold tags (Sporadic A B t) = true
+tagsHold tags (Implies A B) = true
+tagsHold tags (Excludes A B) = true
+tagsHold tags (Delayed A B D d) = true
+tagsHold tags (Weakly A B) = true
+tagsHold tags (Strictly A B) = true
+tagsHold tags (Kills A B) = true
+
+-- of a kills line: its A at the same instant
+abbrev pub ticksHold : List Bool → Line → Bool
+ticksHold ticks (Implies A B) = not (tickIn ticks A) || tickIn ticks B
+ticksHold ticks (Excludes A B) = not (tickIn ticks A && tickIn ticks B)
+ticksHold ticks (Kills A B) = not (tickIn ticks B && tickIn ticks A)
+ticksHold ticks (Sporadic A B t) = true
+ticksHold ticks (Relation A B p q) = true
+ticksHold ticks (Delayed A B D d) = true
+ticksHold ticks (Weakly A B) = true
+ticksHold ticks (Strictly A B) = true
+
+-- of a kills line: its A at an instant before
+abbrev pub carriedHolds : List Bool → List Bool → Line → ℕ → Bool
+carriedHolds ticks stopped (Kills A B) lead = not (tickIn ticks B && tickIn stopped B)
+carriedHolds ticks stopped (Weakly A B) lead = leb (bit (tickIn ticks B)) (lead + bit (tickIn ticks A))
+carriedHolds ticks stopped (Strictly A B) lead = leb (bit (tickIn ticks B)) lead
+carriedHolds ticks stopped (Sporadic A B t) lead = true
+carriedHolds ticks stopped (Relation A B p q) lead = true
+carriedHolds ticks stopped (Implies A B) lead = true
+carriedHolds ticks stopped (Excludes A B) lead = true
+carriedHolds ticks stopped (Delayed A B D d) lead = true
+
+-- ---- what is carried on
+
+-- a line's lead doesn't depend on the tags
+abbrev pub leadAfter : List Bool → Line → ℕ → ℕ
+leadAfter ticks l lead = nextLead (filledOf ticks []) l lead
+
+-- a clock past the end changes nothing
+abbrev pub stoppedAfter : List Bool → Line → List Bool → List Bool
+stoppedAfter ticks (Kills A B) stopped = cond (tickIn ticks A) (set stopped B true) stopped
+stoppedAfter ticks (Sporadic A B t) stopped = stopped
+stoppedAfter ticks (Relation A B p q) stopped = stopped
+stoppedAfter ticks (Implies A B) stopped = stopped
+stoppedAfter ticks (Excludes A B) stopped = stopped
+stoppedAfter ticks (Delayed A B D d) stopped = stopped
+stoppedAfter ticks (Weakly A B) stopped = stopped
+stoppedAfter ticks (Strictly A B) stopped = stopped
