@@ -90,7 +90,6 @@ held-wide f e = ap (λ (t : ℤ). toZ w64 (ofZ w64 t)) (widened f e) ∙ toZ-ofZ
 
 -- ---- what the machine reads back of a call's result
 
-
 -- of `wide`, handed a tag
 pub held-tag : {z t u : ℤ} → mag t < 32768 → z ≡ toZ w16 (ofZ w16 t) → t ≡ u → toZ w64 (ofZ w64 z) ≡ u
 held-tag h e f = held-wide (record { sfits = h }) e ∙ f
