@@ -16,7 +16,8 @@ use Rattle.tesl.specs.Lists.{any}
 use Rattle.tesl.specs.Run.{Filled, ticksAt}
 use Rattle.tesl.specs.Fits.{lastTags, ticksIn, Obligation}
 use Rattle.tesl.specs.Formula.{instant, Ticking, tag, LastTagAtMost, Holds}
-use Rattle.tesl.proofs.FormulaLists.{and-l, and-r, and-i, or-e, T→≡, ≡→T, any-find, any-has}
+use Rattle.tesl.proofs.Tests.{and-l, and-r, and-i, or-e, T→≡, ≡→T}
+use Rattle.tesl.proofs.FormulaLists.{any-find, any-has}
 use Rattle.tesl.proofs.FormulaParts.{paid, Part}
 use Rattle.tesl.proofs.FormulaOwed.{eqZ→eq, eq→eqZ, noInstant, ticks-below, ticks-with, MetFrom, paid-one}
 

@@ -14,7 +14,8 @@ use Rattle.tesl.specs.Lists.{any}
 use Rattle.tesl.specs.Run.{Filled, ticksAt}
 use Rattle.tesl.specs.Fits.{eqZ, lastTags, ticksIn, Obligation, meets}
 use Rattle.tesl.specs.Formula.{instant, Ticking, tag, ticksBelow, LastTagAtMost}
-use Rattle.tesl.proofs.FormulaLists.{and-l, and-r, and-i, or-l, or-r, or-e, T→≡, ≡→T, any-find, any-has, count-snoc}
+use Rattle.tesl.proofs.Tests.{and-l, and-r, and-i, or-l, or-r, or-e, T→≡, ≡→T}
+use Rattle.tesl.proofs.FormulaLists.{any-find, any-has, count-snoc}
 use Rattle.tesl.proofs.FormulaParts.{onTime, paid}
 
 -- ---- whole numbers

@@ -17,7 +17,8 @@ use Rattle.tesl.specs.Lists.{all, any, flatMap, always}
 use Rattle.tesl.specs.Run.{Filled, tagIn}
 use Rattle.tesl.specs.Fits.{lastTags, noneFalls, holdsAt, fitsAt, Obligation, meets, owedAtStart, owedFrom, unmetBy, unmetLater, unmet, notLate, fits}
 use Rattle.tesl.specs.Formula.{instant}
-use Rattle.tesl.proofs.FormulaLists.{and-l, and-r, and-i, always-each, always-of, all-append, all-true, all-filter}
+use Rattle.tesl.proofs.Tests.{and-l, and-r, and-i}
+use Rattle.tesl.proofs.FormulaLists.{always-each, always-of, all-append, all-true, all-filter}
 
 -- the due is at or above the last on-tag (with no instant it is)
 abbrev pub onTime : Option (List ℤ) → Obligation → Bool

@@ -15,7 +15,8 @@ use Rattle.tesl.specs.Answer.{Answer, exhausted, broken, holding, remainders, t
 use Rattle.theory.specs.Sets.{apart, Covers}
 use Rattle.theory.specs.Step.{lastTagsOf, wellFormed}
 use Rattle.theory.specs.Held.{Held, successors}
-use Rattle.theory.proofs.Lists.{or-l, or-r, or-e, T→≡, F→≡, any-snoc, any-imp, all-as-any, beginnings-snoc, snoc-ind}
+use Rattle.tesl.proofs.Tests.{or-l, or-r, or-e, T→≡}
+use Rattle.theory.proofs.Lists.{F→≡, any-snoc, any-imp, all-as-any, beginnings-snoc, snoc-ind}
 use Rattle.theory.proofs.Held.{held-step, many-found, one-more-found, owed-found, held-tooMany, held-judged, held-start}
 
 -- ---- exhausted, by the beginnings

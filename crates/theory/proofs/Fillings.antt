@@ -11,7 +11,8 @@ use Rattle.tesl.specs.Run.{Instant, ticksOf, tagsOf, Filled, fillTicks, filling
 use Rattle.tesl.specs.Fits.{lastTags, fitsAt, unmet, notLate, fits}
 use Rattle.tesl.specs.Remainder.{Remainder, remainder}
 use Rattle.theory.specs.Step.{next, stepOk, lastTagsOf, nexts, wellFormed}
-use Rattle.theory.proofs.Lists.{and-l, and-under, any-map, any-flatMap, any-filter, any-imp}
+use Rattle.tesl.proofs.Tests.{and-l}
+use Rattle.theory.proofs.Lists.{and-under, any-map, any-flatMap, any-filter, any-imp}
 use Rattle.theory.proofs.Step.{fits-snoc, remainder-snoc}
 
 module _ {A : Type 0} where

@@ -18,7 +18,8 @@ use Rattle.tesl.specs.Answer.{clear, owed, holding, remainders, tooMany, judged
 use Rattle.theory.specs.Sets.{apart, Covers, SameSet, EachOnce}
 use Rattle.theory.specs.Step.{next, stepOk, lastTagsOf, nexts, wellFormed}
 use Rattle.theory.specs.Held.{Held, successors}
-use Rattle.theory.proofs.Lists.{and-l, and-r, and-i, or-e, any-flatMap, any-imp, any-snoc, member-any}
+use Rattle.tesl.proofs.Tests.{and-l, and-r, and-i, or-e}
+use Rattle.theory.proofs.Lists.{any-flatMap, any-imp, any-snoc, member-any}
 use Rattle.theory.proofs.Sets.{any-same, any-set, distinct-set, distinct-apart, length-same, length-le, apart-snoc, fresh}
 use Rattle.theory.proofs.Respect.{remainder-equivalence, owes-same, next-same, stepOk-same}
 use Rattle.theory.proofs.Fillings.{found, any-nexts, found-snoc}

@@ -18,7 +18,8 @@ use Rattle.tesl.specs.Answer.{exhausted, remainders, answer}
 use Rattle.theory.specs.Step.{nextLead, nextLeads, nextOwed, next, stepOk, lastTagsOf, nexts, wellFormed}
 use Rattle.theory.specs.Limits.{dueOk, clocksOk, withinLimits, HeldLimits}
 use Rattle.theory.specs.Held.{Held}
-use Rattle.theory.proofs.Lists.{and-l, and-r, and-i, any-map, any-imp, none-any, all-as-any, snoc-ind, snoc-each}
+use Rattle.tesl.proofs.Tests.{and-l, and-r, and-i}
+use Rattle.theory.proofs.Lists.{any-map, any-imp, none-any, all-as-any, snoc-ind, snoc-each}
 use Rattle.theory.proofs.LineKinds.{law}
 use Rattle.theory.proofs.Owed.{start-all, next-all, start-clocks, next-clocks}
 use Rattle.theory.proofs.Sets.{any-set, distinct-set}

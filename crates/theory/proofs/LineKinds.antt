@@ -15,7 +15,8 @@ use Rattle.tesl.specs.Run.{Filled, ticksAt, tagAt}
 use Rattle.tesl.specs.Fits.{ticksIn, Obligation}
 use Rattle.theory.specs.Step.{bit}
 use Rattle.theory.specs.Limits.{dueOk, clocksOk}
-use Rattle.theory.proofs.Lists.{and-l, and-r, and-i, or-l, or-r, or-e, any-append, any-snoc, count-snoc}
+use Rattle.tesl.proofs.Tests.{and-l, and-r, and-i, or-l, or-r, or-e}
+use Rattle.theory.proofs.Lists.{any-append, any-snoc, count-snoc}
 use Rattle.theory.proofs.Whole.{tag-due, delay-due}
 use Rattle.theory.proofs.Law.{Law, no-lead, no-stop, no-owed, by-instant}
 

@@ -9,45 +9,15 @@ use native.Mathlib.Omega.{arith}
 use lib.Dec.{T}
 use lib.ListN.{getD}
 use Rattle.records.specs.Types.{All}
-use Rattle.tesl.specs.Lists.{all, any, filter, count, lastOf, beginnings, always, flatMap, below, table}
+use Rattle.tesl.proofs.Tests.{and-l, and-r, and-i, or-l, or-r, or-e}
+use Rattle.tesl.specs.Lists.{all, any, filter, count, lastOf, beginnings, always, flatMap, table}
 use Rattle.theory.specs.Step.{bit}
 
 -- ---- tests
 
-pub and-l : (a b : Bool) → T (a && b) → T a
-and-l true b t = tt
-and-l false b t = t
-
-pub and-r : (a b : Bool) → T (a && b) → T b
-and-r true b t = t
-and-r false b t = absurd t
-
-pub and-i : (a b : Bool) → T a → T b → T (a && b)
-and-i true b s t = t
-and-i false b s t = s
-
-pub or-l : (a b : Bool) → T a → T (a || b)
-or-l true b t = tt
-or-l false b t = absurd t
-
-pub or-r : (a b : Bool) → T b → T (a || b)
-or-r true b t = tt
-or-r false b t = t
-
-pub or-e : {X : Type 0} (a b : Bool) → T (a || b) → (T a → X) → (T b → X) → X
-or-e true b t f g = f tt
-or-e false b t f g = g t
-
-pub T→≡ : (a : Bool) → T a → a ≡ true
-T→≡ true t = refl
-T→≡ false t = absurd t
-
 pub F→≡ : (a : Bool) → T (not a) → a ≡ false
 F→≡ true t = absurd t
 F→≡ false t = refl
-
-pub ≡→T : {a : Bool} → a ≡ true → T a
-≡→T e = subst T (sym e) tt
 
 -- two tests that imply each other are equal
 pub bool-ext : (a b : Bool) → (T a → T b) → (T b → T a) → a ≡ b
@@ -62,10 +32,6 @@ and-under true b c h = h tt
 and-under false b c h = refl
 
 module _ {A : Type 0} where
-  pub all-append : (p : A → Bool) (xs ys : List A) → all p (xs ++ ys) ≡ (all p xs && all p ys)
-  all-append p [] ys = refl
-  all-append p (x ∷ xs) ys = ap (λ (b : Bool). p x && b) (all-append p xs ys) ∙ sym (and-assoc (p x) (all p xs) (all p ys))
-
   pub any-append : (p : A → Bool) (xs ys : List A) → any p (xs ++ ys) ≡ (any p xs || any p ys)
   any-append p [] ys = refl
   any-append p (x ∷ xs) ys = ap (λ (b : Bool). p x || b) (any-append p xs ys) ∙ sym (or-assoc (p x) (any p xs) (any p ys))
@@ -209,14 +175,6 @@ module _ {A : Type 0} where
   pub table-ext : (n : ℕ) (f g : ℕ → A) → ((k : ℕ) → k < n → f k ≡ g k) → table n f ≡ table n g
   table-ext zero f g h = refl
   table-ext (suc n) f g h = λ i. h zero (omega arith) i ∷ table-ext n (λ k. f (suc k)) (λ k. g (suc k)) (λ k b. h (suc k) (omega arith)) i
-
-pub below-at : (n : ℕ) (p : ℕ → Bool) (k : ℕ) → k < n → T (below n p) → T (p k)
-below-at zero p k h t = absurd (not-suc-le-zero h)
-below-at (suc n) p k h t = by-place (native.Mathlib.Decide.ℕ-discrete k n) (λ l. below-at n p k l (and-l (below n p) (p n) t))
-  where
-    by-place : Dec (k ≡ n) → (k < n → T (p k)) → T (p k)
-    by-place (yes e) r = subst (λ (j : ℕ). T (p j)) (sym e) (and-r (below n p) (p n) t)
-    by-place (no d) r = r (omega arith)
 
 module _ {A B : Type 0} where
   pub map-snoc : (f : A → B) (xs : List A) (x : A) → map f (xs ++ (x ∷ [])) ≡ map f xs ++ (f x ∷ [])

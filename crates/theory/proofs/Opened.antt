@@ -20,7 +20,8 @@ use Rattle.tesl.specs.Remainder.{Remainder, remainder, sameObligation, sameRema
 use Rattle.tesl.specs.Answer.{answer, judged}
 use Rattle.theory.specs.Step.{bit, lineBelow}
 use Rattle.theory.specs.Limits.{SheetLimits}
-use Rattle.theory.proofs.Lists.{and-l, and-r, and-i, ≡→T, filter-true}
+use Rattle.tesl.proofs.Tests.{and-l, and-r, and-i, ≡→T}
+use Rattle.theory.proofs.Lists.{filter-true}
 use Rattle.theory.proofs.LineKinds.{law}
 use Rattle.theory.proofs.Sets.{distinct-set, distinct-apart, length-le}
 use Rattle.theory.proofs.Respect.{owed-equivalence, owes-same}

@@ -14,8 +14,11 @@ use Rattle.tesl.specs.Run.{Filled, ticksAt, tagIn, tagAt}
 use Rattle.tesl.specs.Fits.{eqZ, noneFalls, Obligation, meets, owedAtStart, owedFrom, unmetBy, unmetLater, unmet, notLate}
 use Rattle.theory.specs.Step.{nextOwed, lineBelow}
 use Rattle.theory.specs.Limits.{clocksOk}
-use Rattle.theory.proofs.Lists.{and-l, and-r, and-i, or-e, all-append, any-snoc, filter-append, filter-filter, filter-true, snoc-ind, all-imp, all-filter, filter-all, all-both, below-at}
-use Rattle.theory.proofs.Whole.{eqZ→eq, leZ-trans}
+use Rattle.tesl.proofs.Tests.{and-l, and-r, and-i, or-e}
+use Rattle.tesl.proofs.FormulaLists.{all-append, below-at}
+use Rattle.tesl.proofs.FormulaOwed.{eqZ→eq}
+use Rattle.theory.proofs.Lists.{any-snoc, filter-append, filter-filter, filter-true, snoc-ind, all-imp, all-filter, filter-all, all-both}
+use Rattle.theory.proofs.Whole.{leZ-trans}
 use Rattle.theory.proofs.LineKinds.{law}
 
 -- ---- one more instant
@@ -93,7 +96,7 @@ one-earlier c was f n o t =
     let met = not (not (meets f o)) in
     let due = leZ (tagAt f (o .on)) (o .due) in
     let on : T (ltb (o .on) c) = and-r (ltb (o .clock) c) (ltb (o .on) c) (and-l (clocksOk c o) (met || due) t) in
-    let up : T (leZ (tagIn was (o .on)) (tagAt f (o .on))) = below-at c (λ k. leZ (tagIn was k) (tagAt f k)) (o .on) (ltb→lt (o .on) c on) n in
+    let up : T (leZ (tagIn was (o .on)) (tagAt f (o .on))) = below-at c (λ k. leZ (tagIn was k) (tagAt f k)) n (o .on) (ltb→lt (o .on) c on) in
     or-e met due (and-r (clocksOk c o) (met || due) t)
     (λ u. subst (λ (z : ℤ). T (leZ (tagIn was (o .on)) z))
     (eqZ→eq (tagAt f (o .on)) (o .due) (and-r (ticksAt f (o .clock)) (eqZ (tagAt f (o .on)) (o .due)) (subst T (Bool·not-not (meets f o)) u))) up)

@@ -15,9 +15,11 @@ use Rattle.tesl.specs.Remainder.{Remainder, sameObligation, sameRemainder, owes
 use lib.Signed.{leZ}
 use Rattle.theory.specs.Sets.{SameSet}
 use Rattle.theory.specs.Step.{next, stepOk, nextOwed}
-use Rattle.theory.proofs.Lists.{and-l, and-r, and-i, any-append, any-filter, all-as-any}
+use Rattle.tesl.proofs.Tests.{and-l, and-r, and-i}
+use Rattle.theory.proofs.Lists.{any-append, any-filter, all-as-any}
 use Rattle.theory.proofs.Sets.{Equivalence, any-set, within→set, covers→within, distinct-length}
-use Rattle.theory.proofs.Whole.{eqZ→eq, eqZ-refl}
+use Rattle.tesl.proofs.FormulaOwed.{eqZ→eq}
+use Rattle.theory.proofs.Whole.{eqZ-refl}
 
 -- ---- obligations: the same are equal
 

@@ -22,7 +22,7 @@ use Rattle.tesl.specs.Fits.{ticksIn, Obligation, unmet, fits}
 use Rattle.tesl.specs.Remainder.{remainder, sameRemainder, sameObligation, owes}
 use Rattle.tesl.specs.Answer.{Standing, clear, owed, exhausted, broken, holding, remainders, tooMany, standing, judged, answer}
 use Rattle.tesl.specs.Formula.{ticksBelow, Holds, NoneFalls, EachHolds}
-use Rattle.tesl.proofs.FormulaLists.{and-l, and-r, or-e, T→≡}
+use Rattle.tesl.proofs.Tests.{and-l, and-r, or-e, T→≡}
 use Rattle.tesl.proofs.FormulaOwed.{ticks-below}
 use Rattle.tesl.proofs.Formula.{fits-holds}
 

@@ -9,7 +9,8 @@ use lib.Dec.{T, T-not, not-T}
 use lib.ListN.{length}
 use Rattle.tesl.specs.Lists.{any, filter, distinct, within}
 use Rattle.theory.specs.Sets.{apart, Covers, SameSet, EachOnce}
-use Rattle.theory.proofs.Lists.{and-l, and-r, and-i, or-l, or-r, or-e, bool-ext, any-imp, any-snoc, any-filter}
+use Rattle.tesl.proofs.Tests.{and-l, and-r, and-i, or-l, or-r, or-e}
+use Rattle.theory.proofs.Lists.{bool-ext, any-imp, any-snoc, any-filter}
 
 pub record Equivalence {A : Type 0} (same : A → A → Bool) : Type 0 where
   pub reflex : (x : A) → T (same x x)

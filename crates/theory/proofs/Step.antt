@@ -13,7 +13,8 @@ use Rattle.tesl.specs.Run.{Filled, ticksAt}
 use Rattle.tesl.specs.Fits.{lastTags, noneFalls, holdsAt, fitsAt, unmet, notLate, fits}
 use Rattle.tesl.specs.Remainder.{leadOf, stops, remainder}
 use Rattle.theory.specs.Step.{lineOk, linesOk, nextLead, nextLeads, nextOwed, next, stepOk, lineBelow, wellFormed}
-use Rattle.theory.proofs.Lists.{and-l, and-r, and-i, or-l, or-r, or-e, T→≡, bool-ext, lastOf-map-snoc, always-snoc, snoc-ind, all-of, all-imp, table-at, table-ext}
+use Rattle.tesl.proofs.Tests.{and-l, and-r, and-i, or-l, or-r, or-e, T→≡}
+use Rattle.theory.proofs.Lists.{bool-ext, lastOf-map-snoc, always-snoc, snoc-ind, all-of, all-imp, table-at, table-ext}
 use Rattle.theory.proofs.Law.{ordered, Quiet}
 use Rattle.theory.proofs.LineKinds.{law}
 use Rattle.theory.proofs.Owed.{unmet-snoc, unmet-clocks, earlier}

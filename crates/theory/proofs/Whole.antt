@@ -1,21 +1,14 @@
 -- Whole numbers: the tests `eqZ` and `leZ`, and the range of a due. Assumes nothing.
 use mathlib.Core.Bool.{true, false, not, cond}
-use mathlib.Core.Path.{_≡_, ap}
 use Prim.Native.Nat.{ℕ, suc, _+_, _-_, _≤_, _<_}
 use native.Mathlib.Omega.{arith}
-use lib.Dec.{T, leb, ltb, leb→le, le→leb, ltb→lt, nltb→le, eqb→eq, eqb-refl}
+use lib.Dec.{T, leb, ltb, leb→le, le→leb, ltb→lt, nltb→le, eqb-refl}
 use lib.IntN.{ℤ, pos, negsuc, _+ℤ_, subℕ}
 use lib.Signed.{leZ}
 use Rattle.records.specs.Types.{IsTag}
 use Rattle.tesl.specs.Fits.{eqZ}
 use Rattle.theory.specs.Limits.{dueOk}
-use Rattle.theory.proofs.Lists.{and-i}
-
-pub eqZ→eq : (a b : ℤ) → T (eqZ a b) → a ≡ b
-eqZ→eq (pos a) (pos b) t = ap pos (eqb→eq a b t)
-eqZ→eq (pos a) (negsuc b) t = absurd t
-eqZ→eq (negsuc a) (pos b) t = absurd t
-eqZ→eq (negsuc a) (negsuc b) t = ap negsuc (eqb→eq a b t)
+use Rattle.tesl.proofs.Tests.{and-i}
 
 pub eqZ-refl : (a : ℤ) → T (eqZ a a)
 eqZ-refl (pos a) = eqb-refl a
