@@ -14,7 +14,7 @@ use Rattle.records.specs.declared.line.Line.{Line}
 use Rattle.records.specs.Sheet.{SheetValue}
 use Rattle.tesl.specs.Run.{Filled}
 use Rattle.tesl.specs.Fits.{lastTags, noneFalls, fits}
-use Rattle.tesl.specs.Formula.{instant, tag, NoneFalls, EachHolds}
+use Rattle.tesl.specs.Formula.{instant, tag, NoneFalls, EachHolds, noInstant}
 use Rattle.tesl.proofs.FormulaLists.{below-at, below-of, lastOf-snoc}
 use Rattle.tesl.proofs.FormulaParts.{NoneFallsAt, EachPart, fits-by-line}
 use Rattle.tesl.proofs.FormulaLines.{line-law}
@@ -30,7 +30,7 @@ falls-law C run = (
 )
   where
     before : (n : ℕ) → suc n < length run → lastTags (take (suc n) run) ≡ some ((instant run n) .tags)
-    before n b = ap lastTags (take-suc run n (record { ticks = []; tags = [] }) (omega arith)) ∙ lastOf-snoc (λ (f : Filled). f .tags) (take n run) (instant run n)
+    before n b = ap lastTags (take-suc run n noInstant (omega arith)) ∙ lastOf-snoc (λ (f : Filled). f .tags) (take n run) (instant run n)
 
 each-law : (ls : List Line) (run : List Filled) → EachPart ls run ↔ EachHolds ls run
 each-law [] run = (λ u. u, λ u. u)

@@ -15,11 +15,11 @@ use Rattle.records.specs.declared.line.Line.the-variants.{Sporadic, Relation, I
 use Rattle.tesl.specs.Lists.{any}
 use Rattle.tesl.specs.Run.{Filled, ticksAt}
 use Rattle.tesl.specs.Fits.{lastTags, ticksIn, Obligation}
-use Rattle.tesl.specs.Formula.{instant, Ticking, tag, LastTagAtMost, Holds}
+use Rattle.tesl.specs.Formula.{instant, Ticking, tag, LastTagAtMost, Holds, noInstant}
 use Rattle.tesl.proofs.Tests.{and-l, and-r, and-i, or-e, T→≡, ≡→T}
 use Rattle.tesl.proofs.FormulaLists.{any-find, any-has}
 use Rattle.tesl.proofs.FormulaParts.{paid, Part}
-use Rattle.tesl.proofs.FormulaOwed.{eqZ→eq, eq→eqZ, noInstant, ticks-below, ticks-with, MetFrom, paid-one}
+use Rattle.tesl.proofs.FormulaOwed.{eqZ→eq, eq→eqZ, ticks-below, ticks-with, MetFrom, paid-one}
 
 module _ (run : List Filled) (A B : ℕ) where
   -- K's ticks up to and with instant n

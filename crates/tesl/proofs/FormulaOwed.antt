@@ -13,7 +13,7 @@ use lib.Seq.{take-suc, getD-drop}
 use Rattle.tesl.specs.Lists.{any}
 use Rattle.tesl.specs.Run.{Filled, ticksAt}
 use Rattle.tesl.specs.Fits.{eqZ, lastTags, ticksIn, Obligation, meets}
-use Rattle.tesl.specs.Formula.{instant, Ticking, tag, ticksBelow, LastTagAtMost}
+use Rattle.tesl.specs.Formula.{instant, Ticking, tag, ticksBelow, LastTagAtMost, noInstant}
 use Rattle.tesl.proofs.Tests.{and-l, and-r, and-i, or-l, or-r, or-e, T→≡, ≡→T}
 use Rattle.tesl.proofs.FormulaLists.{any-find, any-has, count-snoc}
 use Rattle.tesl.proofs.FormulaParts.{onTime, paid}
@@ -34,10 +34,6 @@ pub eq→eqZ : {a b : ℤ} → a ≡ b → T (eqZ a b)
 eq→eqZ {a} e = subst (λ (z : ℤ). T (eqZ a z)) e (eqZ-refl a)
 
 -- ---- ticks below an instant
-
--- what `instant` gives past the end
-abbrev pub noInstant : Filled
-noInstant = record { ticks = []; tags = [] }
 
 pub ticks-below : (run : List Filled) (K n : ℕ) → n ≤ length run → ticksIn K (take n run) ≡ ticksBelow run K n
 ticks-below run K zero h = refl

@@ -16,7 +16,7 @@ use Rattle.records.specs.Sheet.{SheetValue}
 use Rattle.tesl.specs.Lists.{all, any, flatMap, always}
 use Rattle.tesl.specs.Run.{Filled, tagIn}
 use Rattle.tesl.specs.Fits.{lastTags, noneFalls, holdsAt, fitsAt, Obligation, meets, owedAtStart, owedFrom, unmetBy, unmetLater, unmet, notLate, fits}
-use Rattle.tesl.specs.Formula.{instant}
+use Rattle.tesl.specs.Formula.{instant, noInstant}
 use Rattle.tesl.proofs.Tests.{and-l, and-r, and-i}
 use Rattle.tesl.proofs.FormulaLists.{always-each, always-of, all-append, all-true, all-filter}
 
@@ -103,7 +103,7 @@ fits-parts s run = (there, back)
 
     there : T (fits s run) → NoneFallsAt (s .clocks) run × Parts (s .lines) run
     there t =
-        let a = always-each (fitsAt s) [] run (record { ticks = []; tags = [] }) (and-l (always (fitsAt s) [] run) (notLate (lastTags run) (unmet (s .lines) run)) t) in
+        let a = always-each (fitsAt s) [] run noInstant (and-l (always (fitsAt s) [] run) (notLate (lastTags run) (unmet (s .lines) run)) t) in
         let b = subst T (unmet-paid (s .lines) run) (and-r (always (fitsAt s) [] run) (notLate (lastTags run) (unmet (s .lines) run)) t) in (
           λ n h. and-l (steady n) (lines n) (a n h),
           record {
@@ -115,7 +115,7 @@ fits-parts s run = (there, back)
 
     back : NoneFallsAt (s .clocks) run × Parts (s .lines) run → T (fits s run)
     back p = and-i (always (fitsAt s) [] run) (notLate (lastTags run) (unmet (s .lines) run))
-        (always-of (fitsAt s) [] run (record { ticks = []; tags = [] }) (λ n h. and-i (steady n) (lines n) (p .0 n h) (p .1 .at-each n h)))
+        (always-of (fitsAt s) [] run noInstant (λ n h. and-i (steady n) (lines n) (p .0 n h) (p .1 .at-each n h)))
         (subst T (sym (unmet-paid (s .lines) run)) (and-i start rest (p .1 .from-start) (later-of (lastTags run) (s .lines) run (p .1 .begun-there))))
 
 -- ---- line by line

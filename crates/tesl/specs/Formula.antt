@@ -12,9 +12,12 @@ use Rattle.records.specs.declared.line.Line.{Line}
 use Rattle.records.specs.declared.line.Line.the-variants.{Sporadic, Relation, Implies, Excludes, Delayed, Weakly, Strictly, Kills}
 use Rattle.tesl.specs.Run.{Filled, ticksAt, tagAt}
 
--- instant number n of a run, from 0
+-- instant number n of a run, from 0; past its end no clock ticks
+abbrev pub noInstant : Filled
+noInstant = record { ticks = []; tags = [] }
+
 abbrev pub instant : List Filled → ℕ → Filled
-instant run n = getD run n (record { ticks = []; tags = [] })
+instant run n = getD run n noInstant
 
 -- clock K ticks at instant n; K's tag there
 abbrev pub Ticking : List Filled → ℕ → ℕ → Type 0
