@@ -1,4 +1,5 @@
-// The monitor's inner functions: what one line, one obligation and one clock say of a filled instant.
+// The monitor's inner functions: what clocks, obligations and lines say of a filled instant.
 mod clock;
 mod line;
+mod lines;
 mod obligation;

@@ -1,0 +1,16 @@
+-- What all lines of a sheet make of what is carried.
+use mathlib.Core.Bool.{Bool}
+use mathlib.Core.List.{List, [], _∷_}
+use Prim.Native.Nat.{ℕ}
+use lib.ListN.{getD}
+use Rattle.records.specs.declared.line.Line.{Line}
+use Rattle.judge.specs.Questions.{stoppedAfter}
+
+-- line i's lead
+abbrev pub leadIn : List ℕ → ℕ → ℕ
+leadIn leads i = getD leads i 0
+
+-- the stopped clocks after an instant, line by line
+abbrev pub allStopped : List Bool → List Line → List Bool → List Bool
+allStopped ticks [] stopped = stopped
+allStopped ticks (l ∷ ls) stopped = allStopped ticks ls (stoppedAfter ticks l stopped)
