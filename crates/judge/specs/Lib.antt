@@ -2,3 +2,4 @@
 pub mod View
 pub mod Questions
 pub mod Lines
+pub mod Owed

@@ -1,0 +1,78 @@
+-- `owes` meets its contract: the loop has found none so far, or stops at the one that it found. Assumes nothing.
+use mathlib.Core.Bool.{false}
+use mathlib.Core.Path.{_≡_, refl, sym, _∙_}
+use Prim.Native.Nat.{_-_, _≤_}
+use native.Mathlib.Omega.{arith}
+use borrow.Author.Needs.{needs}
+use Rattle.tesl.specs.Lists.{any}
+use Rattle.tesl.specs.Remainder.{sameObligation}
+use Rattle.judge.specs.View.{obligationOf, firstOf}
+use Rattle.judge.proofs.Places.{any-next, any-hit}
+use Rattle.judge.proofs.remainder.Laws.{blank}
+use Rattle.judge.proofs.remainder.owes.Statement.{statement}
+use Rattle.judge.proofs.remainder.owes.Tie as tie
+
+abbrev Inv-loop : tie.InvT-loop
+Inv-loop o r n i₀ i = (i ≤ n) × (any (sameObligation (obligationOf o)) (firstOf i (r .obligations)) ≡ false)
+
+abbrev μ-loop : tie.MeasureT-loop
+μ-loop o r n i₀ i = n - i
+
+owed-count-requires : tie.Need-owed-count-requires Inv-loop μ-loop
+owed-count-requires c κs = search needs
+
+loop-holds : tie.Need-loop-holds Inv-loop μ-loop
+loop-holds c = (omega arith, refl)
+
+mul-same-obligation : tie.Need-mul-same-obligation Inv-loop μ-loop
+mul-same-obligation c = search needs
+
+element-copy-out-same-obligation : tie.Need-element-copy-out-same-obligation Inv-loop μ-loop
+element-copy-out-same-obligation c = search needs
+
+same-obligation-requires : tie.Need-same-obligation-requires Inv-loop μ-loop
+same-obligation-requires c κs = search needs
+
+returns : tie.Need-returns Inv-loop μ-loop
+returns c =
+    let at = c .before .before .before .before in
+    let s = at .before .before .args in
+    let oc = at .before .owed-count .ensures in
+    sym (rw (sym (oc .1 .1)) (any-hit obligationOf (s .t1 .obligations) (sameObligation (obligationOf (s .o))) blank (at .before .owed-count .result) (at .loop .i) (omega arith) (omega arith) (sym (c .before .same-obligation .ensures) ∙ c .if1 .taken)))
+
+add-i : tie.Need-add-i Inv-loop μ-loop
+add-i c = search needs
+
+loop-less : tie.Need-loop-less Inv-loop μ-loop
+loop-less c = search needs
+
+loop-again : tie.Need-loop-again Inv-loop μ-loop
+loop-again c =
+    let at = c .before .before .before .before in
+    let s = at .before .before .args in
+    let oc = at .before .owed-count .ensures in
+    (omega arith, any-next obligationOf (s .t1 .obligations) (sameObligation (obligationOf (s .o))) blank (at .loop .i) (omega arith) (at .loop .inv .1) (sym (c .before .same-obligation .ensures) ∙ c .if1 .left))
+
+returns-2 : tie.Need-returns-2 Inv-loop μ-loop
+returns-2 c =
+    let at = c .before in
+    let oc = at .before .owed-count .ensures in
+    let e : at .before .owed-count .result ≡ at .loop .i = omega arith in
+    sym (rw (sym (oc .1 .1), e) (at .loop .inv .1))
+
+pub owes-spec : {M : Type 1} → statement M
+owes-spec =
+    tie.close
+    (tie.spec
+    Inv-loop
+    μ-loop
+    owed-count-requires
+    loop-holds
+    mul-same-obligation
+    element-copy-out-same-obligation
+    same-obligation-requires
+    returns
+    add-i
+    loop-less
+    loop-again
+    returns-2)
