@@ -1,4 +1,4 @@
--- The lift examples L1 to L11 of document 01, and one of a product beyond 16 bits: one statement, a row each, by computation. Assumes nothing.
+-- The lift examples L1 to L11 of document 01, and four of our own (refused calls, 4,000 instants, the whole log, a product beyond 16 bits): one statement, a row each, by computation. Assumes nothing.
 use mathlib.Core.Bool.{Bool, true, false}
 use mathlib.Core.List.{List, [], _∷_, _++_, map}
 use mathlib.Core.Path.{_≡_, refl}
@@ -8,7 +8,8 @@ use Rattle.records.specs.declared.instant.Tick.{Tick}
 use Rattle.records.specs.declared.instant.Tick.the-variants.{Idle, Ticks, Unseen}
 use Rattle.records.specs.declared.line.Line.{Line}
 use Rattle.records.specs.declared.line.Line.the-variants.{Sporadic, Relation, Implies, Excludes, Delayed, Weakly, Strictly, Kills}
-use Rattle.records.specs.Outcome.{taken}
+use Rattle.records.specs.Outcome.{taken, refused}
+use Rattle.records.specs.Lists.{joined}
 use Rattle.records.specs.Word.{signed, tagOf}
 use Rattle.records.specs.Record.{isTorn, front, cut}
 use Rattle.records.specs.Line.{lengthOf, clocksOf, lineOf}
@@ -18,7 +19,7 @@ use Rattle.tesl.specs.Run.{Instant, fillings, runFillings}
 use Rattle.tesl.specs.Fits.{fits}
 use Rattle.tesl.specs.Remainder.{remainder, sameRemainder, owes}
 use Rattle.tesl.specs.Answer.{exhausted, broken, holding, clear, owed, remainders, tooMany, judged, answer}
-use Rattle.tesl.specs.Machine.{accepts, machine, session}
+use Rattle.tesl.specs.Machine.{unlessFull, accepts, machine, session, judgeLog}
 
 -- a sheet of c clocks with one line
 abbrev sheet : ℕ → Line → SheetValue
@@ -54,6 +55,32 @@ reading = sheet 2 (Sporadic 0 1 (negsuc 0))
 
 abbrev idle : Instant
 idle = two Idle (pos 0) Idle (negsuc 0)
+
+-- the listing: the sheet's bytes and the five records
+abbrev lift : List ℕ
+lift = 0x01 ∷ 0x00 ∷ 0x01 ∷ 0x00 ∷ 0x02 ∷ 0x05 ∷ 0x00 ∷ 0x14 ∷ 0x00 ∷ 0x00 ∷ 0x00 ∷ 0x01 ∷ 0x02 ∷ 0x00 ∷ []
+
+abbrev first : List ℕ
+first = 0x06 ∷ 0x00 ∷ 0x20 ∷ 0x00 ∷ 0x01 ∷ 0xFD ∷ 0xFF ∷ 0x00 ∷ 0x00 ∷ 0x00 ∷ []
+
+abbrev second : List ℕ
+second = 0x06 ∷ 0x00 ∷ 0x20 ∷ 0x00 ∷ 0x02 ∷ 0xFE ∷ 0xFF ∷ 0x00 ∷ 0x00 ∷ 0x00 ∷ []
+
+abbrev instants : List (List ℕ)
+instants =
+    first
+    ∷ second
+    ∷ (0x06 ∷ 0x00 ∷ 0x20 ∷ 0x00 ∷ 0x00 ∷ 0xFF ∷ 0xFF ∷ 0x01 ∷ 0x00 ∷ 0x00 ∷ [])
+    ∷ (0x06 ∷ 0x00 ∷ 0x20 ∷ 0x00 ∷ 0x00 ∷ 0x01 ∷ 0x00 ∷ 0x00 ∷ 0x00 ∷ 0x00 ∷ [])
+    ∷ (0x06 ∷ 0x00 ∷ 0x20 ∷ 0x00 ∷ 0x00 ∷ 0x00 ∷ 0x00 ∷ 0x00 ∷ 0x00 ∷ 0x00 ∷ [])
+    ∷ []
+
+-- the first record with kind 31, and with tick byte 3
+abbrev otherKind : List ℕ
+otherKind = 0x06 ∷ 0x00 ∷ 0x1F ∷ 0x00 ∷ 0x01 ∷ 0xFD ∷ 0xFF ∷ 0x00 ∷ 0x00 ∷ 0x00 ∷ []
+
+abbrev tickThree : List ℕ
+tickThree = 0x06 ∷ 0x00 ∷ 0x20 ∷ 0x00 ∷ 0x03 ∷ 0xFD ∷ 0xFF ∷ 0x00 ∷ 0x00 ∷ 0x00 ∷ []
 
 pub record Examples : Type 0 where
   -- raw 65533 is -3; 32767 is 32,767; 32768 is -32,768
@@ -104,24 +131,37 @@ pub record Examples : Type 0 where
   L10 : (answer (delay 100) five ≡ holding 32 clear) × (answer (delay 100) (five ++ (alone Unseen 6 ∷ [])) ≡ exhausted)
   -- the listing, from its bytes: what opening answers, and each instant
   L11 :
-      session (0x01 ∷ 0x00 ∷ 0x01 ∷ 0x00 ∷ 0x02 ∷ 0x05 ∷ 0x00 ∷ 0x14 ∷ 0x00 ∷ 0x00 ∷ 0x00 ∷ 0x01 ∷ 0x02 ∷ 0x00 ∷ [])
-      ((0x06 ∷ 0x00 ∷ 0x20 ∷ 0x00 ∷ 0x01 ∷ 0xFD ∷ 0xFF ∷ 0x00 ∷ 0x00 ∷ 0x00 ∷ [])
-      ∷ (0x06 ∷ 0x00 ∷ 0x20 ∷ 0x00 ∷ 0x02 ∷ 0xFE ∷ 0xFF ∷ 0x00 ∷ 0x00 ∷ 0x00 ∷ [])
-      ∷ (0x06 ∷ 0x00 ∷ 0x20 ∷ 0x00 ∷ 0x00 ∷ 0xFF ∷ 0xFF ∷ 0x01 ∷ 0x00 ∷ 0x00 ∷ [])
-      ∷ (0x06 ∷ 0x00 ∷ 0x20 ∷ 0x00 ∷ 0x00 ∷ 0x01 ∷ 0x00 ∷ 0x00 ∷ 0x00 ∷ 0x00 ∷ [])
-      ∷ (0x06 ∷ 0x00 ∷ 0x20 ∷ 0x00 ∷ 0x00 ∷ 0x00 ∷ 0x00 ∷ 0x00 ∷ 0x00 ∷ 0x00 ∷ [])
-      ∷ [])
+      session lift instants
       ≡ record {
         opening = taken (holding 1 clear);
         replies = taken (holding 1 owed) ∷ taken (holding 2 owed) ∷ taken (holding 2 clear) ∷ taken (holding 1 clear) ∷ taken broken ∷ [];
       }
+  -- refused calls among them change nothing and get their numbers: no bytes, kind 31, tick byte 3
+  calls :
+      session lift (first ∷ [] ∷ otherKind ∷ tickThree ∷ second ∷ [])
+      ≡ record {
+        opening = taken (holding 1 clear);
+        replies = taken (holding 1 owed) ∷ refused 12 ∷ refused 13 ∷ refused 15 ∷ taken (holding 2 owed) ∷ [];
+      }
+  -- 16: the 4,000th instant is taken, one more is refused, and a fault of its own comes first
+  full :
+      (unlessFull 3999 (taken idle) ≡ taken idle)
+      × (unlessFull 4000 (taken idle) ≡ refused 16)
+      × (unlessFull 4000 (refused 15) ≡ refused 15)
+  -- the whole log: the last answer and the count; opening's for an empty log; a torn and a faulty record with the count before it; the sheet's own number first
+  log :
+      (judgeLog lift (joined instants) ≡ record { outcome = taken broken; instants = 5 })
+      × (judgeLog lift [] ≡ record { outcome = taken (holding 1 clear); instants = 0 })
+      × (judgeLog lift (first ++ second ++ (0x06 ∷ 0x00 ∷ 0x20 ∷ [])) ≡ record { outcome = refused 12; instants = 2 })
+      × (judgeLog lift (first ++ otherKind ++ tickThree) ≡ record { outcome = refused 13; instants = 1 })
+      × (judgeLog [] first ≡ record { outcome = refused 1; instants = 0 })
   -- 0 = 300 × 1 + 0: tags 24464, 300 don't fit, though 300 × 300 in 16 bits is 24464
   product :
       (fitting (sheet 2 (Relation 0 1 (pos 300) (pos 0))) (two Idle (pos 24464) Idle (pos 300) ∷ []) ≡ false ∷ [])
       × (answer (sheet 2 (Relation 0 1 (pos 300) (pos 0))) (two Idle (pos 24464) Idle (pos 300) ∷ []) ≡ broken)
 
 pub examples : Examples
-unfolding signed isTorn front cut lengthOf clocksOf lineOf readSheet tickOf rawCells readInstant fillings runFillings fits remainder sameRemainder owes remainders tooMany judged answer accepts machine session
+unfolding signed isTorn front cut lengthOf clocksOf lineOf readSheet tickOf rawCells readInstant fillings runFillings fits remainder sameRemainder owes remainders tooMany judged answer accepts machine session judgeLog
 examples = record {
   L1 = (refl, refl, refl);
   L2 = (refl, refl);
@@ -134,5 +174,8 @@ examples = record {
   L9 = (refl, refl, refl, refl);
   L10 = (refl, refl);
   L11 = refl;
+  calls = refl;
+  full = (refl, refl, refl);
+  log = (refl, refl, refl, refl, refl);
   product = (refl, refl);
 }

@@ -1,1 +1,1 @@
-// What TESL means here: definitions only, in specs/.
+// What TESL means here: the definitions are in specs/, and proofs/ shows that fitting is TESL's, formula by formula. It has no function.
