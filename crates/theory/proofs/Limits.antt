@@ -1,11 +1,13 @@
--- The limits of a remainder (refusal 11): the step keeps them from any remainder within them, and what is held after a run is within them, at most 32 with at most 8 obligations each, unless exhausted. Assumes nothing.
+-- The limits of a remainder (refusal 11): the step keeps them from any remainder and any held ones within them, and what is held after a run is within them, at most 32 with at most 8 obligations each, unless exhausted. Assumes nothing.
 use mathlib.Core.Bool.{Bool, not, _&&_, or-false}
 use mathlib.Core.List.{List, [], _∷_, _++_, map}
 use mathlib.Core.Logic.{_≢_}
+use mathlib.Core.Option.{Option}
 use mathlib.Core.Path.{_≡_, sym, ap, _∙_, subst}
 use Prim.Native.Nat.{ℕ, zero, suc}
 use native.Mathlib.Omega.{arith}
 use lib.Dec.{T, T-not, not-T, leb, leb→le, le→leb}
+use lib.IntN.{ℤ}
 use lib.ListN.{length, length-append}
 use Rattle.records.specs.declared.line.Line.{Line}
 use Rattle.records.specs.Sheet.{SheetValue}
@@ -17,9 +19,10 @@ use Rattle.tesl.specs.Remainder.{Remainder, leadOf, remainder, sameRemainder, o
 use Rattle.tesl.specs.Answer.{exhausted, remainders, answer}
 use Rattle.theory.specs.Step.{nextLead, nextLeads, nextOwed, next, stepOk, lastTagsOf, nexts, wellFormed}
 use Rattle.theory.specs.Limits.{dueOk, clocksOk, withinLimits, HeldLimits}
-use Rattle.theory.specs.Held.{Held}
+use Rattle.theory.specs.Sets.{EachOnce}
+use Rattle.theory.specs.Held.{Held, successors}
 use Rattle.tesl.proofs.Tests.{and-l, and-r, and-i}
-use Rattle.theory.proofs.Lists.{any-map, any-imp, none-any, all-as-any, snoc-ind, snoc-each}
+use Rattle.theory.proofs.Lists.{any-map, any-flatMap, any-imp, none-any, all-as-any, snoc-ind, snoc-each}
 use Rattle.theory.proofs.LineKinds.{law}
 use Rattle.theory.proofs.Owed.{start-all, next-all, start-clocks, next-clocks}
 use Rattle.theory.proofs.Sets.{any-set, distinct-set}
@@ -95,20 +98,24 @@ module _ (s : SheetValue) (wf : T (wellFormed s)) (values : All IsLineValue (s .
   beyond : ℕ → Remainder → Bool
   beyond held r = not (withinLimits (s .clocks) held r)
 
+  beyond-same : (held : ℕ) (x y : Remainder) → T (sameRemainder x y) → T (beyond held x) → T (beyond held y)
+  unfolding beyond
+  beyond-same held x y e u = subst (λ (b : Bool). T (not b)) (same-within (s .clocks) held x y e) u
+
   -- a successor beyond the limits has a remainder beyond them before it
-  nexts-within : (run : List Instant) (i : Instant) → IsInstant i → (held : ℕ) (r : Remainder) → T (any (beyond (suc held)) (nexts s (lastTagsOf run) i r)) → T (beyond held r)
+  nexts-within : (last : Option (List ℤ)) (i : Instant) → IsInstant i → (held : ℕ) (r : Remainder) → T (any (beyond (suc held)) (nexts s last i r)) → T (beyond held r)
   unfolding beyond fillings
-  nexts-within run i h held r t = not-T (withinLimits (s .clocks) held r) (λ w.
+  nexts-within last i h held r t = not-T (withinLimits (s .clocks) held r) (λ w.
       none-any (λ (b : List Bool). late (filledBy b)) (fillTicks (ticksOf i))
-      (λ b u. T-not (withinLimits (s .clocks) (suc held) (next s (filledBy b) r)) (and-r (stepOk s (lastTagsOf run) (filledBy b) r) (beyond (suc held) (next s (filledBy b) r)) u)
+      (λ b u. T-not (withinLimits (s .clocks) (suc held) (next s (filledBy b) r)) (and-r (stepOk s last (filledBy b) r) (beyond (suc held) (next s (filledBy b) r)) u)
       (next-within (filledBy b) (instant-tags i h) held r w))
-      (subst T (any-nexts s (lastTagsOf run) i (beyond (suc held)) r ∙ any-map late filledBy (fillTicks (ticksOf i))) t))
+      (subst T (any-nexts s last i (beyond (suc held)) r ∙ any-map late filledBy (fillTicks (ticksOf i))) t))
     where
       filledBy : List Bool → Filled
       filledBy b = record { ticks = b; tags = tagsOf i }
 
       late : Filled → Bool
-      late f = stepOk s (lastTagsOf run) f r && beyond (suc held) (next s f r)
+      late f = stepOk s last f r && beyond (suc held) (next s f r)
 
   found-within : (run : List Instant) → All IsInstant run → T (any (beyond (length run)) (found s run)) → ⊥
   unfolding beyond fits runFillings
@@ -117,10 +124,20 @@ module _ (s : SheetValue) (wf : T (wellFormed s)) (values : All IsLineValue (s .
       (λ run i ih h t.
       let r = snoc-each IsInstant run h in
       let n : length (run ++ (i ∷ [])) ≡ suc (length run) = omega (arith, length-append run (i ∷ [])) in
-      ih (r .0) (any-imp (λ (x : Remainder). any (beyond (suc (length run))) (nexts s (lastTagsOf run) i x)) (beyond (length run)) (found s run) (nexts-within run i (r .1) (length run))
+      ih (r .0) (any-imp (λ (x : Remainder). any (beyond (suc (length run))) (nexts s (lastTagsOf run) i x)) (beyond (length run)) (found s run) (nexts-within (lastTagsOf run) i (r .1) (length run))
       (subst T (found-snoc s wf run i (beyond (suc (length run)))) (subst (λ (m : ℕ). T (any (beyond m) (found s (run ++ (i ∷ []))))) n t))))
 
   -- ---- what is held
+
+  -- from any held ones within the limits, whether a run has them or not
+  pub successors-within : (last : Option (List ℤ)) (i : Instant) → IsInstant i → (held : ℕ) (rs new : List Remainder) → EachOnce sameRemainder new (successors s last i rs)
+      → T (all (withinLimits (s .clocks) held) rs) → T (all (withinLimits (s .clocks) (suc held)) new)
+  unfolding beyond successors
+  successors-within last i h held rs new e w =
+      subst T (sym (all-as-any (withinLimits (s .clocks) (suc held)) new)) (not-T (any (beyond (suc held)) new)
+      (λ t. T-not (any (beyond held) rs) (subst T (all-as-any (withinLimits (s .clocks) held) rs) w)
+      (any-imp (λ (r : Remainder). any (beyond (suc held)) (nexts s last i r)) (beyond held) rs (nexts-within last i h held)
+      (subst T (any-set sameRemainder remainder-equivalence (beyond (suc held)) (beyond-same (suc held)) new (successors s last i rs) (e .these) ∙ any-flatMap (beyond (suc held)) (nexts s last i) rs) t))))
 
   pub held-within : (run : List Instant) (rs : List Remainder) → All IsInstant run → answer s run ≢ exhausted → Held s run rs → HeldLimits (s .clocks) (length run) rs
   unfolding remainders beyond
@@ -131,6 +148,6 @@ module _ (s : SheetValue) (wf : T (wellFormed s)) (values : All IsLineValue (s .
         owe = few .1;
         within = subst T (sym (all-as-any (withinLimits (s .clocks) (length run)) rs)) (not-T (any (beyond (length run)) rs)
             (λ t. found-within run h (subst T
-            (any-set sameRemainder remainder-equivalence (beyond (length run)) (λ x y e u. subst (λ (b : Bool). T (not b)) (same-within (s .clocks) (length run) x y e) u) rs (found s run)
+            (any-set sameRemainder remainder-equivalence (beyond (length run)) (beyond-same (length run)) rs (found s run)
             (λ x. held .these x ∙ distinct-set sameRemainder remainder-equivalence (found s run) x)) t)));
       }

@@ -2,12 +2,13 @@
 use mathlib.Core.List.{List, [], _∷_, _++_, List·Memᴰ}
 use mathlib.Core.Option.{Option, none}
 use mathlib.Core.Path.{_≡_, refl, sym, _∙_, subst}
-use Prim.Native.Nat.{_<_}
+use Prim.Native.Nat.{ℕ, suc, _<_}
 use native.Mathlib.Omega.{arith}
 use lib.Dec.{T}
 use lib.IntN.{ℤ}
 use lib.ListN.{length, length-append}
 use Rattle.records.specs.Sheet.{SheetValue}
+use Rattle.records.specs.Types.{IsInstant}
 use Rattle.tesl.specs.Run.{Instant, tagsOf, Filled, fillings}
 use Rattle.tesl.specs.Fits.{Obligation}
 use Rattle.tesl.specs.Remainder.{Remainder, remainder, sameObligation, sameRemainder}
@@ -22,7 +23,7 @@ use Rattle.theory.proofs.Lists.{lastOf-map-snoc}
 use Rattle.theory.proofs.Tidy.{owes-more}
 use Rattle.theory.proofs.Held.{successor-found, held-start, held-step}
 use Rattle.theory.proofs.Answers.{exhausted-stays, exhausted-by-many, exhausted-by-one-more, exhausted-by-owed, answer-next}
-use Rattle.theory.proofs.Limits.{held-within}
+use Rattle.theory.proofs.Limits.{held-within, successors-within}
 use Rattle.theory.proofs.Opened.{opening-answer}
 
 -- a held one, a filling that may follow it, and nine distinct ones among the obligations then unmet or begun
@@ -68,3 +69,12 @@ pub tracks-within : (s : SheetValue) → SheetLimits s → (run : List Instant) 
     → HeldLimits (s .clocks) (m .instants) (m .live)
 tracks-within s l run r m h n =
     rw (h .instants) (held-within s (l .clocks-below) (l .values) run (m .live) (r .values) (λ e. n (h .said ∙ e)) (h .live n))
+
+-- from any held ones within the limits, whether a run has them or not: what was found stays within them
+pub finding-within : (s : SheetValue) → SheetLimits s → (last : Option (List ℤ)) (i : Instant) → IsInstant i → (instants : ℕ) {rs new : List Remainder} {said : Answer}
+    → HeldLimits (s .clocks) instants rs → Finding s last i rs said new → said ≢ exhausted → HeldLimits (s .clocks) (suc instants) new
+finding-within s l last i h instants w (many among a c k) n = absurd (n refl)
+finding-within s l last i h instants w (one-more among a c k x t u) n = absurd (n refl)
+finding-within s l last i h instants w (owed x t k) n = absurd (n refl)
+finding-within s l last i h instants {rs = rs} {new = new} w (every e k o) n =
+    record { live = k; owe = o; within = successors-within s (l .clocks-below) (l .values) last i h instants rs new e (w .within) }
