@@ -1,3 +1,5 @@
 pub mod Whole
 pub mod Questions
 pub mod Places
+pub mod work
+pub mod Demands

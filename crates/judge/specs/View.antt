@@ -1,19 +1,35 @@
 -- The code's structs as tesl's values.
-use mathlib.Core.Bool.{Bool, cond}
+use mathlib.Core.Bool.{Bool, true, false, cond, _&&_}
 use mathlib.Core.List.{List, [], _∷_, map}
 use mathlib.Core.Option.{Option, none, some}
 use Prim.Native.Nat.{ℕ}
+use lib.Dec.{leb}
 use lib.IntN.{ℤ}
 use lib.ListN.{take}
+use Rattle.records.specs.declared.line.Line.{Line}
+use Rattle.records.specs.declared.line.Line.the-variants.{Sporadic, Relation, Implies, Excludes, Delayed, Weakly, Strictly, Kills}
+use Rattle.records.specs.declared.instant.Tick.{Tick}
+use Rattle.records.specs.declared.instant.TickSlot.{TickSlot}
+use Rattle.records.specs.Sheet.{SheetValue}
+use Rattle.tesl.specs.Lists.{all}
 use Rattle.tesl.specs.Run.{Filled}
 use Rattle.tesl.specs.Fits.{Obligation}
 use Rattle.tesl.specs.Remainder.{Remainder}
+use Rattle.theory.specs.Step.{nextLeads}
 use Rattle.judge.specs.declared.obligation.Obligation as code
 use Rattle.judge.specs.declared.line.Begun.{Begun}
 use Rattle.judge.specs.declared.line.Begun.the-variants.{Nothing, Owed}
 use Rattle.judge.specs.declared.remainder.Remainder as arrays
 use Rattle.judge.specs.declared.remainder.Added.{Added}
 use Rattle.judge.specs.declared.remainder.Kept.{Kept}
+use Rattle.judge.specs.declared.started.Started.{Started}
+use Rattle.judge.specs.declared.advance.Step.{Step}
+use Rattle.judge.specs.declared.advance.Step.the-variants as step
+use Rattle.judge.specs.declared.advance.Advanced as moved
+use Rattle.judge.specs.declared.held.Count.{Count}
+use Rattle.judge.specs.declared.held.Count.the-variants.{Exhausted, Live}
+use Rattle.judge.specs.declared.held.Held.{Held}
+use Rattle.judge.specs.Advanced.{Advanced, fails, over, onto}
 
 abbrev pub obligationOf : code.Obligation → Obligation
 obligationOf o = record { clock = o .clock; due = o .due; on = o .on }
@@ -45,3 +61,79 @@ addedOf s = cond (s .over) none (some (remainderOf (s .next)))
 
 abbrev pub keptOf : Kept → Option Remainder
 keptOf s = cond (s .late) none (some (remainderOf (s .next)))
+
+-- ---- the places in use
+
+-- a lead in use: a precedes line's; any other line has none, and reads 0
+abbrev pub inUse : Line → ℕ → ℕ
+inUse (Weakly A B) lead = lead
+inUse (Strictly A B) lead = lead
+inUse (Sporadic A B t) lead = 0
+inUse (Relation A B p q) lead = 0
+inUse (Implies A B) lead = 0
+inUse (Excludes A B) lead = 0
+inUse (Delayed A B D d) lead = 0
+inUse (Kills A B) lead = 0
+
+-- of the sheet's lines the leads in use, and its clocks
+abbrev pub cut : SheetValue → Remainder → Remainder
+cut v r = record { owed = r .owed; leads = nextLeads inUse (v .lines) (r .leads); stopped = take (v .clocks) (r .stopped) }
+
+-- a remainder of a sheet; unused places are no part of it
+abbrev pub viewOf : SheetValue → arrays.Remainder → Remainder
+viewOf v r = cut v (remainderOf r)
+
+-- ---- what is worked on
+
+-- what the lines begin
+abbrev pub startedOf : Started → List Obligation
+startedOf s = firstOf (s .count) (s .obligations)
+
+abbrev pub stepOf : Step → Remainder → Advanced
+stepOf step.Fails r = fails
+stepOf step.Over r = over
+stepOf step.Fits r = onto r
+
+abbrev pub advancedOf : SheetValue → moved.Advanced → Advanced
+advancedOf v a = stepOf (a .step) (viewOf v (a .next))
+
+-- those held; `none` once exhausted, when none is held
+abbrev pub heldIn : SheetValue → Count → List arrays.Remainder → Option (List Remainder)
+heldIn v Exhausted rs = none
+heldIn v (Live n) rs = some (map (viewOf v) (take n rs))
+
+abbrev pub heldOf : SheetValue → Held → Option (List Remainder)
+heldOf v h = heldIn v (h .count) (h .remainders)
+
+abbrev pub live : Option (List Remainder) → List Remainder
+live none = []
+live (some rs) = rs
+
+abbrev pub liveOf : SheetValue → Held → List Remainder
+liveOf v h = live (heldOf v h)
+
+abbrev pub isNone : {A : Type 0} → Option A → Bool
+isNone none = true
+isNone (some x) = false
+
+-- the ticks of an instant of c clocks
+abbrev pub seenOf : ℕ → List TickSlot → List Tick
+seenOf c seen = map (λ (t : TickSlot). t .tick) (take c seen)
+
+-- the last tags, of all eight clocks; none before the first instant
+abbrev pub lastOf : Bool → List ℤ → Option (List ℤ)
+lastOf first was = cond first none (some was)
+
+-- ---- counts that their arrays have room for
+
+abbrev pub stepSized : Step → ℕ → Bool
+stepSized step.Fails n = true
+stepSized step.Over n = true
+stepSized step.Fits n = leb n 8
+
+abbrev pub sizedIn : Count → List arrays.Remainder → Bool
+sizedIn Exhausted rs = true
+sizedIn (Live n) rs = leb n 32 && all (λ (r : arrays.Remainder). leb (r .owed) 8) (take n rs)
+
+abbrev pub sized : Held → Bool
+sized h = sizedIn (h .count) (h .remainders)

@@ -13,7 +13,7 @@ ghost use lib.Dec.{leb};
 ghost use lib.IntN.{_+ℤ_, _*ℤ_};
 ghost use Rattle.tesl.specs.Fits.{eqZ, owedFrom};
 ghost use Rattle.theory.specs.Step.{bit};
-ghost use Rattle.judge.specs.View.{filledOf, begunOf};
+ghost use Rattle.judge.specs.View.{filledOf, begunOf, inUse};
 ghost use Rattle.judge.specs.Questions.{tagsHold, ticksHold, carriedHolds, leadAfter, stoppedAfter};
 
 // What a line begins at an instant.
@@ -114,7 +114,7 @@ fn less_one(b: bool, lead: u16) -> u16
 
 // The lead of a line after an instant.
 pub(crate) fn lead_after(l: Line, ticks: [bool; 8], lead: u16) -> u16
-    requires { ⌜ lead < 65535 ⌝ }
+    requires { ⌜ inUse l lead < 65535 ⌝ }
     ensures { λ r. ⌜ r ≡ leadAfter ticks l lead ⌝ }
 {
     match l {

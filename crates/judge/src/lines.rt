@@ -6,8 +6,8 @@ use crate::line::stopped_after;
 use crate::line::tags_hold;
 use crate::line::ticks_hold;
 use crate::obligation::wide;
-use records::line::Line;
 use records::sheet::Sheet;
+use records::sheet::line_at;
 ghost use mathlib.Core.Path.{_≡_};
 ghost use mathlib.Core.List.{_++_};
 ghost use Prim.Native.Nat.{ℕ, _<_, _≤_};
@@ -19,16 +19,8 @@ ghost use Rattle.tesl.specs.Lists.{all, below};
 ghost use Rattle.tesl.specs.Run.{tagIn};
 ghost use Rattle.theory.specs.Step.{linesOk, nextLeads};
 ghost use Rattle.judge.specs.Questions.{tagsHold, ticksHold, carriedHolds, leadAfter};
+ghost use Rattle.judge.specs.View.{inUse};
 ghost use Rattle.judge.specs.Lines.{leadIn, allStopped};
-
-fn line_at(s: Sheet, i: usize) -> Line
-    requires { ⌜ i < 16 ⌝ }
-    ensures { λ r. ⌜ r ≡ lineAt s i ⌝ }
-{
-    let slot = s.lines[i];
-    let l = slot.line;
-    l
-}
 
 // What the lines ask of the tags alone.
 pub(crate) fn all_tags_hold(s: Sheet, tags: [i16; 8]) -> bool
@@ -126,7 +118,7 @@ pub(crate) fn all_stopped_after(s: Sheet, ticks: [bool; 8], stopped: [bool; 8]) 
 
 // The leads after an instant; those past the last line stay.
 pub(crate) fn all_leads_after(s: Sheet, ticks: [bool; 8], leads: [u16; 16]) -> [u16; 16]
-    requires { ⌜ (s .count ≤ 16) × ((i : ℕ) → leadIn leads i < 65535) ⌝ }
+    requires { ⌜ (s .count ≤ 16) × ((i : ℕ) → i < s .count → inUse (lineAt s i) (leadIn leads i) < 65535) ⌝ }
     ensures { λ r. ⌜ r ≡ nextLeads (leadAfter ticks) (sheetValue s .lines) (listed (leadIn leads) (s .count)) ++ drop (s .count) leads ⌝ }
 {
     let n = s.count;

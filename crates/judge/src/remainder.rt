@@ -65,7 +65,7 @@ fn push(r: Remainder, o: Obligation) -> Remainder
 
 // An obligation counts once.
 pub(crate) fn add(r: Remainder, o: Obligation) -> Added
-    ensures { λ s. ⌜ addedOf s ≡ added (remainderOf r) (obligationOf o) ⌝ }
+    ensures { λ s. ⌜ (addedOf s ≡ added (remainderOf r) (obligationOf o)) × (r .owed ≤ 8 → s .next .owed ≤ 8) ⌝ }
 {
     if owes(r, o) {
         return Added {
@@ -85,7 +85,7 @@ pub(crate) fn add(r: Remainder, o: Obligation) -> Added
 
 // What r owes that a filled instant doesn't meet.
 pub(crate) fn keep(r: Remainder, ticks: [bool; 8], tags: [i16; 8]) -> Kept
-    ensures { λ s. ⌜ keptOf s ≡ kept (filledOf ticks tags) (remainderOf r) ⌝ }
+    ensures { λ s. ⌜ (keptOf s ≡ kept (filledOf ticks tags) (remainderOf r)) × (s .next .owed ≤ 8) ⌝ }
 {
     let n = owed_count(r);
     let mut next = r;

@@ -76,6 +76,10 @@ module _ {A : Type 0} where
     all-drop (suc n) [] h = tt
     all-drop (suc n) (x ∷ xs) h = all-drop n xs (h .1)
 
+    pub all-snoc : (xs : List A) {x : A} → All P xs → P x → All P (xs ++ (x ∷ []))
+    all-snoc [] h p = (p, tt)
+    all-snoc (y ∷ xs) h p = (h .0, all-snoc xs (h .1) p)
+
   -- ---- places
   later : (f : ℕ → A) (i n : ℕ) → listedFrom f (i + 1) n ≡ listedFrom (λ j. f (suc j)) i n
   unfolding listedFrom

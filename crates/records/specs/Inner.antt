@@ -1,5 +1,6 @@
--- What the contracts of inner functions cite beside the definitions above: the same outcomes in the inner functions' own types.
+-- What contracts cite beside the definitions above: the same outcomes in the functions' own types.
 use Prim.Native.Nat.{ℕ, _+_}
+use mathlib.Core.Path.{_≡_}
 use mathlib.Core.Bool.{cond}
 use mathlib.Core.List.{List, [], _∷_, map}
 use lib.ListN.{length, set}
@@ -12,12 +13,13 @@ use Rattle.records.specs.declared.line.Shape.{Shape}
 use Rattle.records.specs.declared.line.LineRead.{LineRead}
 use Rattle.records.specs.declared.line.LineRead.the-variants as line
 use Rattle.records.specs.declared.record.Answer.{Answer}
-use Rattle.records.specs.declared.record.Answer.the-variants as answer
+use Rattle.records.specs.declared.record.Answer.the-variants.{Done, Refused}
 use Rattle.records.specs.Outcome.{Outcome, taken, refused, _⇒_, decide}
 use Rattle.records.specs.Record.{Piece}
 use Rattle.records.specs.Line.{isLine, isSporadic, lengthOf, clocksOf}
-use Rattle.records.specs.Sheet.{SheetValue, lineIn, slotOf, linesChecks, valueLinesChecks}
+use Rattle.records.specs.Sheet.{SheetValue, lineIn, slotOf, sheetValue, linesChecks, valueLinesChecks, sheetValueChecks}
 use Rattle.records.specs.Instant.{Cell, rawCells, tickAbove, cellOf, tickSlot}
+use Rattle.records.specs.Types.{All, IsLineValue, IsSheet}
 
 -- what the table of kinds says
 abbrev pub shapeOf : ℕ → Shape
@@ -33,8 +35,8 @@ lineRead (taken l) = line.Read l
 lineRead (refused n) = line.Refused n
 
 abbrev pub answered : {A : Type 0} → Outcome A → Answer
-answered (taken v) = answer.Done
-answered (refused n) = answer.Refused n
+answered (taken v) = Done
+answered (refused n) = Refused n
 
 -- the sheet of c clocks whose lines are these records, or the first refusal among them
 unfoldable pub sheetFrom : ℕ → List Piece → Outcome SheetValue
@@ -43,6 +45,18 @@ sheetFrom c lines = decide (linesChecks c [] lines) (record { clocks = c; lines 
 -- the first refusal among a value's lines
 unfoldable pub linesFault : SheetValue → Outcome SheetValue
 linesFault v = decide (valueLinesChecks (v .clocks) [] (v .lines)) v
+
+-- what checking a sheet answers
+pub record Checked (s : Sheet) (r : Answer) : Type 0 where
+  -- the first refusal that applies, or none
+  pub answer : r ≡ answered (decide (sheetValueChecks (sheetValue s)) (sheetValue s))
+  -- the types of the code bound the value's numbers
+  pub value : r ≡ Done → IsSheet (sheetValue s)
+
+-- the same of its lines alone
+pub record LinesChecked (s : Sheet) (r : Answer) : Type 0 where
+  pub answer : r ≡ answered (linesFault (sheetValue s))
+  pub values : r ≡ Done → All IsLineValue (sheetValue s .lines)
 
 -- the clocks of a body, or 15
 unfoldable pub cellsRead : List ℕ → Outcome (List Cell)

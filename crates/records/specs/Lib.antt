@@ -6,7 +6,7 @@ pub mod Record
 pub mod Line
 pub mod Sheet
 pub mod Instant
--- What a buffer holds after writing, what the types give, and what the contracts of inner functions cite.
+-- What a buffer holds after writing, what the types give, and what contracts cite beside these.
 pub mod Store
 pub mod Types
 pub mod Inner

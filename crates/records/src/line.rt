@@ -17,6 +17,7 @@ ghost use Rattle.records.specs.Lists.{filled};
 ghost use Rattle.records.specs.Record.{whole};
 ghost use Rattle.records.specs.Line.{isLine, isSporadic, lengthOf, allBelow, lineChecks, valueLineChecks, lineOf, kindOf, bodyOf, lineBytes};
 ghost use Rattle.records.specs.Store.{puts};
+ghost use Rattle.records.specs.Types.{IsLineValue};
 ghost use Rattle.records.specs.Inner.{shapeOf, sporadicOf, lineRead, answered};
 
 pub enum Line {
@@ -197,9 +198,9 @@ pub(crate) fn kind_of(l: Line) -> u16
     }
 }
 
-// A line's body at the front of six bytes.
+// A line's body at the front of six bytes; each field is within its type.
 fn body_of(l: Line) -> [u8; 6]
-    ensures { λ r. ⌜ r ≡ filled 6 0 (bodyOf l) ⌝ }
+    ensures { λ r. ⌜ (r ≡ filled 6 0 (bodyOf l)) × IsLineValue l ⌝ }
 {
     match l {
         Line::Sporadic { a, b, t } => {
@@ -222,7 +223,7 @@ fn body_of(l: Line) -> [u8; 6]
 
 // A line of a value to write, `spent` sporadic lines standing before it: 7, 9.
 pub(crate) fn check_line(l: Line, clocks: u8, spent: usize) -> Answer
-    ensures { λ r. ⌜ r ≡ answered (decide (valueLineChecks clocks spent (kindOf l) (bodyOf l)) l) ⌝ }
+    ensures { λ r. ⌜ (r ≡ answered (decide (valueLineChecks clocks spent (kindOf l) (bodyOf l)) l)) × IsLineValue l ⌝ }
 {
     let kind = kind_of(l);
     let shape = line_shape(kind);

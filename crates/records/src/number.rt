@@ -69,7 +69,7 @@ pub const DELAYED_BODY: usize = 5;
 
 pub const CELL_LENGTH: usize = 3;
 
-// Limits: clocks and lines of a sheet, sporadic lines among them, instants of a run.
+// Limits: clocks and lines of a sheet, sporadic lines among them, instants of a run, distinct remainders held, obligations of each.
 pub const MAX_CLOCKS: u8 = 8;
 
 pub const MAX_LINES: usize = 16;
@@ -77,3 +77,7 @@ pub const MAX_LINES: usize = 16;
 pub const MAX_SPORADIC: usize = 8;
 
 pub const MAX_INSTANTS: usize = 4000;
+
+pub const MAX_LIVE: usize = 32;
+
+pub const MAX_OWED: usize = 8;

@@ -21,8 +21,9 @@ ghost use lib.ListN.{length, drop};
 ghost use Rattle.records.specs.Store.{puts, wrote};
 ghost use Rattle.records.specs.Outcome.{refused};
 ghost use Rattle.records.specs.Record.{pieces};
+ghost use Rattle.records.specs.Line.{blankLine};
 ghost use Rattle.records.specs.Sheet.{clockCount, lineAt, sheetValue, sheetOf, sheetRead, readSheet, sheetBytes, writeSheet};
-ghost use Rattle.records.specs.Inner.{answered, withLine, sheetFrom, linesFault};
+ghost use Rattle.records.specs.Inner.{withLine, sheetFrom, LinesChecked, Checked};
 
 pub struct Sheet {
     pub clocks: u8,
@@ -47,10 +48,16 @@ pub(crate) fn clock_count(clocks: u8) -> bool
     }
 }
 
+fn blank_line() -> Line
+    ensures { λ r. ⌜ r ≡ blankLine ⌝ }
+{
+    Line::Sporadic { a: 0, b: 0, t: 0 }
+}
+
 fn blank_sheet(clocks: u8) -> Sheet
     ensures { λ r. ⌜ r ≡ sheetOf (record { clocks = clocks; lines = [] }) ⌝ }
 {
-    let line = Line::Sporadic { a: 0, b: 0, t: 0 };
+    let line = blank_line();
     let lines = [Slot { line }; 16];
     Sheet {
         clocks,
@@ -134,19 +141,23 @@ pub fn read_sheet(bytes: &[u8]) -> SheetRead
     }
 }
 
-fn line_at(s: Sheet, i: usize) -> Line
-    requires { ⌜ i < 16 ⌝ }
+// The line at a place; past the sixteenth stands the blank line.
+pub fn line_at(s: Sheet, i: usize) -> Line
     ensures { λ r. ⌜ r ≡ lineAt s i ⌝ }
 {
-    let slot = s.lines[i];
-    let l = slot.line;
-    l
+    if i < number::MAX_LINES {
+        let slot = s.lines[i];
+        let l = slot.line;
+        l
+    } else {
+        blank_line()
+    }
 }
 
 // 7 and 9, line by line.
 fn check_lines(s: Sheet) -> Answer
     requires { ⌜ s .count ≤ 16 ⌝ }
-    ensures { λ r. ⌜ r ≡ answered (linesFault (sheetValue s)) ⌝ }
+    ensures { λ r. ⌜ LinesChecked s r ⌝ }
 {
     let n = s.count;
     let clocks = s.clocks;
@@ -165,6 +176,21 @@ fn check_lines(s: Sheet) -> Answer
         }
     }
     Answer::Done
+}
+
+// Whether a sheet value is within its limits: 4; 8; then line by line 7, 9.
+pub fn check_sheet(sheet: Sheet) -> Answer
+    ensures { λ r. ⌜ Checked sheet r ⌝ }
+{
+    let clocks = sheet.clocks;
+    if !clock_count(clocks) {
+        return Answer::Refused(number::CLOCK_COUNT);
+    }
+    let count = sheet.count;
+    if number::MAX_LINES < count {
+        return Answer::Refused(number::SEVENTEENTH_LINE);
+    }
+    check_lines(sheet)
 }
 
 // How many bytes a sheet's records take.
@@ -205,15 +231,7 @@ fn put_sheet(s: Sheet, buffer: &mut [u8])
 pub fn write_sheet(sheet: Sheet, buffer: &mut [u8]) -> Written
     ensures { λ r. ⌜ wrote r (now (buffer .exit)) ≡ writeSheet (sheetValue sheet) (now (buffer .entry)) ⌝ }
 {
-    let clocks = sheet.clocks;
-    if !clock_count(clocks) {
-        return Written::Refused(number::CLOCK_COUNT);
-    }
-    let count = sheet.count;
-    if number::MAX_LINES < count {
-        return Written::Refused(number::SEVENTEENTH_LINE);
-    }
-    match check_lines(sheet) {
+    match check_sheet(sheet) {
         Answer::Refused(n) => Written::Refused(n),
         Answer::Done => {
             let size = sheet_size(sheet);

@@ -27,7 +27,7 @@ use Rattle.theory.proofs.Fillings.{found, any-nexts, found-snoc}
 -- ---- the successors
 
 -- a test of the successors is one of the held ones and the fillings
-successors-any : (s : SheetValue) (last : Option (List ℤ)) (i : Instant) (p : Remainder → Bool) (rs : List Remainder)
+pub successors-any : (s : SheetValue) (last : Option (List ℤ)) (i : Instant) (p : Remainder → Bool) (rs : List Remainder)
     → any p (successors s last i rs) ≡ any (λ (r : Remainder). any (λ (f : Filled). stepOk s last f r && p (next s f r)) (fillings i)) rs
 unfolding successors
 successors-any s last i p rs = any-flatMap p (nexts s last i) rs ∙ ap (λ (q : Remainder → Bool). any q rs) (fun-ext (λ r. any-nexts s last i p r))

@@ -22,6 +22,7 @@ use Rattle.tesl.specs.Fits.{ticksIn, Obligation, unmet, fits}
 use Rattle.tesl.specs.Remainder.{remainder, sameRemainder, sameObligation, owes}
 use Rattle.tesl.specs.Answer.{Standing, clear, owed, exhausted, broken, holding, remainders, tooMany, standing, judged, answer}
 use Rattle.tesl.specs.Formula.{ticksBelow, Holds, NoneFalls, EachHolds}
+use Rattle.theory.specs.Seen.{isSeen, Seen, ticked, seenRun}
 use Rattle.tesl.proofs.Tests.{and-l, and-r, or-e, T→≡}
 use Rattle.tesl.proofs.FormulaOwed.{ticks-below}
 use Rattle.tesl.proofs.Formula.{fits-holds}
@@ -67,22 +68,6 @@ never-ahead s run t = each (s .lines) (((fits-holds s run) .0 t) .1)
     each (l ∷ ls) h = (line-ordered l run (h .0), each ls (h .1))
 
 -- ---- a run without unseen ticks, and its one filling
-
-abbrev pub isSeen : Tick → Bool
-isSeen Idle = true
-isSeen Ticks = true
-isSeen Unseen = false
-
-abbrev pub Seen : List Instant → Type 0
-Seen run = T (all (λ (i : Instant). all isSeen (ticksOf i)) run)
-
-abbrev pub ticked : Tick → Bool
-ticked Idle = false
-ticked Ticks = true
-ticked Unseen = false
-
-abbrev pub seenRun : List Instant → List Filled
-seenRun run = map (λ (i : Instant). record { ticks = map ticked (ticksOf i); tags = tagsOf i }) run
 
 one-tick-list : (ts : List Tick) → T (all isSeen ts) → fillTicks ts ≡ map ticked ts ∷ []
 one-tick-list [] t = refl

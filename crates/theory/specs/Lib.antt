@@ -5,3 +5,4 @@ pub mod Held
 pub mod Limits
 pub mod Tracks
 pub mod Session
+pub mod Seen

@@ -12,7 +12,7 @@ use Rattle.records.specs.declared.line.Line.{Line}
 use Rattle.records.specs.declared.line.Line.the-variants.{Sporadic, Relation, Implies, Excludes, Delayed, Weakly, Strictly, Kills}
 use Rattle.tesl.specs.Fits.{Obligation, owedFrom}
 use Rattle.theory.specs.Step.{bit}
-use Rattle.judge.specs.View.{filledOf}
+use Rattle.judge.specs.View.{filledOf, inUse}
 use Rattle.judge.specs.Questions.{tagsHold, ticksHold, carriedHolds, leadAfter, stoppedAfter}
 
 pub bit-le : (b : Bool) → bit b ≤ 1
@@ -62,7 +62,7 @@ rest-carried ticks stopped (Excludes A B) lead h = refl
 rest-carried ticks stopped (Delayed A B D d) lead h = refl
 
 -- all but the two precedes
-abbrev lead-keys : List ℕ
+abbrev pub lead-keys : List ℕ
 lead-keys = 0 ∷ 1 ∷ 2 ∷ 3 ∷ 4 ∷ 7 ∷ []
 
 pub rest-lead : (ticks : List Bool) (l : Line) (lead : ℕ) → OneOf lead-keys (tagOf the-type l) → 0 ≡ leadAfter ticks l lead
@@ -74,6 +74,17 @@ rest-lead ticks (Implies A B) lead h = refl
 rest-lead ticks (Excludes A B) lead h = refl
 rest-lead ticks (Delayed A B D d) lead h = refl
 rest-lead ticks (Kills A B) lead h = refl
+
+-- a line without a lead
+pub unused : (l : Line) (lead : ℕ) → OneOf lead-keys (tagOf the-type l) → inUse l lead ≡ 0
+unused (Weakly A B) lead h = absurd (miss lead-keys 5 tt h)
+unused (Strictly A B) lead h = absurd (miss lead-keys 6 tt h)
+unused (Sporadic A B t) lead h = refl
+unused (Relation A B p q) lead h = refl
+unused (Implies A B) lead h = refl
+unused (Excludes A B) lead h = refl
+unused (Delayed A B D d) lead h = refl
+unused (Kills A B) lead h = refl
 
 -- all but kills
 abbrev stopped-keys : List ℕ

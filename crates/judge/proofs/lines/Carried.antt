@@ -35,6 +35,10 @@ as-many ticks (Delayed A B D d) stopped = refl
 as-many ticks (Weakly A B) stopped = refl
 as-many ticks (Strictly A B) stopped = refl
 
+pub all-as-many : (ticks : List Bool) (ls : List Line) (stopped : List Bool) → length (allStopped ticks ls stopped) ≡ length stopped
+all-as-many ticks [] stopped = refl
+all-as-many ticks (l ∷ ls) stopped = all-as-many ticks ls (stoppedAfter ticks l stopped) ∙ as-many ticks l stopped
+
 or-assoc : (a b c : Bool) → ((a || b) || c) ≡ (a || (b || c))
 or-assoc true b c = refl
 or-assoc false b c = refl

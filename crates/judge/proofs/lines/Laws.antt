@@ -92,10 +92,20 @@ module _ (ticks : List Bool) (s : Sheet) (n i : ℕ) (stopped : List Bool) {whol
   pub stopped-more : i < n → (l : Line) → l ≡ lineAt s i → (after : List Bool) → after ≡ stoppedAfter ticks l stopped → whole ≡ stoppedFrom ticks s n (i + 1) after
   stopped-more h l e after f = w ∙ rw (listed-cons (lineAt s) n i h, f, e)
 
+-- ---- what each line makes of its lead, place by place
+module _ (after : Line → ℕ → ℕ) (s : Sheet) (leads : List ℕ) where
+  abbrev pub leadAt : ℕ → ℕ
+  leadAt i = after (lineAt s i) (leadIn leads i)
+
+  pub pairs : (i n : ℕ) → listedFrom leadAt i n ≡ nextLeads after (listedFrom (lineAt s) i n) (listedFrom (leadIn leads) i n)
+  unfolding listedFrom
+  pairs i zero = refl
+  pairs i (suc n) = ap (λ (xs : List ℕ). leadAt i ∷ xs) (pairs (i + 1) n)
+
 -- ---- the leads: those of the lines below i are next, the rest as before
 module _ (ticks : List Bool) (s : Sheet) (leads : List ℕ) where
   abbrev next : ℕ → ℕ
-  next i = leadAfter ticks (lineAt s i) (leadIn leads i)
+  next i = leadAt (leadAfter ticks) s leads i
 
   abbrev pub leadsTo : ℕ → List ℕ
   leadsTo i = listed next i ++ drop i leads
@@ -104,14 +114,9 @@ module _ (ticks : List Bool) (s : Sheet) (leads : List ℕ) where
   unfolding listedFrom
   leads-start = refl
 
-  pairs : (i n : ℕ) → listedFrom next i n ≡ nextLeads (leadAfter ticks) (listedFrom (lineAt s) i n) (listedFrom (leadIn leads) i n)
-  unfolding listedFrom
-  pairs i zero = refl
-  pairs i (suc n) = ap (λ (xs : List ℕ). next i ∷ xs) (pairs (i + 1) n)
-
   module _ (i : ℕ) (after : List ℕ) (w : after ≡ leadsTo i) where
     pub leads-end : (n : ℕ) → i ≤ n → n ≤ i → after ≡ nextLeads (leadAfter ticks) (listed (lineAt s) n) (listed (leadIn leads) n) ++ drop n leads
-    leads-end n g h = let k : i ≡ n = omega arith in w ∙ rw (k, pairs 0 n)
+    leads-end n g h = let k : i ≡ n = omega arith in w ∙ rw (k, pairs (leadAfter ticks) s leads 0 n)
 
     pub leads-more : i < length leads → (l : Line) → l ≡ lineAt s i → (x : ℕ) → x ≡ leadAfter ticks l (leadIn leads i) → set after i x ≡ leadsTo (i + 1)
     leads-more h l e x f =

@@ -5,8 +5,8 @@ use mathlib.Core.List.{List, [], _∷_, _++_, map}
 use Prim.Native.Nat.{ℕ, suc, _+_, _-_, _<_, _≤_}
 use native.Mathlib.Omega.{arith}
 use lib.ListN.{length, set, length-append}
-use lib.Dec.{ltb}
-use borrow.Author.Tests.{le-ltb, lt-ltb, not-true, not-false}
+use lib.Dec.{leb, ltb}
+use borrow.Author.Tests.{le-ltb, lt-ltb, ltb-false, leb-true, not-true, not-false}
 use Rattle.records.specs.declared.line.Line.{Line}
 use Rattle.records.specs.declared.sheet.Sheet.{Sheet}
 use Rattle.records.specs.declared.record.Answer.{Answer}
@@ -17,9 +17,10 @@ use Rattle.records.specs.Lists.{listedFrom, listed, joined}
 use Rattle.records.specs.Word.{wordBytes}
 use Rattle.records.specs.Store.{puts, wrote, leaves}
 use Rattle.records.specs.Line.{isSporadic, sporadics, valueLineChecks, kindOf, bodyOf, lineBytes}
-use Rattle.records.specs.Sheet.{clockCount, lineAt, sheetValue, valueLinesChecks, sheetBytes, writeSheet}
-use Rattle.records.specs.Inner.{sporadicOf, answered, linesFault}
-use Rattle.records.proofs.Lists.{Passed, taken-passed, decide-passed, decide-refused, listed-cons, listed-end, listed-snoc, length-listed, map-append}
+use Rattle.records.specs.Sheet.{clockCount, lineAt, sheetValue, valueLinesChecks, sheetValueChecks, sheetBytes, writeSheet}
+use Rattle.records.specs.Types.{All, IsLineValue}
+use Rattle.records.specs.Inner.{sporadicOf, answered, linesFault, LinesChecked, Checked}
+use Rattle.records.proofs.Lists.{both, Passed, taken-passed, decide-passed, decide-refused, all-snoc, listed-cons, listed-end, listed-snoc, length-listed, map-append}
 use Rattle.records.proofs.Store.{puts-append, puts-front}
 use Rattle.records.proofs.line.Table.{shaped}
 
@@ -53,12 +54,15 @@ sporadic-one k = by-test (isSporadic k)
     by-test false = omega arith
 
 -- ---- what an inner answer says of its checks
+refused-done : {X : Type 0} {n : ℕ} → answer.Refused n ≡ answer.Done → X
+refused-done e = let z : _≡_ {A = ℕ} 0 1 = cc in absurd (omega arith)
+
 module _ {A : Type 0} (cs : List Check) (x : A) where
   pub answered-refused : {n : ℕ} → answered (decide cs x) ≡ answer.Refused n → decide cs x ≡ refused n
   answered-refused {n} e = by-outcome (decide cs x) e
     where
       by-outcome : (o : Outcome A) → answered o ≡ answer.Refused n → o ≡ refused n
-      by-outcome (taken v) e = let z : _≡_ {A = ℕ} 0 1 = cc in absurd (omega arith)
+      by-outcome (taken v) e = refused-done (sym e)
       by-outcome (refused m) e = cc
 
   pub answered-done : answered (decide cs x) ≡ answer.Done → Passed cs
@@ -66,23 +70,26 @@ module _ {A : Type 0} (cs : List Check) (x : A) where
     where
       by-outcome : (o : Outcome A) → decide cs x ≡ o → answered o ≡ answer.Done → Passed cs
       by-outcome (taken v) f e = taken-passed cs f .0
-      by-outcome (refused m) f e = let z : _≡_ {A = ℕ} 0 1 = cc in absurd (omega arith)
+      by-outcome (refused m) f e = refused-done e
 
 -- ---- a turn of `check_lines`: the lines below i have passed
 module _ (s : Sheet) (i spent : ℕ) where
   pub record Checking : Type 0 where
     pub counted : spent ≡ sporadics (map kindOf (listed (lineAt s) i))
+    pub values : All IsLineValue (listed (lineAt s) i)
     pub left : linesFault (sheetValue s) ≡ decide (valueLinesChecks (s .clocks) (listed (lineAt s) i) (listedFrom (lineAt s) i (s .count - i))) (sheetValue s)
 
 pub check-start : (s : Sheet) → Checking s 0 0
 unfolding linesFault listedFrom
-check-start s = let k : s .count - 0 ≡ s .count = omega arith in record { counted = refl; left = rw k }
+check-start s = let k : s .count - 0 ≡ s .count = omega arith in record { counted = refl; values = tt; left = rw k }
 
 module _ (s : Sheet) (i spent : ℕ) (c : Checking s i spent) where
-  pub check-end : s .count ≤ i → answer.Done ≡ answered (linesFault (sheetValue s))
-  check-end h = rw (c .left, listed-end (lineAt s) (s .count) i h)
+  pub check-end : i ≤ s .count → s .count ≤ i → LinesChecked s answer.Done
+  check-end g h =
+      let k : s .count ≡ i = omega arith in
+      record { answer = rw (c .left, listed-end (lineAt s) (s .count) i h); values = λ d. rw k (c .values) }
 
-  module _ (h : i < s .count) (l : Line) (e : l ≡ lineAt s i) (r : Answer) (f : r ≡ answered (decide (valueLineChecks (s .clocks) spent (kindOf l) (bodyOf l)) l)) where
+  module _ (h : i < s .count) (l : Line) (e : l ≡ lineAt s i) (r : Answer) (f : (r ≡ answered (decide (valueLineChecks (s .clocks) spent (kindOf l) (bodyOf l)) l)) × IsLineValue l) where
     -- the checks of line i, and of the lines after it
     abbrev these : List Check
     these = valueLineChecks (s .clocks) (sporadics (map kindOf (listed (lineAt s) i))) (kindOf (lineAt s i)) (bodyOf (lineAt s i))
@@ -91,17 +98,21 @@ module _ (s : Sheet) (i spent : ℕ) (c : Checking s i spent) where
     later = valueLinesChecks (s .clocks) (listed (lineAt s) i ++ (lineAt s i ∷ [])) (listedFrom (lineAt s) (i + 1) (s .count - (i + 1)))
 
     here : answered (decide these l) ≡ r
-    here = rw (← c .counted, ← e) (sym f)
+    here = rw (← c .counted, ← e) (sym (f .0))
 
     turn : linesFault (sheetValue s) ≡ decide (these ++ later) (sheetValue s)
     turn = c .left ∙ rw (listed-cons (lineAt s) (s .count) i h)
 
-    pub check-refused : {n : ℕ} → r ≡ answer.Refused n → answer.Refused n ≡ answered (linesFault (sheetValue s))
-    check-refused g = rw (turn, decide-refused later (sheetValue s) these l (answered-refused these l (here ∙ g)))
+    pub check-refused : {n : ℕ} → r ≡ answer.Refused n → LinesChecked s (answer.Refused n)
+    check-refused g = record {
+      answer = rw (turn, decide-refused later (sheetValue s) these l (answered-refused these l (here ∙ g)));
+      values = λ d. refused-done d;
+    }
 
     pub check-more : {m k : ℕ} → r ≡ answer.Done → m ≡ sporadicOf k → k ≡ kindOf l → Checking s (i + 1) (spent + m)
     check-more g p q = record {
       counted = rw (listed-snoc (lineAt s) i, map-append, sporadics-snoc, ← c .counted, p, q, e);
+      values = rw (listed-snoc (lineAt s) i, ← e) (all-snoc IsLineValue (listed (lineAt s) i) (c .values) (f .1));
       left = turn ∙ decide-passed later (sheetValue s) these (answered-done these l (here ∙ g)) ∙ rw (listed-snoc (lineAt s) i);
     }
 
@@ -148,41 +159,48 @@ pub sheet-stored : (s : Sheet) (b b₁ : List ℕ) → b₁ ≡ puts b 0 (wordBy
 unfolding sheetBytes
 sheet-stored s b b₁ e = rw (e, lines-all)
 
--- the answers of `write_sheet`, in the shapes that its places hold
-module _ (s : Sheet) (b : List ℕ) (t : Bool) (e : t ≡ clockCount (s .clocks)) where
-  pub write-4 : not t ≡ true → wrote (written.Refused 4) b ≡ writeSheet (sheetValue s) b
-  unfolding writeSheet
-  write-4 h = rw (sym e ∙ not-true t h)
+-- the answers of `check_sheet`, in the shapes that its places hold
+module _ (s : Sheet) (t : Bool) (e : t ≡ clockCount (s .clocks)) where
+  pub check-4 : not t ≡ true → Checked s (answer.Refused 4)
+  check-4 h = record { answer = rw (sym e ∙ not-true t h); value = λ d. refused-done d }
 
   module _ (h : not t ≡ false) where
-    pub write-8 : 16 < s .count → wrote (written.Refused 8) b ≡ writeSheet (sheetValue s) b
+    pub check-8 : 16 < s .count → Checked s (answer.Refused 8)
+    check-8 g = record { answer = rw (sym e ∙ not-false t h, length-listed, lt-ltb 16 (s .count) g); value = λ d. refused-done d }
+
+    pub check-all : s .count ≤ 16 → {r : Answer} → LinesChecked s r → Checked s r
+    unfolding linesFault
+    check-all g {r} f = record {
+      answer = f .answer ∙ rw (sym e ∙ not-false t h, length-listed, le-ltb 16 (s .count) g);
+      value = λ d. (omega (arith, leb-true (s .clocks) 8 (both (leb 1 (s .clocks)) (sym e ∙ not-false t h) .1)), f .values d);
+    }
+
+-- the answers of `write_sheet`
+module _ (s : Sheet) (r : Answer) (f : Checked s r) where
+  abbrev checks : List Check
+  checks = sheetValueChecks (sheetValue s)
+
+  passed : r ≡ answer.Done → Passed checks
+  passed p = answered-done checks (sheetValue s) (sym (f .answer) ∙ p)
+
+  pub few-lines : r ≡ answer.Done → s .count ≤ 16
+  few-lines p = omega (arith, ltb-false 16 (length (sheetValue s .lines)) (passed p .1 .0), length-listed (lineAt s) (s .count))
+
+  module _ (b : List ℕ) where
+    abbrev last : List Check
+    last = (ltb (length b) (length (sheetBytes (sheetValue s))) ⇒ 10) ∷ []
+
+    pub write-refused : {n : ℕ} → r ≡ answer.Refused n → wrote (written.Refused n) b ≡ writeSheet (sheetValue s) b
     unfolding writeSheet
-    write-8 g = rw (sym e ∙ not-false t h, length-listed, lt-ltb 16 (s .count) g)
+    write-refused p = rw (decide-refused last (sheetBytes (sheetValue s)) checks (sheetValue s) (answered-refused checks (sheetValue s) (sym (f .answer) ∙ p)))
 
-    module _ (g : s .count ≤ 16) (r : Answer) (f : r ≡ answered (linesFault (sheetValue s))) where
-      abbrev lines : List Check
-      lines = valueLinesChecks (s .clocks) [] (sheetValue s .lines)
-
-      abbrev last : List Check
-      last = (ltb (length b) (length (sheetBytes (sheetValue s))) ⇒ 10) ∷ []
-
-      left : writeSheet (sheetValue s) b ≡ leaves b (decide (lines ++ last) (sheetBytes (sheetValue s)))
+    module _ (p : r ≡ answer.Done) (k : ℕ) (q : k ≡ length (sheetBytes (sheetValue s))) where
+      room : writeSheet (sheetValue s) b ≡ leaves b (decide ((ltb (length b) k ⇒ 10) ∷ []) (sheetBytes (sheetValue s)))
       unfolding writeSheet
-      left = rw (sym e ∙ not-false t h, length-listed, le-ltb 16 (s .count) g)
+      room = rw (decide-passed last (sheetBytes (sheetValue s)) checks (passed p), q)
 
-      fault : answered (decide lines (sheetValue s)) ≡ r
-      unfolding linesFault
-      fault = sym f
+      pub write-10 : length b < k → wrote (written.Refused 10) b ≡ writeSheet (sheetValue s) b
+      write-10 l = rw (room, lt-ltb (length b) k l)
 
-      pub write-line : {n : ℕ} → r ≡ answer.Refused n → wrote (written.Refused n) b ≡ writeSheet (sheetValue s) b
-      write-line p = rw (left, decide-refused last (sheetBytes (sheetValue s)) lines (sheetValue s) (answered-refused lines (sheetValue s) (fault ∙ p)))
-
-      module _ (p : r ≡ answer.Done) (k : ℕ) (q : k ≡ length (sheetBytes (sheetValue s))) where
-        room : writeSheet (sheetValue s) b ≡ leaves b (decide ((ltb (length b) k ⇒ 10) ∷ []) (sheetBytes (sheetValue s)))
-        room = left ∙ rw (decide-passed last (sheetBytes (sheetValue s)) lines (answered-done lines (sheetValue s) (fault ∙ p)), q)
-
-        pub write-10 : length b < k → wrote (written.Refused 10) b ≡ writeSheet (sheetValue s) b
-        write-10 l = rw (room, lt-ltb (length b) k l)
-
-        pub write-done : (b′ : List ℕ) → k ≤ length b → b′ ≡ puts b 0 (sheetBytes (sheetValue s)) → wrote (written.Bytes k) b′ ≡ writeSheet (sheetValue s) b
-        write-done b′ l m = rw (room, le-ltb (length b) k l, m, puts-front b (sheetBytes (sheetValue s)) (omega arith), q)
+      pub write-done : (b′ : List ℕ) → k ≤ length b → b′ ≡ puts b 0 (sheetBytes (sheetValue s)) → wrote (written.Bytes k) b′ ≡ writeSheet (sheetValue s) b
+      write-done b′ l m = rw (room, le-ltb (length b) k l, m, puts-front b (sheetBytes (sheetValue s)) (omega arith), q)

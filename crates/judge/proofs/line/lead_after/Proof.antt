@@ -14,7 +14,7 @@ ticks-at-requires-2 : tie.Need-ticks-at-requires-2
 ticks-at-requires-2 c κs = search needs
 
 next-lead-requires : tie.Need-next-lead-requires
-next-lead-requires c κs = search needs
+next-lead-requires c κs = rw (c .before .before .before .l .given .1) at (c .before .before .before .before .before .pre)
 
 enum-known-l-2 : tie.Need-enum-known-l-2
 enum-known-l-2 c = search needs
@@ -26,7 +26,7 @@ ticks-at-requires-4 : tie.Need-ticks-at-requires-4
 ticks-at-requires-4 c κs = search needs
 
 next-lead-requires-2 : tie.Need-next-lead-requires-2
-next-lead-requires-2 c κs = search needs
+next-lead-requires-2 c κs = rw (c .before .before .before .l2 .given .1) at (c .before .before .before .before .before .pre)
 
 returns : tie.Need-returns
 returns c = rw (c .before .before .before .before .l .given .1, c .next-lead .ensures, c .before .before .ticks-at .ensures, c .before .ticks-at2 .ensures)

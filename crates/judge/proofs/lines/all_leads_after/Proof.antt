@@ -26,7 +26,7 @@ line-at-requires : tie.Need-line-at-requires Inv-loop μ-loop
 line-at-requires c κs = search needs
 
 lead-after-requires : tie.Need-lead-after-requires Inv-loop μ-loop
-lead-after-requires c κs = c .before .before .before .pre .1 (c .before .before .loop .i)
+lead-after-requires c κs = let i = c .before .before .loop .i in rw (c .line-at .ensures) (c .before .before .before .pre .1 i (omega arith))
 
 mul-after : tie.Need-mul-after Inv-loop μ-loop
 mul-after c = search needs

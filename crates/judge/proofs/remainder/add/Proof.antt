@@ -20,7 +20,7 @@ owes-requires c κs = search needs
 
 returns : tie.Need-returns
 unfolding added
-returns c = simp (sym (c .before .owes .ensures) ∙ c .if1 .taken)
+returns c = (simp (sym (c .before .owes .ensures) ∙ c .if1 .taken), λ h. h)
 
 push-requires : tie.Need-push-requires
 push-requires c κs = search needs
@@ -32,7 +32,7 @@ returns-2 c =
     let s = e .before .before in
     let l = eight s in
     let k : length (owedOf (s .args .r)) < 8 = rw length-map (omega (arith, length-take-le (s .args .r .owed) (s .args .r .obligations) (omega arith))) in
-    ap some (c .push .ensures .1) ∙ simp (sym (e .before .owes .ensures) ∙ e .if1 .left, lt-ltb _ _ k)
+    (ap some (c .push .ensures .1) ∙ simp (sym (e .before .owes .ensures) ∙ e .if1 .left, lt-ltb _ _ k), λ h. omega (arith, c .push .ensures .0))
 
 returns-3 : tie.Need-returns-3
 unfolding added
@@ -41,7 +41,7 @@ returns-3 c =
     let s = e .before .before in
     let l = eight s in
     let k : 8 ≤ length (owedOf (s .args .r)) = rw (take-all (s .args .r .owed) (s .args .r .obligations) (omega arith), length-map) (omega arith) in
-    simp (sym (e .before .owes .ensures) ∙ e .if1 .left, le-ltb _ _ k)
+    (simp (sym (e .before .owes .ensures) ∙ e .if1 .left, le-ltb _ _ k), λ h. h)
 
 pub add-spec : {M : Type 1} → statement M
 add-spec = tie.close (tie.spec owes-requires returns push-requires returns-2 returns-3)

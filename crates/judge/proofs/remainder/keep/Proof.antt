@@ -72,7 +72,7 @@ returns c =
     let m = sym (c .before .before .before .is-met .ensures) ∙ c .before .before .if1 .left in
     let p = inTime (s .tags) in
     let x = fine-not f (s .t1 .obligations) (at .loop .i) (omega arith) p (at .before .owed-count .result) (omega arith) m (not-true _ (sym (c .before .is-late .ensures) ∙ c .if2 .taken)) in
-    simp (rw (oc .1 .1) at x)
+    (simp (rw (oc .1 .1) at x), omega arith)
 
 push-requires : tie.Need-push-requires Inv-loop μ-loop
 push-requires c κs = search needs
@@ -106,7 +106,7 @@ returns-2 c =
     let e : at .loop .i ≡ at .before .owed-count .result = omega arith in
     let a = rw (e, oc .1 .1) at (at .loop .inv .1 .1 .1) in
     let v = rw (e, oc .1 .1) at (at .loop .inv .1 .1 .0) in
-    ap some v ∙ simp a
+    (ap some v ∙ simp a, omega arith)
 
 pub keep-spec : {M : Type 1} → statement M
 keep-spec =

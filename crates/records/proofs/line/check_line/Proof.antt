@@ -17,7 +17,7 @@ slice-aggregate-clocks-below : tie.Need-slice-aggregate-clocks-below
 slice-aggregate-clocks-below c = search needs
 
 clocks-below-requires : tie.Need-clocks-below-requires
-clocks-below-requires c κs = check-room 0 0 (c .before .before .before .before .args .l) _ _ _ (c .before .before .before .kind-of .ensures) (c .before .before .line-shape .ensures) (c .before .body-of .ensures)
+clocks-below-requires c κs = check-room 0 0 (c .before .before .before .before .args .l) _ _ _ (c .before .before .before .kind-of .ensures) (c .before .before .line-shape .ensures) (c .before .body-of .ensures .0)
 
 returns : tie.Need-returns
 returns c = search (needs, check-7, check-9, check-done) depth 12

@@ -41,7 +41,7 @@ returns c =
     let a = c .before .before .before .before .before .before .before .before .before .before .before .before .args in
     let k = c .before .before .before .before .before .before .before .before .before .before .kind-of .ensures in
     let e = table-size (a .l) (c .before .before .before .before .before .before .before .before .before .line-shape .ensures) k in
-    line-stored (a .l) (a .buffer .now) _ _ (a .at) _ k e (c .before .before .before .body-of .ensures) (c .before .before .before .before .before .before .before .put-head .ensures) (c .before .before .put-body .ensures)
+    line-stored (a .l) (a .buffer .now) _ _ (a .at) _ k e (c .before .before .before .body-of .ensures .0) (c .before .before .before .before .before .before .before .put-head .ensures) (c .before .before .put-body .ensures)
 
 pub put-line-spec : {M : Type 1} → statement M
 put-line-spec =

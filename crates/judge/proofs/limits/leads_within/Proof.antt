@@ -1,0 +1,71 @@
+-- `leads_within` meets its contract. The invariant: whether all leads are within is whether those from i on are. Assumes nothing.
+use mathlib.Core.Path.{_≡_}
+use Prim.Native.Nat.{ℕ, _≤_, _-_}
+use native.Mathlib.Omega.{arith}
+use lib.Dec.{leb}
+use Rattle.records.specs.Sheet.{sheetValue}
+use Rattle.tesl.specs.Lists.{all}
+use Rattle.theory.specs.Step.{nextLeads}
+use Rattle.judge.specs.View.{inUse}
+use Rattle.judge.proofs.lines.Laws.{okFrom, ok-end, ok-no, ok-more}
+use Rattle.judge.proofs.limits.Laws.{leadOk, leads-start}
+use borrow.Author.Needs.{needs}
+use Rattle.judge.proofs.limits.leads_within.Statement.{statement}
+use Rattle.judge.proofs.limits.leads_within.Tie as tie
+
+abbrev Inv-loop : tie.InvT-loop
+Inv-loop s instants leads n i₀ i =
+    (i ≤ n) × (all (λ (m : ℕ). leb m instants) (nextLeads inUse (sheetValue s .lines) leads) ≡ okFrom (leadOk instants) s leads n i)
+
+abbrev μ-loop : tie.MeasureT-loop
+μ-loop s instants leads n i₀ i = n - i
+
+loop-holds : tie.Need-loop-holds Inv-loop μ-loop
+loop-holds c =
+    let a = c .args in
+    let k = c .good .1 .0 .1 .0 .1 in
+    (omega arith, leads-start (a .instants) (a .s) (a .t2) (omega arith))
+
+mul-lead : tie.Need-mul-lead Inv-loop μ-loop
+mul-lead c = search needs
+
+array-read-lead : tie.Need-array-read-lead Inv-loop μ-loop
+array-read-lead c = search needs
+
+line-at-requires : tie.Need-line-at-requires Inv-loop μ-loop
+line-at-requires c κs = search needs
+
+lead-within-requires : tie.Need-lead-within-requires Inv-loop μ-loop
+lead-within-requires c κs = search needs
+
+add-i : tie.Need-add-i Inv-loop μ-loop
+add-i c = search needs
+
+loop-less : tie.Need-loop-less Inv-loop μ-loop
+loop-less c = search needs
+
+loop-again : tie.Need-loop-again Inv-loop μ-loop
+loop-again c = (omega arith, search (needs, ok-more) depth 8)
+
+returns : tie.Need-returns Inv-loop μ-loop
+returns c = search (needs, ok-no) depth 8
+
+returns-2 : tie.Need-returns-2 Inv-loop μ-loop
+returns-2 c = search (needs, ok-end) depth 8
+
+pub leads-within-spec : {M : Type 1} → statement M
+leads-within-spec =
+    tie.close
+    (tie.spec
+    Inv-loop
+    μ-loop
+    loop-holds
+    mul-lead
+    array-read-lead
+    line-at-requires
+    lead-within-requires
+    add-i
+    loop-less
+    loop-again
+    returns
+    returns-2)

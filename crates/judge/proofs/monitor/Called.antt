@@ -1,0 +1,104 @@
+-- A call of `observe`, by what it is taken for: 11; 12 to 15 as reading gives them; 16; or an accepted instant. Assumes nothing.
+use mathlib.Core.Bool.{Bool, true, false, not}
+use mathlib.Core.List.{List}
+use mathlib.Core.Path.{_≡_, refl, sym, ap, _∙_, subst}
+use Prim.Native.Nat.{ℕ, _≤_, _<_}
+use native.Mathlib.Omega.{arith}
+use lib.Dec.{T, leb, le→leb, leb→le, not-T}
+use lib.ListN.{length}
+use borrow.Author.Tests.{not-true, not-false}
+use Rattle.records.specs.declared.record.Answer.the-variants.{Done, Refused}
+use Rattle.records.specs.declared.instant.InstantRead.{InstantRead}
+use Rattle.records.specs.Outcome.{Outcome, taken, refused}
+use Rattle.records.specs.Instant.{readInstant, instantOf, instantRead}
+use Rattle.records.specs.Types.{All, IsBytes}
+use Rattle.records.proofs.Lists.{both, refused-taken}
+use Rattle.records.proofs.instant.RoundTrip.{read-writes}
+use Rattle.tesl.specs.Run.{Instant}
+use Rattle.tesl.specs.Machine.{unlessFull}
+use Rattle.tesl.proofs.Tests.{T→≡, ≡→T}
+use Rattle.theory.proofs.Lists.{F→≡}
+use Rattle.judge.specs.declared.remainder.Remainder as arrays
+use Rattle.judge.specs.declared.monitor.Monitor.{Monitor}
+use Rattle.judge.specs.declared.monitor.Given.{Given}
+use Rattle.judge.specs.Limits.{sheetWithin, within, Limited}
+use Rattle.judge.specs.Monitor.{sheetBy, refusal, Workable, Accepts}
+use Rattle.judge.specs.Promises.{observes, Accepted, Observed}
+use Rattle.judge.proofs.monitor.Limits.{Limits, limits-of, workable, held-shaped}
+use Rattle.judge.proofs.monitor.Observed.{accepted}
+
+-- ---- by the outcome
+
+module _ (m : Monitor) (bytes : List ℕ) (r : Given) where
+  called-refused : {n : ℕ} → observes m bytes ≡ refused n → r ≡ refusal n m → Observed m bytes r
+  called-refused {n} e q = record {
+    refuses = λ k f. let z : n ≡ k = cc in rw (← z) q;
+    accepts = λ i f. refused-taken (sym e ∙ f);
+  }
+
+  called-taken : {i : Instant} → observes m bytes ≡ taken i → Accepted m i r → Observed m bytes r
+  called-taken {i} e a = record {
+    refuses = λ k f. refused-taken (sym f ∙ e);
+    accepts = λ j f. let z : i ≡ j = cc in subst (λ (x : Instant). Accepted m x r) z a;
+  }
+
+  -- ---- by the tests
+
+  -- 11
+  pub called-outside : {b : Bool} → Limited m b → not b ≡ true → r ≡ refusal 11 m → Observed m bytes r
+  unfolding observes
+  called-outside {b} l e q =
+      let w : within m ≡ false = sym (l .answer) ∙ not-true b e in
+      called-refused (rw w) q
+
+-- what was read, by the answer that the match sees
+read-refused : (o : Outcome Instant) {n : ℕ} → instantRead o .answer ≡ Refused n → o ≡ refused n
+read-refused (taken i) e = let z : _≡_ {A = ℕ} 0 1 = cc in absurd (omega arith)
+read-refused (refused k) {n} e = let z : k ≡ n = cc in ap refused z
+
+pub record Read (o : Outcome Instant) : Type 0 where
+  pub cells : Instant
+  pub is : o ≡ taken cells
+  pub struct : instantRead o .instant ≡ instantOf cells
+
+read-done : (o : Outcome Instant) → instantRead o .answer ≡ Done → Read o
+read-done (taken i) e = record { cells = i; is = refl; struct = refl }
+read-done (refused n) e = let z : _≡_ {A = ℕ} 0 1 = cc in absurd (omega arith)
+
+module _ (m : Monitor) (bytes : List ℕ) {b : Bool} (l : Limited m b) (e : not b ≡ false)
+    {x : InstantRead} (h : x ≡ instantRead (readInstant (m .sheet .clocks) bytes)) where
+  inside : within m ≡ true
+  inside = sym (l .answer) ∙ not-false b e
+
+  kept : Limits m
+  kept = limits-of m (l .value (not-false b e)) inside
+
+  -- 12 to 15
+  pub called-unread : {r : Given} {n : ℕ} → x .answer ≡ Refused n → r ≡ refusal n m → Observed m bytes r
+  unfolding observes
+  called-unread {r} q g =
+      let k = read-refused (readInstant (m .sheet .clocks) bytes) (sym (ap (λ (y : InstantRead). y .answer) h) ∙ q) in
+      called-refused m bytes r (rw (inside, k)) g
+
+  module _ (q : x .answer ≡ Done) where
+    was-read : Read (readInstant (m .sheet .clocks) bytes)
+    was-read = read-done (readInstant (m .sheet .clocks) bytes) (sym (ap (λ (y : InstantRead). y .answer) h) ∙ q)
+
+    -- 16
+    pub called-full : {r : Given} → 4000 ≤ m .instants → r ≡ refusal 16 m → Observed m bytes r
+    unfolding observes
+    called-full {r} k g = called-refused m bytes r (rw (inside, was-read .is, T→≡ (leb 4000 (m .instants)) (le→leb 4000 (m .instants) k))) g
+
+    pub can-work : m .instants < 4000 → Workable m
+    can-work k = workable m kept k
+
+    pub called : {r : Given} → IsBytes bytes → All (λ (s : arrays.Remainder). length (s .stopped) ≡ 8) (m .held .remainders) → m .instants < 4000
+        → Accepts m (x .instant) r → Observed m bytes r
+    unfolding observes within
+    called {r} u stops k a =
+        let w = read-writes (m .sheet .clocks) bytes u (was-read .is) in
+        let n = F→≡ (leb 4000 (m .instants)) (not-T (leb 4000 (m .instants)) (λ t. let f = leb→le 4000 (m .instants) t in omega arith)) in
+        called-taken m bytes r (rw (inside, was-read .is, n))
+        (accepted m kept (≡→T (both (sheetWithin (sheetBy m)) inside .0)) k (was-read .cells) (w .value) (w .size) r
+        (subst (λ (v : _). Accepts m v r) (ap (λ (y : InstantRead). y .instant) h ∙ was-read .struct) a)
+        (held-shaped (sheetBy m) (kept .sheet .clocks-most) (m .held .count) (m .held .remainders) stops (kept .fits)))

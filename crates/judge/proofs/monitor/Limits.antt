@@ -1,0 +1,188 @@
+-- Limits of a monitor (11) as theory has them: of its sheet and of those held; what within them the work asks; and those held stay within them. Assumes nothing.
+use mathlib.Core.Bool.{Bool, true, false, _&&_, and-false, and-assoc}
+use mathlib.Core.List.{List, [], _∷_, map}
+use mathlib.Core.Path.{_≡_, refl, sym, ap, _∙_, subst, fun-ext}
+use Prim.Native.Nat.{ℕ, zero, suc, _≤_, _<_}
+use native.Mathlib.Omega.{arith}
+use lib.Dec.{T, leb, ltb, leb→le, le→leb, lt→ltb}
+use lib.ListN.{length, take, length-map}
+use lib.Seq.{length-take-le}
+use Rattle.records.specs.Outcome.{Outcome, taken, refused, decide}
+use Rattle.records.specs.Sheet.{SheetValue, lineAt, sheetValueChecks}
+use Rattle.records.specs.Types.{All, IsSheet}
+use Rattle.records.proofs.Lists.{both, taken-passed, length-listed}
+use Rattle.tesl.specs.Lists.{all, distinct}
+use Rattle.tesl.specs.Fits.{Obligation}
+use Rattle.tesl.specs.Remainder.{Remainder, sameObligation, owes}
+use Rattle.tesl.proofs.Tests.{and-l, and-r, and-i, ≡→T, T→≡}
+use Rattle.theory.specs.Step.{wellFormed}
+use Rattle.theory.specs.Limits.{SheetLimits, HeldLimits, clocksOk, dueOk, withinLimits}
+use Rattle.theory.proofs.Lists.{all-imp}
+use Rattle.theory.proofs.Sets.{distinct-set, distinct-apart, length-le}
+use Rattle.theory.proofs.Respect.{owed-equivalence}
+use Rattle.theory.proofs.Opened.{checked-limits}
+use Rattle.judge.specs.declared.remainder.Remainder as arrays
+use Rattle.judge.specs.declared.held.Count.{Count}
+use Rattle.judge.specs.declared.held.Count.the-variants.{Exhausted, Live}
+use Rattle.judge.specs.declared.monitor.Monitor.{Monitor}
+use Rattle.judge.specs.View.{obligationOf, owedOf, viewOf, heldIn, live, sizedIn, sized}
+use Rattle.judge.specs.Lines.{smallLeads}
+use Rattle.judge.specs.Limits.{isTaken, sheetWithin, obligationWithin, remainderWithin, heldWithin, within}
+use Rattle.judge.specs.Monitor.{sheetBy, heldBy, Workable}
+use Rattle.judge.proofs.work.Found.{Shaped}
+
+-- ---- tests of a list
+
+regroup : (a b c d : Bool) → ((a && b) && (c && d)) ≡ ((a && c) && (b && d))
+regroup false b c d = refl
+regroup true b false d = and-false b
+regroup true b true d = refl
+
+module _ {A : Type 0} where
+  all-parts : (p q : A → Bool) (xs : List A) → all (λ x. p x && q x) xs ≡ (all p xs && all q xs)
+  all-parts p q [] = refl
+  all-parts p q (x ∷ xs) = ap (λ (b : Bool). (p x && q x) && b) (all-parts p q xs) ∙ regroup (p x) (q x) (all p xs) (all q xs)
+
+all-map : {A B : Type 0} (p : B → Bool) (f : A → B) (xs : List A) → all p (map f xs) ≡ all (λ (x : A). p (f x)) xs
+all-map p f [] = refl
+all-map p f (x ∷ xs) = ap (λ (b : Bool). p (f x) && b) (all-map p f xs)
+
+-- ---- the sheet
+
+passed : (v : SheetValue) (o : Outcome SheetValue) → decide (sheetValueChecks v) v ≡ o → isTaken o ≡ true → IsSheet v → SheetLimits v
+passed v (taken w) e t h = checked-limits v h (taken-passed (sheetValueChecks v) e .0)
+passed v (refused n) e t h = absurd (≡→T t)
+
+pub sheet-limits : (v : SheetValue) → IsSheet v → T (sheetWithin v) → SheetLimits v
+unfolding sheetWithin
+sheet-limits v h t = passed v (decide (sheetValueChecks v) v) refl (T→≡ _ t) h
+
+-- ---- a remainder
+
+-- the limits of an obligation are those of its clocks and of its due
+both-limits : (c : ℕ) (os : List Obligation) → all (obligationWithin c) os ≡ (all (clocksOk c) os && all (λ (o : Obligation). dueOk (o .due)) os)
+unfolding obligationWithin
+both-limits c os = all-parts (clocksOk c) (λ o. dueOk (o .due)) os
+
+remainder-limits : (v : SheetValue) (n : ℕ) (r : arrays.Remainder) → remainderWithin v n r ≡ (leb (r .owed) 8 && withinLimits (v .clocks) n (viewOf v r))
+unfolding remainderWithin withinLimits
+remainder-limits v n r = rw (both-limits (v .clocks) (owedOf r))
+
+-- ---- those held
+
+-- of the first ones of an array: how many each owes, and the limits of each view
+each-limits : (v : SheetValue) (n : ℕ) (rs : List arrays.Remainder)
+    → all (remainderWithin v n) rs ≡ (all (λ (r : arrays.Remainder). leb (r .owed) 8) rs && all (withinLimits (v .clocks) n) (map (viewOf v) rs))
+each-limits v n rs =
+    ap (λ (p : arrays.Remainder → Bool). all p rs) (fun-ext (remainder-limits v n))
+    ∙ all-parts (λ r. leb (r .owed) 8) (λ r. withinLimits (v .clocks) n (viewOf v r)) rs
+    ∙ ap (λ (b : Bool). all (λ (r : arrays.Remainder). leb (r .owed) 8) rs && b) (sym (all-map (withinLimits (v .clocks) n) (viewOf v) rs))
+
+-- within the limits: room for what is counted, and each view within them
+pub held-limits : (v : SheetValue) (n : ℕ) (count : Count) (rs : List arrays.Remainder)
+    → heldWithin v n count rs ≡ (sizedIn count rs && all (withinLimits (v .clocks) n) (live (heldIn v count rs)))
+unfolding heldWithin
+held-limits v n Exhausted rs = refl
+held-limits v n (Live k) rs = ap (λ (b : Bool). leb k 32 && b) (each-limits v n (take k rs)) ∙ sym (and-assoc (leb k 32) _ _)
+
+-- ---- the monitor
+
+pub record Limits (m : Monitor) : Type 0 where
+  pub sheet : SheetLimits (sheetBy m)
+  pub instants : m .instants ≤ 4000
+  pub fits : T (sized (m .held))
+  pub views : T (all (withinLimits (m .sheet .clocks) (m .instants)) (live (heldBy m)))
+
+pub limits-of : (m : Monitor) → IsSheet (sheetBy m) → within m ≡ true → Limits m
+unfolding within
+limits-of m h e =
+    let v = sheetBy m in
+    let a = both (sheetWithin v) e in
+    let b = both (leb (m .instants) 4000) (a .1) in
+    let c = both (sized (m .held)) (sym (held-limits v (m .instants) (m .held .count) (m .held .remainders)) ∙ b .1) in
+    record { sheet = sheet-limits v h (≡→T (a .0)); instants = leb→le (m .instants) 4000 (≡→T (b .0)); fits = ≡→T (c .0); views = ≡→T (c .1) }
+
+pub within-limits : (m : Monitor) → T (sheetWithin (sheetBy m)) → m .instants ≤ 4000 → T (sized (m .held))
+    → T (all (withinLimits (m .sheet .clocks) (m .instants)) (live (heldBy m))) → within m ≡ true
+unfolding within
+within-limits m s i f w =
+    let v = sheetBy m in
+    rw (T→≡ (sheetWithin v) s, T→≡ (leb (m .instants) 4000) (le→leb (m .instants) 4000 i), held-limits v (m .instants) (m .held .count) (m .held .remainders), T→≡ (sized (m .held)) f, T→≡ (all (withinLimits (m .sheet .clocks) (m .instants)) (live (heldBy m))) w)
+
+-- ---- what within the limits the work asks
+
+small-leads : (c n : ℕ) → n ≤ 4000 → (r : Remainder) → T (withinLimits c n r) → T (smallLeads r)
+unfolding withinLimits
+small-leads c n h r t = all-imp (λ (k : ℕ). leb k n) (λ (k : ℕ). ltb k 65535) (r .leads) (λ k u. let b = leb→le k n u in lt→ltb k 65535 (omega arith))
+    (and-r (all (clocksOk c) (r .owed) && all (λ (o : Obligation). dueOk (o .due)) (r .owed)) (all (λ (k : ℕ). leb k n) (r .leads)) t)
+
+pub workable : (m : Monitor) → Limits m → m .instants < 4000 → Workable m
+workable m l h = record {
+  lines = subst (λ (k : ℕ). k ≤ 16) (length-listed (lineAt (m .sheet)) (m .sheet .count)) (l .sheet .lines-most);
+  clocks = l .sheet .clocks-most;
+  below = l .sheet .clocks-below;
+  room = h;
+  leads = all-imp (withinLimits (m .sheet .clocks) (m .instants)) smallLeads (live (heldBy m)) (small-leads (m .sheet .clocks) (m .instants) (l .instants)) (l .views);
+  fits = l .fits;
+}
+
+-- ---- what theory asks of those held
+
+take-most : {A : Type 0} (n : ℕ) (xs : List A) → length (take n xs) ≤ n
+take-most zero xs = omega arith
+take-most (suc n) [] = omega arith
+take-most (suc n) (x ∷ xs) = let h = take-most n xs in omega arith
+
+module _ (v : SheetValue) (c-most : v .clocks ≤ 8) where
+  shaped : (r : arrays.Remainder) → length (r .stopped) ≡ 8 → T (leb (r .owed) 8) → Shaped (v .clocks) (viewOf v r)
+  shaped r s t =
+      let n = leb→le (r .owed) 8 t in
+      let k = take-most (r .owed) (r .obligations) in
+      record {
+        clocks = length-take-le (v .clocks) (r .stopped) (omega arith);
+        owed = omega (arith, length-map (take (r .owed) (r .obligations)) obligationOf);
+      }
+
+  all-shaped : (rs : List arrays.Remainder) → All (λ (r : arrays.Remainder). length (r .stopped) ≡ 8) rs → T (all (λ (r : arrays.Remainder). leb (r .owed) 8) rs)
+      → All (Shaped (v .clocks)) (map (viewOf v) rs)
+  all-shaped [] s t = tt
+  all-shaped (r ∷ rs) s t =
+      let p : arrays.Remainder → Bool = λ r. leb (r .owed) 8 in
+      (shaped r (s .0) (and-l (p r) (all p rs) t), all-shaped rs (s .1) (and-r (p r) (all p rs) t))
+
+  all-take : {A : Type 0} (P : A → Type 0) (n : ℕ) (xs : List A) → All P xs → All P (take n xs)
+  all-take P zero xs h = tt
+  all-take P (suc n) [] h = tt
+  all-take P (suc n) (x ∷ xs) h = (h .0, all-take P n xs (h .1))
+
+  pub held-shaped : (count : Count) (rs : List arrays.Remainder) → All (λ (r : arrays.Remainder). length (r .stopped) ≡ 8) rs → T (sizedIn count rs)
+      → All (Shaped (v .clocks)) (live (heldIn v count rs))
+  held-shaped Exhausted rs s t = tt
+  held-shaped (Live n) rs s t = all-shaped (take n rs) (all-take _ n rs s) (and-r (leb n 32) (all (λ (r : arrays.Remainder). leb (r .owed) 8) (take n rs)) t)
+
+-- a remainder owes at most as many as it lists
+few-owed : (r : Remainder) → length (r .owed) ≤ 8 → T (leb (owes r) 8)
+unfolding owes
+few-owed r h =
+    let k = length-le sameObligation owed-equivalence (distinct sameObligation (r .owed)) (r .owed) (distinct-apart sameObligation owed-equivalence (r .owed))
+    (λ o t. subst T (distinct-set sameObligation owed-equivalence (r .owed) o) t) in
+    le→leb (length (distinct sameObligation (r .owed))) 8 (omega arith)
+
+all-owed : (c : ℕ) (rs : List Remainder) → All (Shaped c) rs → T (all (λ (r : Remainder). leb (owes r) 8) rs)
+all-owed c [] h = tt
+all-owed c (r ∷ rs) h = and-i (leb (owes r) 8) (all (λ (q : Remainder). leb (owes q) 8) rs) (few-owed r (h .0 .owed)) (all-owed c rs (h .1))
+
+-- live: how many the array has in use
+held-live : (v : SheetValue) (count : Count) (rs : List arrays.Remainder) → T (sizedIn count rs) → length (live (heldIn v count rs)) ≤ 32
+held-live v Exhausted rs t = omega arith
+held-live v (Live n) rs t =
+    let h = leb→le n 32 (and-l (leb n 32) (all (λ (r : arrays.Remainder). leb (r .owed) 8) (take n rs)) t) in
+    let k = take-most n rs in
+    omega (arith, length-map (take n rs) (viewOf v))
+
+pub held-bounded : (m : Monitor) → Limits m → All (Shaped (m .sheet .clocks)) (live (heldBy m)) → HeldLimits (m .sheet .clocks) (m .instants) (live (heldBy m))
+held-bounded m l s = record {
+  live = held-live (sheetBy m) (m .held .count) (m .held .remainders) (l .fits);
+  owe = all-owed (m .sheet .clocks) (live (heldBy m)) s;
+  within = l .views;
+}

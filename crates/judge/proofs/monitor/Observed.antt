@@ -1,0 +1,142 @@
+-- An accepted instant: what the work found is what theory asks of a finding, so the monitor stays within its limits, and follows the longer run of each run that it followed. Assumes nothing.
+use mathlib.Core.Bool.{Bool, true, cond}
+use mathlib.Core.List.{List, [], _∷_, _++_, map, map-map}
+use mathlib.Core.Logic.{_≢_}
+use mathlib.Core.Option.{Option, none, some}
+use mathlib.Core.Path.{_≡_, refl, sym, ap, _∙_, subst}
+use Prim.Native.Nat.{ℕ, suc, _≤_, _<_}
+use native.Mathlib.Omega.{arith}
+use lib.Dec.{T, eqb, eqb·suc-zero}
+use lib.IntN.{ℤ, pos}
+use lib.ListN.{length, take, length-map}
+use lib.Seq.{take-append-seam}
+use Rattle.records.specs.declared.sheet.Sheet.{Sheet}
+use Rattle.records.specs.declared.instant.TickSlot.{TickSlot}
+use Rattle.records.specs.declared.instant.Tick.the-variants.{Idle}
+use Rattle.records.specs.Lists.{filled}
+use Rattle.records.specs.Outcome.{Outcome, taken, refused}
+use Rattle.records.specs.Sheet.{SheetValue, sheetValue}
+use Rattle.records.specs.Instant.{Cell, tickSlot, readInstant, instantOf}
+use Rattle.records.specs.Types.{All, IsBytes, IsSheet, IsInstant}
+use Rattle.tesl.specs.Lists.{all}
+use Rattle.tesl.specs.Run.{Instant, ticksOf, tagsOf}
+use Rattle.tesl.specs.Remainder.{Remainder, sameObligation}
+use Rattle.tesl.specs.Answer.{Answer, exhausted, judged, answer}
+use Rattle.theory.specs.Sets.{apart}
+use Rattle.theory.specs.Limits.{SheetLimits, HeldLimits, withinLimits}
+use Rattle.theory.specs.Tracks.{State, Tracks, stateAfter, Finding, every}
+use Rattle.theory.proofs.Tracks.{tracks-exhausted, tracks-next, finding-within}
+use Rattle.judge.specs.declared.remainder.Remainder as arrays
+use Rattle.judge.specs.declared.monitor.Monitor.{Monitor}
+use Rattle.judge.specs.declared.monitor.Given.{Given}
+use Rattle.judge.specs.View.{live, lastOf, seenOf, sized}
+use Rattle.judge.specs.Work.{worked}
+use Rattle.judge.specs.Answer.{replyOf, saidBy}
+use Rattle.judge.specs.Limits.{sheetWithin, within}
+use Rattle.judge.specs.Monitor.{sheetBy, heldBy, lastBy, Accepts}
+use Rattle.judge.specs.Promises.{Follows, Accepted}
+use Rattle.judge.proofs.work.Found.{Shaped, Proper, Every, worked-every, worked-proper, worked-none}
+use Rattle.judge.proofs.monitor.Limits.{Limits, limits-of, within-limits, held-shaped, held-bounded}
+
+-- ---- what the work makes of those held, found or not
+
+-- of those held before and after: nothing is asked once exhausted
+Works : SheetValue → Option (List ℤ) → Instant → Option (List Remainder) → Option (List Remainder) → Type 0
+Works v last i none after = after ≡ none
+Works v last i (some rs) none = Proper rs → Finding v last i rs exhausted []
+Works v last i (some rs) (some new) = Every v last i rs new × (Proper rs → Proper new)
+
+works : (v : SheetValue) (first : Bool) (was : List ℤ) (i : Instant) → length i ≤ 8 → (h after : Option (List Remainder)) → All (Shaped (v .clocks)) (live h)
+    → worked 32 v (lastOf first was) (ticksOf i) (filled 8 (pos 0) (tagsOf i)) h ≡ after → Works v (cond first none (some (take (v .clocks) was))) i h after
+unfolding worked Works
+works v first was i size none after s e = sym e
+works v first was i size (some rs) none s e = λ p. worked-none v first was i size rs s p e
+works v first was i size (some rs) (some new) s e = (worked-every v first was i size rs s e, λ p. worked-proper v first was i size rs s p e)
+
+-- ---- the answer and those held after it
+
+judged-short : (rs : List Remainder) → judged rs ≢ exhausted
+unfolding judged
+judged-short [] e = let z : _≡_ {A = ℕ} 0 1 = cc in omega arith
+judged-short (r ∷ rs) e = let z : _≡_ {A = ℕ} 0 1 = cc in omega arith
+
+proper-after : (v : SheetValue) (last : Option (List ℤ)) (i : Instant) (h after : Option (List Remainder)) → Works v last i h after → Proper (live h) → Proper (live after)
+unfolding Works
+proper-after v last i none after w p = rw w tt
+proper-after v last i (some rs) none w p = tt
+proper-after v last i (some rs) (some new) w p = w .1 p
+
+every-found : {v : SheetValue} {last : Option (List ℤ)} {i : Instant} {rs new : List Remainder} → Every v last i rs new → Finding v last i rs (judged new) new
+every-found e = every (e .once) (e .live) (e .owe)
+
+views-after : (v : SheetValue) → SheetLimits v → (last : Option (List ℤ)) (i : Instant) → IsInstant i → (n : ℕ) (h after : Option (List Remainder)) → Works v last i h after
+    → HeldLimits (v .clocks) n (live h) → T (all (withinLimits (v .clocks) (suc n)) (live after))
+unfolding Works
+views-after v l last i value n none after w b = rw w tt
+views-after v l last i value n (some rs) none w b = tt
+views-after v l last i value n (some rs) (some new) w b = finding-within v l last i value n b (every-found (w .0)) (judged-short new) .within
+
+tracks-after : (v : SheetValue) → SheetLimits v → (run : List Instant) (n : ℕ) (last : Option (List ℤ)) (i : Instant) (h after : Option (List Remainder)) → Works v last i h after → Proper (live h)
+    → Tracks v run (record { instants = n; last = last; said = saidBy h; live = live h })
+    → Tracks v (run ++ (i ∷ [])) (record { instants = suc n; last = some (tagsOf i); said = saidBy after; live = live after })
+unfolding Works
+tracks-after v l run n last i none after w p t = rw w (tracks-exhausted v run i _ t [] refl)
+tracks-after v l run n last i (some rs) none w p t = tracks-next v run i _ t (l .clocks-below) (judged-short rs) (w p)
+tracks-after v l run n last i (some rs) (some new) w p t = tracks-next v run i _ t (l .clocks-below) (judged-short rs) (every-found (w .0))
+
+-- ---- the instant that was read
+
+first-of : {A B : Type 0} (f : A → B) (d : B) (n : ℕ) (xs : List A) → length xs ≡ n → take n (filled 8 d (map f xs)) ≡ map f xs
+first-of f d n xs e =
+    let k : n ≡ length (map f xs) = sym e ∙ sym (length-map xs f) in
+    rw k (take-append-seam (map f xs) _)
+
+seen-of : (c : ℕ) (i : Instant) → length i ≡ c → seenOf c (instantOf i .ticks) ≡ ticksOf i
+seen-of c i e =
+    ap (map (λ (t : TickSlot). t .tick)) (first-of (λ (x : Cell). tickSlot (x .tick)) (tickSlot Idle) c i e)
+    ∙ map-map (λ (t : TickSlot). t .tick) (λ (x : Cell). tickSlot (x .tick)) i
+
+-- ---- the monitor after it
+
+module _ (m : Monitor) (l : Limits m) (sheet : T (sheetWithin (sheetBy m))) (room : m .instants < 4000)
+    (i : Instant) (value : IsInstant i) (size : length i ≡ m .sheet .clocks) (r : Given) (a : Accepts m (instantOf i) r)
+    (shaped : All (Shaped (m .sheet .clocks)) (live (heldBy m))) where
+  found : Works (sheetBy m) (lastBy m) i (heldBy m) (heldBy (r .monitor))
+  found = works (sheetBy m) (eqb (m .instants) 0) (m .tags) i (let c = l .sheet .clocks-most in omega arith) (heldBy m) (heldBy (r .monitor)) shaped
+      (rw (← seen-of (m .sheet .clocks) i size) (sym (a .held)))
+
+  same-sheet : sheetBy (r .monitor) ≡ sheetBy m
+  same-sheet = ap sheetValue (a .sheet)
+
+  limits-after : within (r .monitor) ≡ true
+  limits-after = within-limits (r .monitor) (rw (a .sheet) sheet) (let n = a .instants in omega arith) (a .fits)
+      (subst (λ (s : Sheet). T (all (withinLimits (s .clocks) (r .monitor .instants)) (live (heldBy (r .monitor))))) (sym (a .sheet))
+      (subst (λ (n : ℕ). T (all (withinLimits (m .sheet .clocks) n) (live (heldBy (r .monitor))))) (sym (a .instants))
+      (views-after (sheetBy m) (l .sheet) (lastBy m) i value (m .instants) (heldBy m) (heldBy (r .monitor)) found (held-bounded m l shaped))))
+
+  last-after : lastBy (r .monitor) ≡ some (tagsOf i)
+  last-after = rw (a .sheet, a .instants, a .tags, eqb·suc-zero (m .instants)) (ap some (first-of (λ (c : Cell). c .tag) (pos 0) (m .sheet .clocks) i size))
+
+  follows-after : (run : List Instant) → Follows (sheetBy m) run m → Follows (sheetBy m) (run ++ (i ∷ [])) (r .monitor)
+  follows-after run f =
+      let t = tracks-after (sheetBy m) (l .sheet) run (m .instants) (lastBy m) i (heldBy m) (heldBy (r .monitor)) found (f .owed)
+      (record { instants = f .instants; last = f .last; said = f .said; live = f .held }) in
+      record {
+        sheet = same-sheet;
+        instants = a .instants ∙ t .instants;
+        last = last-after ∙ t .last;
+        said = t .said;
+        held = t .live;
+        owed = proper-after (sheetBy m) (lastBy m) i (heldBy m) (heldBy (r .monitor)) found (f .owed);
+        limits = limits-after;
+      }
+
+  pub accepted : Accepted m i r
+  accepted = record {
+    answers = (saidBy (heldBy (r .monitor)), a .said);
+    limits = limits-after;
+    follows = λ s run f.
+        let g = follows-after run (subst (λ (w : SheetValue). Follows w run m) (sym (f .sheet)) f) in
+        let k = subst (λ (w : SheetValue). Follows w (run ++ (i ∷ [])) (r .monitor)) (f .sheet) g in
+        (a .said ∙ ap taken (k .said), k);
+  }

@@ -1,0 +1,6 @@
+pub mod PaddedLaws
+pub mod Padded
+pub mod Advance
+pub mod Gather
+pub mod Settle
+pub mod Found

@@ -1,0 +1,161 @@
+-- What adding obligations makes of those owed, and what a filled instant makes of a remainder: the same set, or more than eight distinct ones. Assumes nothing.
+use mathlib.Core.Bool.{Bool, true, false, not, cond, _&&_}
+use mathlib.Core.List.{List, [], _∷_, _++_, append-nil, append-assoc}
+use mathlib.Core.Option.{Option, none, some}
+use mathlib.Core.Path.{_≡_, refl, sym, ap, _∙_, subst}
+use Prim.Native.Nat.{suc, _≤_, _<_}
+use native.Mathlib.Omega.{arith}
+use lib.Dec.{T, leb, ltb, ltb→lt, nltb→le, le→leb}
+use lib.ListN.{length, length-append}
+use Rattle.records.specs.Sheet.{SheetValue}
+use Rattle.tesl.specs.Lists.{any, filter, flatMap, distinct}
+use Rattle.tesl.specs.Run.{Filled}
+use Rattle.tesl.specs.Fits.{Obligation, meets, owedFrom, notLate}
+use Rattle.tesl.specs.Remainder.{Remainder, sameObligation, sameRemainder, owes}
+use Rattle.tesl.proofs.Tests.{or-l, or-r, or-e}
+use Rattle.theory.specs.Sets.{apart, Covers, SameSet}
+use Rattle.theory.specs.Step.{linesOk, next}
+use Rattle.theory.proofs.Lists.{bool-ext, any-append}
+use Rattle.theory.proofs.Sets.{any-same, apart-snoc, filter-once, distinct-set, distinct-apart, length-le}
+use Rattle.theory.proofs.Respect.{sameObligation→eq, owed-equivalence, same-of}
+use Rattle.theory.proofs.Tidy.{owes-more}
+use Rattle.judge.specs.Advanced.{Advanced, fails, over, onto}
+use Rattle.judge.specs.Questions.{carriedHolds}
+use Rattle.judge.specs.Owed.{owing, added, left, kept}
+use Rattle.judge.specs.Work.{onward, addedAll, carried, withBegun, withKept, advanced}
+use Rattle.judge.proofs.work.Padded.{padded, goesOn, step-next}
+
+-- ---- one obligation after the other
+
+-- xs are these obligations; in eight places and each once, if the ones before are
+pub record Tidied (before these xs : List Obligation) : Type 0 where
+  pub set : SameSet sameObligation xs these
+  pub room : length before ≤ 8 → length xs ≤ 8
+  pub once : T (apart sameObligation before) → T (apart sameObligation xs)
+
+-- more than eight among these, distinct if the ones before are
+pub record Nine (before these : List Obligation) : Type 0 where
+  pub among : List Obligation
+  pub covered : Covers sameObligation among these
+  pub many : 8 < length among
+  pub once : T (apart sameObligation before) → T (apart sameObligation among)
+
+pub data Adding (r : Remainder) (before these : List Obligation) : Option Remainder → Type 0 where
+  room : {xs : List Obligation} → Tidied before these xs → Adding r before these (some (owing xs r))
+  full : Nine before these → Adding r before these none
+
+-- the same from an earlier list of them
+earlier : {r : Remainder} {before these later those : List Obligation} {q : Option Remainder} → SameSet sameObligation those these → (length before ≤ 8 → length later ≤ 8)
+    → (T (apart sameObligation before) → T (apart sameObligation later)) → Adding r later those q → Adding r before these q
+earlier e l a (room h) = room (record { set = λ o. h .set o ∙ e o; room = λ k. h .room (l k); once = λ k. h .once (a k) })
+earlier e l a (full h) = full (record { among = h .among; covered = λ o t. subst T (e o) (h .covered o t); many = h .many; once = λ k. h .once (a k) })
+
+-- one that is there already adds nothing
+there-already : (o : Obligation) (os begun : List Obligation) → T (any (sameObligation o) os) → SameSet sameObligation (os ++ begun) (os ++ (o ∷ begun))
+there-already o os begun t z =
+    let here = any (sameObligation z) os in
+    let rest = any (sameObligation z) begun in
+    any-append (sameObligation z) os begun
+    ∙ bool-ext _ _
+    (λ u. or-e here rest u (λ w. or-l here _ w) (λ w. or-r here _ (or-r (sameObligation z o) rest w)))
+    (λ u. or-e here _ u (λ w. or-l here rest w)
+    (λ w. or-e (sameObligation z o) rest w (λ x. or-l here rest (any-same sameObligation owed-equivalence z o os x t)) (λ x. or-r here rest x)))
+    ∙ sym (any-append (sameObligation z) os (o ∷ begun))
+
+pub added-all : (r : Remainder) (begun os : List Obligation) → Adding r os (os ++ begun) (addedAll begun (owing os r))
+unfolding added
+added-all r [] os = room (record { set = λ o. ap (any (sameObligation o)) (sym (append-nil os)); room = λ k. k; once = λ k. k })
+added-all r (o ∷ begun) os = one (any (sameObligation o) os) (ltb (length os) 8) (λ t. t) (λ t. t) (λ t. t) (λ t. t) (added-all r begun os) (added-all r begun (os ++ (o ∷ [])))
+  where
+    one : (a b : Bool) → (T a → T (any (sameObligation o) os)) → (T (not a) → T (not (any (sameObligation o) os))) → (T b → T (ltb (length os) 8))
+        → (T (not b) → T (not (ltb (length os) 8))) → Adding r os (os ++ begun) (addedAll begun (owing os r))
+        → Adding r (os ++ (o ∷ [])) ((os ++ (o ∷ [])) ++ begun) (addedAll begun (owing (os ++ (o ∷ [])) r))
+        → Adding r os (os ++ (o ∷ begun)) (onward (addedAll begun) (cond a (some (owing os r)) (cond b (some (owing (os ++ (o ∷ [])) r)) none)))
+    one true b t n l g h k = earlier (there-already o os begun (t tt)) (λ w. w) (λ w. w) h
+    one false true t n l g h k =
+        earlier (λ z. ap (any (sameObligation z)) (append-assoc os (o ∷ []) begun)) (λ w. let lt = ltb→lt (length os) 8 (l tt) in omega (arith, length-append os (o ∷ [])))
+        (λ w. apart-snoc sameObligation owed-equivalence os o w (n tt)) k
+    one false false t n l g h k = full (record {
+      among = os ++ (o ∷ []);
+      covered = λ z u. subst T (ap (any (sameObligation z)) (append-assoc os (o ∷ []) begun))
+          (subst T (sym (any-append (sameObligation z) (os ++ (o ∷ [])) begun)) (or-l (any (sameObligation z) (os ++ (o ∷ []))) (any (sameObligation z) begun) u));
+      many = let le = nltb→le (length os) 8 (g tt) in omega (arith, length-append os (o ∷ []));
+      once = λ w. apart-snoc sameObligation owed-equivalence os o w (n tt);
+    })
+
+-- ---- a filled instant
+
+-- by whether it goes on: those that f leaves, and those that it begins
+data Moves (v : SheetValue) (f : Filled) (r : Remainder) : Bool → Advanced → Type 0 where
+  stays : Moves v f r false fails
+  nine : Nine (r .owed) (left f (r .owed) ++ flatMap (owedFrom f) (v .lines)) → Moves v f r true over
+  moves : {xs : List Obligation} → Tidied (r .owed) (left f (r .owed) ++ flatMap (owedFrom f) (v .lines)) xs → Moves v f r true (onto (carried v (f .ticks) (owing xs r)))
+
+filter-shorter : {A : Type 0} (p : A → Bool) (xs : List A) → length (filter p xs) ≤ length xs
+filter-shorter p [] = omega arith
+filter-shorter p (x ∷ xs) = by-test (p x) (filter-shorter p xs)
+  where
+    by-test : (b : Bool) → length (filter p xs) ≤ length xs → length (cond b (x ∷ filter p xs) (filter p xs)) ≤ suc (length xs)
+    by-test true h = omega arith
+    by-test false h = omega arith
+
+-- those left are as few, and distinct if all are
+left-room : (f : Filled) (os : List Obligation) → length os ≤ 8 → length (left f os) ≤ 8
+left-room f os h = let le = filter-shorter (λ (o : Obligation). not (meets f o)) os in omega arith
+
+left-once : (f : Filled) (os : List Obligation) → T (apart sameObligation os) → T (apart sameObligation (left f os))
+left-once f os a =
+    filter-once sameObligation owed-equivalence (λ (o : Obligation). not (meets f o)) (λ x y e t. subst (λ (o : Obligation). T (not (meets f o))) (sameObligation→eq x y e) t)
+    {xs = os} {ys = os} (record { each-once = a; these = λ o. refl }) .each-once
+
+with-begun : {v : SheetValue} {f : Filled} {r : Remainder} {q : Option Remainder} → Adding r (r .owed) (left f (r .owed) ++ flatMap (owedFrom f) (v .lines)) q
+    → Moves v f r true (withBegun v (f .ticks) q)
+with-begun (room h) = moves h
+with-begun (full h) = nine h
+
+advance-moves : (v : SheetValue) (f : Filled) (r : Remainder) → Moves v f r (goesOn v f r) (advanced v f (flatMap (owedFrom f) (v .lines)) r)
+unfolding advanced kept
+advance-moves v f r =
+    by-tests (linesOk (carriedHolds (f .ticks) (r .stopped)) (v .lines) (r .leads)) (notLate (some (f .tags)) (left f (r .owed)))
+  where
+    begun : List Obligation
+    begun = flatMap (owedFrom f) (v .lines)
+
+    by-tests : (a b : Bool) → Moves v f r (a && b) (cond a (withKept v (f .ticks) begun (cond b (some (owing (left f (r .owed)) r)) none)) fails)
+    by-tests false b = stays
+    by-tests true false = stays
+    by-tests true true = with-begun (earlier (λ o. refl) (left-room f (r .owed)) (left-once f (r .owed)) (added-all r begun (left f (r .owed))))
+
+-- ---- a filled instant of the sheet's clocks, by what comes next
+
+pub data Steps (v : SheetValue) (f : Filled) (r : Remainder) : Bool → Advanced → Type 0 where
+  broken : Steps v f r false fails
+  too-many : (T (apart sameObligation (r .owed)) → 8 < owes (next v f r)) → Steps v f r true over
+  goes : {x : Remainder} → T (sameRemainder x (next v f r)) → T (leb (owes x) 8) → (T (apart sameObligation (r .owed)) → T (apart sameObligation (x .owed))) → Steps v f r true (onto x)
+
+owes-within : (r : Remainder) → length (r .owed) ≤ 8 → T (leb (owes r) 8)
+unfolding owes
+owes-within r h =
+    let os = distinct sameObligation (r .owed) in
+    let le = length-le sameObligation owed-equivalence os (r .owed) (distinct-apart sameObligation owed-equivalence (r .owed))
+    (λ o t. subst T (distinct-set sameObligation owed-equivalence (r .owed) o) t) in
+    le→leb (length os) 8 (omega arith)
+
+module _ (v : SheetValue) (f : Filled) (r : Remainder) (clocks : length (r .stopped) ≡ v .clocks) (few : length (r .owed) ≤ 8) where
+  owing-next : List Obligation → Remainder
+  owing-next os = carried v (padded f .ticks) (owing os r)
+
+  these : List Obligation
+  these = left (padded f) (r .owed) ++ flatMap (owedFrom (padded f)) (v .lines)
+
+  moves-steps : {ok : Bool} {a : Advanced} → Moves v (padded f) r ok a → Steps v f r ok a
+  unfolding owing-next these
+  moves-steps stays = broken
+  moves-steps (nine h) = too-many (λ a. subst (λ (q : Remainder). 8 < owes q) (sym (step-next v f r clocks)) (owes-more (owing-next these) 8 (h .among) (h .once a) (h .covered) (h .many)))
+  moves-steps (moves {xs = xs} h) = goes
+      (subst (λ (q : Remainder). T (sameRemainder (owing-next xs) q)) (sym (step-next v f r clocks))
+      (same-of (owing-next xs) (owing-next these) (record { leads = refl; stopped = refl; owed = h .set })))
+      (owes-within (owing-next xs) (h .room few)) (h .once)
+
+  pub steps : {ok : Bool} → ok ≡ goesOn v (padded f) r → Steps v f r ok (advanced v (padded f) (flatMap (owedFrom (padded f)) (v .lines)) r)
+  steps e = subst (λ (ok : Bool). Steps v f r ok (advanced v (padded f) (flatMap (owedFrom (padded f)) (v .lines)) r)) (sym e) (moves-steps (advance-moves v (padded f) r))

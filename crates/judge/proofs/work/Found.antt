@@ -1,0 +1,61 @@
+-- What the monitor's work on an instant has found: every successor once, or a reason to answer exhausted. Assumes nothing.
+use mathlib.Core.Bool.{Bool}
+use mathlib.Core.List.{List}
+use mathlib.Core.Option.{Option, none, some}
+use mathlib.Core.Path.{_≡_, _∙_, subst}
+use Prim.Native.Nat.{ℕ, _≤_}
+use lib.Dec.{T, leb}
+use lib.IntN.{ℤ, pos}
+use lib.ListN.{length}
+use Rattle.records.specs.Lists.{filled}
+use Rattle.records.specs.Types.{All}
+use Rattle.records.specs.Sheet.{SheetValue}
+use Rattle.tesl.specs.Lists.{all}
+use Rattle.tesl.specs.Run.{Instant, ticksOf, tagsOf, fillings}
+use Rattle.tesl.specs.Remainder.{Remainder, sameObligation, sameRemainder, owes}
+use Rattle.tesl.specs.Answer.{exhausted}
+use Rattle.theory.specs.Sets.{apart, EachOnce}
+use Rattle.theory.specs.Held.{successors}
+use Rattle.theory.specs.Tracks.{Finding}
+use Rattle.judge.specs.View.{lastOf}
+use Rattle.judge.specs.Work.{worked}
+use Rattle.judge.proofs.work.Padded.{lastIn}
+use Rattle.judge.proofs.work.Gather.{of-each, Gathered, Gathering}
+use Rattle.judge.proofs.work.Settle.{reached, reached-are, worked-gathers}
+
+-- a remainder of c clocks as the arrays have it
+pub record Shaped (c : ℕ) (r : Remainder) : Type 0 where
+  pub clocks : length (r .stopped) ≡ c
+  pub owed : length (r .owed) ≤ 8
+
+-- each obligation once
+abbrev pub Proper : List Remainder → Type 0
+Proper rs = All (λ (r : Remainder). T (apart sameObligation (r .owed))) rs
+
+pub record Every (v : SheetValue) (last : Option (List ℤ)) (i : Instant) (rs new : List Remainder) : Type 0 where
+  pub once : EachOnce sameRemainder new (successors v last i rs)
+  pub live : length new ≤ 32
+  pub owe : T (all (λ (r : Remainder). leb (owes r) 8) new)
+
+module _ (v : SheetValue) (first : Bool) (was : List ℤ) (i : Instant) (size : length i ≤ 8) (rs : List Remainder) (shaped : All (Shaped (v .clocks)) rs) where
+  gathered : {q : Option (List Remainder)} → worked 32 v (lastOf first was) (ticksOf i) (filled 8 (pos 0) (tagsOf i)) (some rs) ≡ q
+      → Gathering v (lastIn v first was) i rs (reached v (lastIn v first was) rs (fillings i)) q
+  gathered e =
+      subst (Gathering v (lastIn v first was) i rs (reached v (lastIn v first was) rs (fillings i))) e
+      (worked-gathers v first was i size rs (λ r m. let h = of-each (Shaped (v .clocks)) shaped m in (h .clocks, h .owed)))
+
+  pub worked-every : {new : List Remainder} → worked 32 v (lastOf first was) (ticksOf i) (filled 8 (pos 0) (tagsOf i)) (some rs) ≡ some new → Every v (lastIn v first was) i rs new
+  worked-every {new} e =
+      let g : Gathered v (lastIn v first was) i rs (reached v (lastIn v first was) rs (fillings i)) new = gathered e in
+      record {
+        once = record { each-once = g .once .each-once; these = λ x. g .once .these x ∙ reached-are v (lastIn v first was) i rs x };
+        live = g .live;
+        owe = g .owe;
+      }
+
+  pub worked-proper : {new : List Remainder} → Proper rs → worked 32 v (lastOf first was) (ticksOf i) (filled 8 (pos 0) (tagsOf i)) (some rs) ≡ some new → Proper new
+  worked-proper p e = gathered e .tidy p
+
+  pub worked-none : {new : List Remainder} → Proper rs → worked 32 v (lastOf first was) (ticksOf i) (filled 8 (pos 0) (tagsOf i)) (some rs) ≡ none
+      → Finding v (lastIn v first was) i rs exhausted new
+  worked-none {new} p e = gathered e p new

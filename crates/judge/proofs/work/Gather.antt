@@ -1,0 +1,117 @@
+-- The successors found so far, each once, while there is room: what one more makes of them, and a fold. Assumes nothing.
+use mathlib.Core.Bool.{Bool, true, false, not, cond, _&&_}
+use mathlib.Core.List.{List, [], _∷_, _++_, append-nil, append-assoc, List·Memᴰ, List·Memᴰ·head, List·Memᴰ·tail}
+use mathlib.Core.Option.{Option, none, some}
+use mathlib.Core.Path.{refl, sym, subst}
+use Prim.Native.Nat.{_≤_}
+use native.Mathlib.Omega.{arith}
+use lib.Dec.{T, leb, ltb, ltb→lt, nltb→le}
+use lib.IntN.{ℤ}
+use lib.ListN.{length, length-append}
+use Rattle.records.specs.Sheet.{SheetValue}
+use Rattle.records.specs.Types.{All}
+use Rattle.tesl.specs.Lists.{all, any, flatMap}
+use Rattle.tesl.specs.Run.{Instant, Filled, fillings}
+use Rattle.tesl.specs.Remainder.{Remainder, sameObligation, sameRemainder, owes}
+use Rattle.tesl.specs.Answer.{exhausted}
+use Rattle.tesl.proofs.Tests.{and-i, or-e}
+use Rattle.tesl.proofs.FormulaLists.{all-append}
+use Rattle.theory.specs.Sets.{apart, Covers, EachOnce}
+use Rattle.theory.specs.Step.{next, stepOk}
+use Rattle.theory.specs.Held.{successors}
+use Rattle.theory.specs.Tracks.{Finding, one-more, owed}
+use Rattle.theory.proofs.Fill.{foldl}
+use Rattle.theory.proofs.Lists.{any-snoc, each-snoc}
+use Rattle.theory.proofs.Sets.{any-same, again, fresh}
+use Rattle.theory.proofs.Respect.{remainder-equivalence}
+use Rattle.theory.proofs.Held.{successor-found}
+use Rattle.judge.specs.Advanced.{Advanced}
+use Rattle.judge.specs.Work.{inserted, took}
+use Rattle.judge.proofs.work.Advance.{Steps, broken, too-many, goes}
+
+-- ---- what holds of each of a list
+
+module _ {A : Type 0} (P : A → Type 0) where
+  pub each-of : (xs : List A) → ((x : A) → List·Memᴰ x xs → P x) → All P xs
+  each-of [] h = tt
+  each-of (x ∷ xs) h = (h x (List·Memᴰ·head refl), each-of xs (λ y m. h y (List·Memᴰ·tail m)))
+
+  pub of-each : {x : A} {xs : List A} → All P xs → List·Memᴰ x xs → P x
+  of-each h (List·Memᴰ·head e) = subst P (sym e) (h .0)
+  of-each h (List·Memᴰ·tail m) = of-each (h .1) m
+
+-- ---- those found
+
+-- each obligation once
+abbrev pub Once : Remainder → Type 0
+Once r = T (apart sameObligation (r .owed))
+
+module _ (v : SheetValue) (last : Option (List ℤ)) (i : Instant) (rs : List Remainder) where
+  -- xs are the reached ones, which are successors
+  pub record Gathered (reached xs : List Remainder) : Type 0 where
+    pub once : EachOnce sameRemainder xs reached
+    pub covered : Covers sameRemainder reached (successors v last i rs)
+    pub live : length xs ≤ 32
+    pub owe : T (all (λ (r : Remainder). leb (owes r) 8) xs)
+    pub tidy : All Once rs → All Once xs
+
+  -- or there is a reason to answer exhausted
+  abbrev pub Gathering : List Remainder → Option (List Remainder) → Type 0
+  Gathering reached none = All Once rs → (new : List Remainder) → Finding v last i rs exhausted new
+  Gathering reached (some xs) = Gathered reached xs
+
+  -- ---- one remainder by one filling
+
+  module _ {f : Filled} {r : Remainder} (m : List·Memᴰ r rs) (n : List·Memᴰ f (fillings i)) where
+    -- what it becomes, if it goes on
+    covers-more : (reached : List Remainder) → T (stepOk v last f r) → Covers sameRemainder reached (successors v last i rs)
+        → Covers sameRemainder (reached ++ (next v f r ∷ [])) (successors v last i rs)
+    covers-more reached ok c z t = or-e (any (sameRemainder z) reached) (sameRemainder z (next v f r)) (subst T (any-snoc (sameRemainder z) reached (next v f r)) t)
+        (c z) (λ u. any-same sameRemainder remainder-equivalence z (next v f r) (successors v last i rs) u (successor-found v last i m n ok))
+
+    gather-insert : (reached : List Remainder) (found : Option (List Remainder)) (x : Remainder) → T (stepOk v last f r) → T (sameRemainder x (next v f r))
+        → T (leb (owes x) 8) → (Once r → Once x) → Gathering reached found → Gathering (reached ++ (next v f r ∷ [])) (inserted 32 found x)
+    unfolding inserted
+    gather-insert reached none x ok s w o h = h
+    gather-insert reached (some xs) x ok s w o h = by-tests (any (sameRemainder x) xs) (ltb (length xs) 32) (λ t. t) (λ t. t) (λ t. t) (λ t. t)
+      where
+        few : Remainder → Bool
+        few q = leb (owes q) 8
+
+        more : Covers sameRemainder (reached ++ (next v f r ∷ [])) (successors v last i rs)
+        more = covers-more reached ok (h .covered)
+
+        by-tests : (a b : Bool) → (T a → T (any (sameRemainder x) xs)) → (T (not a) → T (not (any (sameRemainder x) xs))) → (T b → T (ltb (length xs) 32))
+            → (T (not b) → T (not (ltb (length xs) 32))) → Gathering (reached ++ (next v f r ∷ [])) (cond a (some xs) (cond b (some (xs ++ (x ∷ []))) none))
+        by-tests true b t n l g = record {
+          once = again sameRemainder remainder-equivalence (h .once) x (next v f r) s (t tt);
+          covered = more;
+          live = h .live;
+          owe = h .owe;
+          tidy = h .tidy;
+        }
+        by-tests false true t n l g = record {
+          once = fresh sameRemainder remainder-equivalence (h .once) x (next v f r) s (n tt);
+          covered = more;
+          live = let lt = ltb→lt (length xs) 32 (l tt) in omega (arith, length-append xs (x ∷ []));
+          owe = subst T (sym (all-append few xs (x ∷ []))) (and-i (all few xs) (few x && true) (h .owe) (and-i (few x) true w tt));
+          tidy = λ p. each-snoc Once xs (h .tidy p) (o (of-each Once p m));
+        }
+        by-tests false false t n′ l g = λ p new. one-more xs (h .once .each-once) (λ z u. h .covered z (subst T (h .once .these z) u)) (nltb→le (length xs) 32 (g tt)) x
+            (any-same sameRemainder remainder-equivalence x (next v f r) (successors v last i rs) s (successor-found v last i m n ok)) (n′ tt)
+
+    pub gather-one : (reached : List Remainder) (found : Option (List Remainder)) {ok : Bool} {a : Advanced} → (T ok → T (stepOk v last f r)) → Steps v f r ok a
+        → Gathering reached found → Gathering (reached ++ cond ok (next v f r ∷ []) []) (took 32 found a)
+    gather-one reached found ok broken h = subst (λ (l : List Remainder). Gathering l found) (sym (append-nil reached)) h
+    gather-one reached found ok (too-many k) h = λ p new. owed (next v f r) (successor-found v last i m n (ok tt)) (k (of-each Once p m))
+    gather-one reached found ok (goes {x = x} s w o) h = gather-insert reached found x (ok tt) s w o h
+
+  -- ---- a fold
+
+  pub gather-fold : {A : Type 0} (g : Option (List Remainder) → A → Option (List Remainder)) (made : A → List Remainder) (P : A → Type 0)
+      → ((reached : List Remainder) (found : Option (List Remainder)) (a : A) → P a → Gathering reached found → Gathering (reached ++ made a) (g found a))
+      → (reached : List Remainder) (found : Option (List Remainder)) (ys : List A) → All P ys → Gathering reached found → Gathering (reached ++ flatMap made ys) (foldl g found ys)
+  gather-fold g made P h reached found [] p k = subst (λ (l : List Remainder). Gathering l found) (sym (append-nil reached)) k
+  gather-fold g made P h reached found (y ∷ ys) p k =
+      subst (λ (l : List Remainder). Gathering l (foldl g (g found y) ys)) (append-assoc reached (made y) (flatMap made ys))
+      (gather-fold g made P h (reached ++ made y) (g found y) ys (p .1) (h reached found y (p .0) k))

@@ -1,0 +1,53 @@
+-- Limits of a monitor (11), in document 01's order.
+use mathlib.Core.Bool.{Bool, true, false, _&&_}
+use mathlib.Core.List.{List}
+use mathlib.Core.Path.{_≡_}
+use Prim.Native.Nat.{ℕ}
+use lib.Dec.{leb, ltb}
+use lib.IntN.{ℤ, pos, negsuc}
+use lib.ListN.{take}
+use lib.Signed.{leZ}
+use Rattle.records.specs.Outcome.{Outcome, taken, refused, decide}
+use Rattle.records.specs.Sheet.{SheetValue, sheetValue, sheetValueChecks}
+use Rattle.records.specs.Types.{IsSheet}
+use Rattle.tesl.specs.Lists.{all}
+use Rattle.tesl.specs.Fits.{Obligation}
+use Rattle.judge.specs.declared.remainder.Remainder as arrays
+use Rattle.judge.specs.declared.held.Count.{Count}
+use Rattle.judge.specs.declared.held.Count.the-variants.{Exhausted, Live}
+use Rattle.judge.specs.declared.held.Held.{Held}
+use Rattle.judge.specs.declared.monitor.Monitor.{Monitor}
+use Rattle.judge.specs.View.{owedOf, viewOf}
+
+abbrev pub isTaken : {A : Type 0} → Outcome A → Bool
+isTaken (taken x) = true
+isTaken (refused n) = false
+
+-- a sheet value within its own: 4, 8, 7 and 9 don't apply
+unfoldable pub sheetWithin : SheetValue → Bool
+sheetWithin v = isTaken (decide (sheetValueChecks v) v)
+
+-- clocks below C, dues −32,768 to 98,302
+unfoldable pub obligationWithin : ℕ → Obligation → Bool
+obligationWithin c o = (ltb (o .clock) c && ltb (o .on) c) && (leZ (negsuc 32767) (o .due) && leZ (o .due) (pos 98302))
+
+-- obligations 0 to 8; ticks minus ticks 0 to the instants held, of the precedes lines
+unfoldable pub remainderWithin : SheetValue → ℕ → arrays.Remainder → Bool
+remainderWithin v instants r =
+    leb (r .owed) 8 && (all (obligationWithin (v .clocks)) (owedOf r) && all (λ (n : ℕ). leb n instants) (viewOf v r .leads))
+
+-- live 0 to 32; none is held once exhausted
+unfoldable pub heldWithin : SheetValue → ℕ → Count → List arrays.Remainder → Bool
+heldWithin v instants Exhausted rs = true
+heldWithin v instants (Live n) rs = leb n 32 && all (remainderWithin v instants) (take n rs)
+
+-- instants 0 to 4,000
+unfoldable pub within : Monitor → Bool
+within m =
+    let v = sheetValue (m .sheet) in
+    sheetWithin v && (leb (m .instants) 4000 && heldWithin v (m .instants) (m .held .count) (m .held .remainders))
+
+-- what testing the limits tells: whether they are kept; and where they are, the types of the code bound the sheet's numbers
+pub record Limited (m : Monitor) (r : Bool) : Type 0 where
+  pub answer : r ≡ within m
+  pub value : r ≡ true → IsSheet (sheetValue (m .sheet))

@@ -1,0 +1,67 @@
+-- What a monitor keeps, and what the inner functions of opening and observing promise.
+use mathlib.Core.Bool.{cond}
+use mathlib.Core.List.{List, [], _∷_}
+use mathlib.Core.Option.{Option, none, some}
+use mathlib.Core.Path.{_≡_}
+use Prim.Native.Nat.{ℕ, suc, _≤_, _<_}
+use lib.Dec.{T, eqb}
+use lib.IntN.{ℤ, pos}
+use lib.ListN.{take, replicate}
+use Rattle.records.specs.declared.sheet.Sheet.{Sheet}
+use Rattle.records.specs.declared.instant.Instant.{Instant}
+use Rattle.records.specs.Outcome.{taken}
+use Rattle.records.specs.Sheet.{SheetValue, sheetValue}
+use Rattle.tesl.specs.Lists.{all, flatMap}
+use Rattle.tesl.specs.Fits.{owedAtStart}
+use Rattle.tesl.specs.Remainder.{Remainder}
+use Rattle.theory.specs.Step.{wellFormed}
+use Rattle.judge.specs.declared.answer.Reply.the-variants as reply
+use Rattle.judge.specs.declared.held.Held.{Held}
+use Rattle.judge.specs.declared.monitor.Monitor.{Monitor}
+use Rattle.judge.specs.declared.monitor.Given.{Given}
+use Rattle.judge.specs.View.{cut, heldOf, liveOf, seenOf, lastOf, sized}
+use Rattle.judge.specs.Lines.{smallLeads}
+use Rattle.judge.specs.Work.{addedAll, worked}
+use Rattle.judge.specs.Start.{blankRemainder}
+use Rattle.judge.specs.Answer.{replyOf, saidBy}
+
+-- the sheet's value, the remainders held, and what they say: the last answer
+abbrev pub sheetBy : Monitor → SheetValue
+sheetBy m = sheetValue (m .sheet)
+
+abbrev pub heldBy : Monitor → Option (List Remainder)
+heldBy m = heldOf (sheetBy m) (m .held)
+
+-- the last tags of the sheet's clocks; none before the first instant
+abbrev pub lastBy : Monitor → Option (List ℤ)
+lastBy m = cond (eqb (m .instants) 0) none (some (take (m .sheet .clocks) (m .tags)))
+
+-- the number, and the monitor as it came
+abbrev pub refusal : ℕ → Monitor → Given
+refusal n m = record { reply = reply.Refused n; monitor = m }
+
+-- what work asks of a monitor
+pub record Workable (m : Monitor) : Type 0 where
+  pub lines : m .sheet .count ≤ 16
+  pub clocks : m .sheet .clocks ≤ 8
+  pub below : T (wellFormed (sheetBy m))
+  pub room : m .instants < 4000
+  pub leads : T (all smallLeads (liveOf (sheetBy m) (m .held)))
+  pub fits : T (sized (m .held))
+
+-- a monitor of no instant; where a ninth obligation has no room, nothing is said of its remainder
+pub record Begins (s : Sheet) (m : Monitor) : Type 0 where
+  pub sheet : m .sheet ≡ s
+  pub instants : m .instants ≡ 0
+  pub held : (q : Remainder) → addedAll (flatMap owedAtStart (sheetValue s .lines)) blankRemainder ≡ some q
+      → heldBy m ≡ some (cut (sheetValue s) q ∷ [])
+  pub fits : T (sized (m .held))
+
+-- a monitor after an accepted instant, and its answer
+pub record Accepts (m : Monitor) (i : Instant) (r : Given) : Type 0 where
+  pub sheet : r .monitor .sheet ≡ m .sheet
+  pub instants : r .monitor .instants ≡ suc (m .instants)
+  pub tags : r .monitor .tags ≡ i .tags
+  pub held : heldBy (r .monitor) ≡ worked 32 (sheetBy m) (lastOf (eqb (m .instants) 0) (m .tags)) (seenOf (m .sheet .clocks) (i .ticks)) (i .tags) (heldBy m)
+  pub fits : T (sized (r .monitor .held))
+  pub said : replyOf (r .reply) ≡ taken (saidBy (heldBy (r .monitor)))

@@ -1,0 +1,62 @@
+-- What `open` and `observe` promise, whole: these are their `ensures`, and what demand 3 is proved from.
+use mathlib.Core.Bool.{true, false, cond}
+use mathlib.Core.List.{List, [], _∷_, _++_, map}
+use mathlib.Core.Logic.{_≢_}
+use mathlib.Core.Path.{_≡_}
+use Prim.Native.Nat.{ℕ}
+use lib.Dec.{T}
+use lib.ListN.{length}
+use Rattle.records.specs.Outcome.{Outcome, taken, refused}
+use Rattle.records.specs.Sheet.{SheetValue, readSheet}
+use Rattle.records.specs.Instant.{readInstant}
+use Rattle.records.specs.Types.{All}
+use Rattle.tesl.specs.Lists.{lastOf}
+use Rattle.tesl.specs.Run.{Instant, tagsOf}
+use Rattle.tesl.specs.Remainder.{Remainder, sameObligation, sameRemainder}
+use Rattle.tesl.specs.Answer.{Answer, exhausted, remainders, answer}
+use Rattle.tesl.specs.Machine.{unlessFull}
+use Rattle.theory.specs.Sets.{apart, EachOnce}
+use Rattle.judge.specs.declared.answer.Reply.the-variants as reply
+use Rattle.judge.specs.declared.monitor.Monitor.{Monitor}
+use Rattle.judge.specs.declared.monitor.Given.{Given}
+use Rattle.judge.specs.View.{live}
+use Rattle.judge.specs.Answer.{replyOf, saidBy}
+use Rattle.judge.specs.Limits.{within}
+use Rattle.judge.specs.Monitor.{sheetBy, heldBy, lastBy, refusal}
+
+-- m is a monitor of the sheet s after the accepted instants run: of the instants it has their number, the last tags and the last answer;
+-- while the answer is not exhausted its remainders are the run's distinct ones, each once, and each owes an obligation once; and it is within its limits
+pub record Follows (s : SheetValue) (run : List Instant) (m : Monitor) : Type 0 where
+  pub sheet : sheetBy m ≡ s
+  pub instants : m .instants ≡ length run
+  pub last : lastBy m ≡ lastOf (map tagsOf run)
+  pub said : saidBy (heldBy m) ≡ answer s run
+  pub held : saidBy (heldBy m) ≢ exhausted → EachOnce sameRemainder (live (heldBy m)) (remainders s run)
+  pub owed : All (λ (r : Remainder). T (apart sameObligation (r .owed))) (live (heldBy m))
+  pub limits : within m ≡ true
+
+-- ---- opening
+
+-- refused: the sheet's number and no monitor, the one in its place being outside its limits; else the answer for no instant, and a monitor that follows the sheet
+pub record Opened (bytes : List ℕ) (r : Given) : Type 0 where
+  pub refuses : (n : ℕ) → readSheet bytes ≡ refused n → (r .reply ≡ reply.Refused n) × (within (r .monitor) ≡ false)
+  pub opens : (s : SheetValue) → readSheet bytes ≡ taken s → (replyOf (r .reply) ≡ taken (answer s [])) × Follows s [] (r .monitor)
+
+-- ---- observing
+
+-- what a call is taken for: 11: monitor outside its limits; 12 to 15 as reading gives them; then 16
+unfoldable pub observes : Monitor → List ℕ → Outcome Instant
+observes m bytes = cond (within m) (unlessFull (m .instants) (readInstant (m .sheet .clocks) bytes)) (refused 11)
+
+-- an accepted instant: an answer, and a monitor within its limits; for every run that the monitor followed, the machine's answer, and the monitor follows the longer run
+-- free is what is answered and held for a monitor that follows no run
+pub record Accepted (m : Monitor) (i : Instant) (r : Given) : Type 0 where
+  pub answers : (a : Answer) × (replyOf (r .reply) ≡ taken a)
+  pub limits : within (r .monitor) ≡ true
+  pub follows : (s : SheetValue) (run : List Instant) → Follows s run m
+      → (replyOf (r .reply) ≡ taken (answer s (run ++ (i ∷ [])))) × Follows s (run ++ (i ∷ [])) (r .monitor)
+
+-- refused: the number, and the monitor as it came
+pub record Observed (m : Monitor) (bytes : List ℕ) (r : Given) : Type 0 where
+  pub refuses : (n : ℕ) → observes m bytes ≡ refused n → r ≡ refusal n m
+  pub accepts : (i : Instant) → observes m bytes ≡ taken i → Accepted m i r

@@ -1,0 +1,88 @@
+-- What an instant makes of the remainders held, in the order in which the monitor works: `none` once exhausted.
+use mathlib.Core.Bool.{Bool, true, false, cond, _&&_}
+use mathlib.Core.List.{List, [], _∷_, _++_}
+use mathlib.Core.Option.{Option, none, some}
+use Prim.Native.Nat.{ℕ, _+_}
+use lib.Dec.{ltb}
+use lib.IntN.{ℤ}
+use lib.ListN.{length, replicate, set}
+use Rattle.records.specs.declared.instant.Tick.{Tick}
+use Rattle.records.specs.declared.instant.Tick.the-variants.{Idle, Ticks, Unseen}
+use Rattle.records.specs.Sheet.{SheetValue}
+use Rattle.tesl.specs.Lists.{all, any, flatMap}
+use Rattle.tesl.specs.Run.{Filled}
+use Rattle.tesl.specs.Fits.{Obligation, noneFalls, owedFrom}
+use Rattle.tesl.specs.Remainder.{Remainder, sameRemainder}
+use Rattle.theory.specs.Step.{linesOk, nextLeads}
+use Rattle.judge.specs.Advanced.{Advanced, fails, over, onto}
+use Rattle.judge.specs.View.{filledOf}
+use Rattle.judge.specs.Questions.{tagsHold, ticksHold, carriedHolds, leadAfter}
+use Rattle.judge.specs.Lines.{allStopped}
+use Rattle.judge.specs.Owed.{added, kept}
+
+-- ---- one remainder
+
+abbrev pub onward : {A B : Type 0} → (A → Option B) → Option A → Option B
+onward go none = none
+onward go (some x) = go x
+
+-- one obligation after the other
+abbrev pub addedAll : List Obligation → Remainder → Option Remainder
+addedAll [] r = some r
+addedAll (o ∷ os) r = onward (addedAll os) (added r o)
+
+-- the leads and stopped clocks after an instant
+abbrev pub carried : SheetValue → List Bool → Remainder → Remainder
+carried v ticks r = record { owed = r .owed; leads = nextLeads (leadAfter ticks) (v .lines) (r .leads); stopped = allStopped ticks (v .lines) (r .stopped) }
+
+abbrev pub withBegun : SheetValue → List Bool → Option Remainder → Advanced
+withBegun v ticks none = over
+withBegun v ticks (some r) = onto (carried v ticks r)
+
+abbrev pub withKept : SheetValue → List Bool → List Obligation → Option Remainder → Advanced
+withKept v ticks begun none = fails
+withKept v ticks begun (some r) = withBegun v ticks (addedAll begun r)
+
+-- by what is carried, what is met or late, and what is begun
+unfoldable pub advanced : SheetValue → Filled → List Obligation → Remainder → Advanced
+advanced v f begun r =
+    cond (linesOk (carriedHolds (f .ticks) (r .stopped)) (v .lines) (r .leads)) (withKept v (f .ticks) begun (kept f r)) fails
+
+-- ---- those held
+
+-- one more, unless it is there, while there is room
+unfoldable pub inserted : ℕ → Option (List Remainder) → Remainder → Option (List Remainder)
+inserted room none x = none
+inserted room (some rs) x = cond (any (sameRemainder x) rs) (some rs) (cond (ltb (length rs) room) (some (rs ++ (x ∷ []))) none)
+
+abbrev pub took : ℕ → Option (List Remainder) → Advanced → Option (List Remainder)
+took room found fails = found
+took room found over = none
+took room found (onto x) = inserted room found x
+
+-- each of rs goes on by a filled instant that begins these obligations
+unfoldable pub settledAll : ℕ → SheetValue → Filled → List Obligation → List Remainder → Option (List Remainder) → Option (List Remainder)
+settledAll room v f begun [] found = found
+settledAll room v f begun (r ∷ rs) found = settledAll room v f begun rs (took room found (advanced v f begun r))
+
+-- a filling, unless a line forbids its ticks
+unfoldable pub filling : ℕ → SheetValue → List ℤ → List Remainder → Option (List Remainder) → List Bool → Option (List Remainder)
+filling room v tags rs found ticks =
+    let f = filledOf ticks tags in
+    cond (all (ticksHold ticks) (v .lines)) (settledAll room v f (flatMap (owedFrom f) (v .lines)) rs found) found
+
+-- the fillings of the clocks from k on, idle before tick; g takes each
+abbrev pub fillFrom : {R : Type 0} → (R → List Bool → R) → ℕ → List Tick → List Bool → R → R
+fillFrom g k [] ticks r = g r ticks
+fillFrom g k (Idle ∷ left) ticks r = fillFrom g (k + 1) left ticks r
+fillFrom g k (Ticks ∷ left) ticks r = fillFrom g (k + 1) left (set ticks k true) r
+fillFrom g k (Unseen ∷ left) ticks r = fillFrom g (k + 1) left (set ticks k true) (fillFrom g (k + 1) left ticks r)
+
+-- the ticks and tags of an instant; nothing more is worked once exhausted or broken
+unfoldable pub worked : ℕ → SheetValue → Option (List ℤ) → List Tick → List ℤ → Option (List Remainder) → Option (List Remainder)
+worked room v last ticks tags none = none
+worked room v last ticks tags (some []) = some []
+worked room v last ticks tags (some (r ∷ rs)) =
+    cond (noneFalls (v .clocks) last tags && all (tagsHold tags) (v .lines))
+    (fillFrom (filling room v tags (r ∷ rs)) 0 ticks (replicate 8 false) (some []))
+    (some [])

@@ -1,0 +1,158 @@
+// The limits of a monitor, refusal 11.
+use crate::held::Count;
+use crate::held::Held;
+use crate::monitor::Monitor;
+use crate::obligation::Obligation;
+use crate::remainder::Remainder;
+use records::line::Line;
+use records::number;
+use records::record::Answer;
+use records::sheet::Sheet;
+use records::sheet::check_sheet;
+use records::sheet::line_at;
+ghost use mathlib.Core.Path.{_≡_};
+ghost use mathlib.Core.Bool.{_&&_};
+ghost use Prim.Native.Nat.{ℕ, _≤_};
+ghost use lib.Dec.{leb};
+ghost use lib.IntN.{pos, negsuc};
+ghost use lib.ListN.{take};
+ghost use lib.Signed.{leZ};
+ghost use Rattle.records.specs.Sheet.{sheetValue};
+ghost use Rattle.tesl.specs.Lists.{all};
+ghost use Rattle.theory.specs.Step.{nextLeads};
+ghost use Rattle.judge.specs.View.{obligationOf, owedOf, inUse};
+ghost use Rattle.judge.specs.Limits.{obligationWithin, remainderWithin, heldWithin, Limited};
+
+// From the least tag to the greatest and the longest delay after it.
+fn due_within(due: i64) -> bool
+    ensures { λ r. ⌜ r ≡ (leZ (negsuc 32767) due && leZ due (pos 98302)) ⌝ }
+{
+    if -32768 <= due { due <= 98302 } else { false }
+}
+
+fn obligation_within(clocks: u8, o: Obligation) -> bool
+    ensures { λ r. ⌜ r ≡ obligationWithin clocks (obligationOf o) ⌝ }
+{
+    if o.clock < clocks {
+        if o.on < clocks {
+            due_within(o.due)
+        } else {
+            false
+        }
+    } else {
+        false
+    }
+}
+
+fn obligations_within(clocks: u8, r: Remainder) -> bool
+    requires { ⌜ r .owed ≤ 8 ⌝ }
+    ensures { λ b. ⌜ b ≡ all (obligationWithin clocks) (owedOf r) ⌝ }
+{
+    let n = r.owed;
+    let mut i = 0;
+    while i < n {
+        let o = r.obligations[i];
+        if obligation_within(clocks, o) {
+            i += 1;
+        } else {
+            return false;
+        }
+    }
+    true
+}
+
+// Only a precedes line's lead is in use.
+fn lead_within(l: Line, lead: u16, instants: usize) -> bool
+    ensures { λ r. ⌜ r ≡ leb (inUse l lead) instants ⌝ }
+{
+    match l {
+        Line::Weakly { a: _, b: _ } => (lead as usize) <= instants,
+        Line::Strictly { a: _, b: _ } => (lead as usize) <= instants,
+        _ => true,
+    }
+}
+
+fn leads_within(s: Sheet, leads: [u16; 16], instants: usize) -> bool
+    requires { ⌜ s .count ≤ 16 ⌝ }
+    ensures { λ r. ⌜ r ≡ all (λ (n : ℕ). leb n instants) (nextLeads inUse (sheetValue s .lines) leads) ⌝ }
+{
+    let n = s.count;
+    let mut i = 0;
+    while i < n {
+        let lead = leads[i];
+        if lead_within(line_at(s, i), lead, instants) {
+            i += 1;
+        } else {
+            return false;
+        }
+    }
+    true
+}
+
+fn remainder_within(s: Sheet, instants: usize, r: Remainder) -> bool
+    requires { ⌜ s .count ≤ 16 ⌝ }
+    ensures { λ b. ⌜ b ≡ remainderWithin (sheetValue s) instants r ⌝ }
+{
+    let owed = r.owed;
+    if number::MAX_OWED < owed {
+        return false;
+    }
+    let clocks = s.clocks;
+    if obligations_within(clocks, r) {
+        let leads = r.leads;
+        leads_within(s, leads, instants)
+    } else {
+        false
+    }
+}
+
+fn held_within(s: Sheet, instants: usize, h: Held) -> bool
+    requires { ⌜ s .count ≤ 16 ⌝ }
+    ensures { λ b. ⌜ b ≡ heldWithin (sheetValue s) instants (h .count) (h .remainders) ⌝ }
+{
+    let count = h.count;
+    match count {
+        Count::Exhausted => true,
+        Count::Live(n) => {
+            if number::MAX_LIVE < n {
+                return false;
+            }
+            each_within(s, instants, n, h)
+        }
+    }
+}
+
+// Each of the first n remainders.
+fn each_within(s: Sheet, instants: usize, n: usize, h: Held) -> bool
+    requires { ⌜ (s .count ≤ 16) × (n ≤ 32) ⌝ }
+    ensures { λ b. ⌜ b ≡ all (remainderWithin (sheetValue s) instants) (take n (h .remainders)) ⌝ }
+{
+    let mut i = 0;
+    while i < n {
+        let r = h.remainders[i];
+        if remainder_within(s, instants, r) {
+            i += 1;
+        } else {
+            return false;
+        }
+    }
+    true
+}
+
+// A sheet value within its own limits, the instants, and those held.
+pub(crate) fn is_within(m: Monitor) -> bool
+    ensures { λ r. ⌜ Limited m r ⌝ }
+{
+    let sheet = m.sheet;
+    match check_sheet(sheet) {
+        Answer::Refused(_) => false,
+        Answer::Done => {
+            let instants = m.instants;
+            if number::MAX_INSTANTS < instants {
+                return false;
+            }
+            let held = m.held;
+            held_within(sheet, instants, held)
+        }
+    }
+}
