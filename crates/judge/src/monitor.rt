@@ -73,9 +73,9 @@ pub fn open(bytes: &[u8]) -> Given
         },
         Answer::Done => {
             let held = monitor.held;
-            let said = say(held);
+            let opening = say(held);
             Given {
-                reply: Reply::Answered(said),
+                reply: Reply::Answered(opening),
                 monitor,
             }
         }
@@ -86,10 +86,8 @@ pub fn open(bytes: &[u8]) -> Given
 fn refuse(n: u8, monitor: Monitor) -> Given
     ensures { λ r. ⌜ r ≡ refusal n monitor ⌝ }
 {
-    Given {
-        reply: Reply::Refused(n),
-        monitor,
-    }
+    let reply = Reply::Refused(n);
+    Given { reply, monitor }
 }
 
 // An instant that is taken.
