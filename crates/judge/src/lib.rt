@@ -1,15 +1,15 @@
 // The monitor: what clocks, obligations and lines say of a filled instant, what a remainder becomes, the remainders held, and the monitor itself.
 mod advance;
-mod answer;
+pub mod answer;
 mod clock;
 mod fill;
-mod held;
+pub mod held;
 mod limits;
 mod line;
 mod lines;
-mod monitor;
-mod obligation;
-mod remainder;
+pub mod monitor;
+pub mod obligation;
+pub mod remainder;
 mod settle;
 mod start;
 mod started;
