@@ -39,7 +39,7 @@ same-call : (s : SheetValue) (run : List Instant) (m : Monitor) (bytes : List �
 unfolding observes accepts
 same-call s run m bytes f = rw (f .limits, f .instants, ap (λ (v : SheetValue). v .clocks) (f .sheet))
 
-observing-follows : (s : SheetValue) (run : List Instant) (m after : Monitor) (bytes : List ℕ) (given : Outcome Answer)
+pub observing-follows : (s : SheetValue) (run : List Instant) (m after : Monitor) (bytes : List ℕ) (given : Outcome Answer)
     → Follows s run m → Observes m bytes given after → Observing Follows s run bytes given after
 observing-follows s run m after bytes given f (r, h, e, k) = by-outcome (accepts s run bytes) refl
   where

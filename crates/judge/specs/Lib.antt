@@ -10,4 +10,5 @@ pub mod Limits
 pub mod Start
 pub mod Monitor
 pub mod Promises
+pub mod Log
 pub mod Demands

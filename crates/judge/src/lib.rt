@@ -7,6 +7,7 @@ pub mod held;
 mod limits;
 mod line;
 mod lines;
+pub mod log;
 pub mod monitor;
 pub mod obligation;
 pub mod remainder;

@@ -43,7 +43,7 @@ four : (b : List ℕ) → 4 ≤ length b → at b 0 ∷ at b 1 ∷ at b 2 ∷ at
 unfolding listedFrom
 four b h = ap (λ (front : List ℕ). front ++ drop 4 b) (first-bytes b 4 h) ∙ take-append-drop 4 b
 
-whole-bytes : (b : List ℕ) → IsBytes b → isTorn b ≡ false → recordBytes (kindField b) (take (lengthField b) (drop 4 b)) ++ drop (4 + lengthField b) b ≡ b
+pub whole-bytes : (b : List ℕ) → IsBytes b → isTorn b ≡ false → recordBytes (kindField b) (take (lengthField b) (drop 4 b)) ++ drop (4 + lengthField b) b ≡ b
 whole-bytes b h w =
     let f = whole-fits b w in
     let n : length (take (lengthField b) (drop 4 b)) ≡ lengthField b = length-take-le (lengthField b) (drop 4 b) (rw length-drop (omega arith)) in
