@@ -1,0 +1,32 @@
+-- `due_of` is safe: a tag and a delay of 16 bits fit 64. Assumes nothing.
+use mathlib.Core.Path.{_≡_}
+use native.Mathlib.Omega.{arith}
+use lib.IntN.{pos, _+ℤ_}
+use mir.Facts.{toZ-pos}
+use mir.Val.{toZ, ofZ, SFits}
+use mir.Syntax.{w64}
+use borrow.Author.Needs.{needs}
+use Rattle.filler.proofs.Whole.{due-fits, held-wide}
+use Rattle.filler.proofs.obligation.due_of.Statement.{statement}
+use Rattle.filler.proofs.obligation.due_of.Tie as tie
+
+sum : (c : tie.After-wide) → toZ w64 (ofZ w64 (c .wide .result)) +ℤ toZ w64 (c .before .args .delay) ≡ c .before .args .tag +ℤ pos (c .before .args .delay)
+sum c = rw (held-wide (c .before .fits .tag) (c .wide .ensures), toZ-pos w64 {n = c .before .args .delay} (omega arith))
+
+fits : (c : tie.After-wide) → SFits w64 (c .before .args .tag +ℤ pos (c .before .args .delay))
+fits c = due-fits (c .before .args .tag) (c .before .args .delay) (c .before .fits .tag) (omega arith)
+
+wide-requires : tie.Need-wide-requires
+wide-requires c κs = search needs
+
+cast-result : tie.Need-cast-result
+cast-result c = search needs
+
+add-result : tie.Need-add-result
+add-result c = rw (sum c) (fits c)
+
+returns : tie.Need-returns
+returns c = search needs
+
+pub due-of-spec : {M : Type 1} → statement M
+due-of-spec = tie.close (tie.spec wide-requires cast-result add-result returns)

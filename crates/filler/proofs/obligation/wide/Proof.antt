@@ -1,0 +1,15 @@
+-- `wide` meets its contract: a number of 16 bits fits 64. Assumes nothing.
+use mir.Syntax.{w16, w64}
+use mir.Facts.{toZ-ofZ}
+use Rattle.filler.proofs.Whole.{wide-fits}
+use Rattle.filler.proofs.obligation.wide.Statement.{statement}
+use Rattle.filler.proofs.obligation.wide.Tie as tie
+
+cast-result : tie.Need-cast-result
+cast-result c = rw (toZ-ofZ {w = w16} (c .fits .x)) (wide-fits (c .fits .x))
+
+returns : tie.Need-returns
+returns c = rw (toZ-ofZ {w = w16} (c .fits .x)) (toZ-ofZ {w = w64} (wide-fits (c .fits .x)))
+
+pub wide-spec : {M : Type 1} → statement M
+wide-spec = tie.close (tie.spec cast-result returns)

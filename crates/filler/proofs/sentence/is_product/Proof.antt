@@ -1,0 +1,56 @@
+-- `is_product` is safe: products and sums of numbers of 16 bits fit 64. Assumes nothing.
+use mathlib.Core.Path.{_≡_}
+use lib.IntN.{ℤ, _+ℤ_, _*ℤ_}
+use mir.Facts.{toZ-ofZ}
+use mir.Val.{toZ, ofZ}
+use mir.Syntax.{w64}
+use borrow.Author.Needs.{needs}
+use Rattle.filler.proofs.Whole.{product-fits, relation-fits, held-wide}
+use Rattle.filler.proofs.sentence.is_product.Statement.{statement}
+use Rattle.filler.proofs.sentence.is_product.Tie as tie
+
+-- what the machine reads back of an i64
+abbrev held : ℤ → ℤ
+held z = toZ w64 (ofZ w64 z)
+
+sum : (c : tie.After-wide4) → held (held (c .before .before .wide2 .result) *ℤ held (c .before .wide3 .result)) +ℤ held (c .wide4 .result) ≡ c .before .before .before .before .args .p *ℤ c .before .before .before .before .args .b +ℤ c .before .before .before .before .args .q
+sum c =
+    let f = c .before .before .before .before .fits in
+    rw (held-wide (f .p) (c .before .before .wide2 .ensures), held-wide (f .b) (c .before .wide3 .ensures), held-wide (f .q) (c .wide4 .ensures), toZ-ofZ {w = w64} (product-fits (f .p) (f .b)))
+
+wide-requires : tie.Need-wide-requires
+wide-requires c κs = search needs
+
+wide-requires-2 : tie.Need-wide-requires-2
+wide-requires-2 c κs = search needs
+
+wide-requires-3 : tie.Need-wide-requires-3
+wide-requires-3 c κs = search needs
+
+mul-result : tie.Need-mul-result
+mul-result c =
+    let f = c .before .before .before .fits in
+    rw (held-wide (f .p) (c .before .wide2 .ensures), held-wide (f .b) (c .wide3 .ensures)) (product-fits (f .p) (f .b))
+
+wide-requires-4 : tie.Need-wide-requires-4
+wide-requires-4 c κs = search needs
+
+add-result : tie.Need-add-result
+add-result c =
+    let f = c .before .before .before .before .fits in
+    rw (sum c) (relation-fits (f .p) (f .b) (f .q))
+
+returns : tie.Need-returns
+returns c = search needs
+
+pub is-product-spec : {M : Type 1} → statement M
+is-product-spec =
+    tie.close
+    (tie.spec
+    wide-requires
+    wide-requires-2
+    wide-requires-3
+    mul-result
+    wide-requires-4
+    add-result
+    returns)

@@ -1,0 +1,62 @@
+-- `relation` is safe and ends: each turn leaves one instant less. Assumes nothing.
+use borrow.Author.Needs.{needs}
+use Prim.Native.Nat.{_-_}
+use Rattle.filler.proofs.sentence.relation.Statement.{statement}
+use Rattle.filler.proofs.sentence.relation.Tie as tie
+
+abbrev Inv-loop : tie.InvT-loop
+Inv-loop n p q a b i₀ i = Unit
+
+abbrev μ-loop : tie.MeasureT-loop
+μ-loop n p q a b i₀ i = n - i
+
+loop-holds : tie.Need-loop-holds Inv-loop μ-loop
+loop-holds c = search needs
+
+mul-x : tie.Need-mul-x Inv-loop μ-loop
+mul-x c = search needs
+
+element-copy-out-x : tie.Need-element-copy-out-x Inv-loop μ-loop
+element-copy-out-x c = search needs
+
+mul-y : tie.Need-mul-y Inv-loop μ-loop
+mul-y c = search needs
+
+element-copy-out-y : tie.Need-element-copy-out-y Inv-loop μ-loop
+element-copy-out-y c = search needs
+
+is-product-requires : tie.Need-is-product-requires Inv-loop μ-loop
+is-product-requires c κs = search needs
+
+returns : tie.Need-returns Inv-loop μ-loop
+returns c = search needs
+
+add-i : tie.Need-add-i Inv-loop μ-loop
+add-i c = search needs
+
+loop-less : tie.Need-loop-less Inv-loop μ-loop
+loop-less c = search needs
+
+loop-again : tie.Need-loop-again Inv-loop μ-loop
+loop-again c = search needs
+
+returns-2 : tie.Need-returns-2 Inv-loop μ-loop
+returns-2 c = search needs
+
+pub relation-spec : {M : Type 1} → statement M
+relation-spec =
+    tie.close
+    (tie.spec
+    Inv-loop
+    μ-loop
+    loop-holds
+    mul-x
+    element-copy-out-x
+    mul-y
+    element-copy-out-y
+    is-product-requires
+    returns
+    add-i
+    loop-less
+    loop-again
+    returns-2)

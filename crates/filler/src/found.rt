@@ -1,0 +1,142 @@
+// The distinct remainders of the fillings of a run.
+use crate::remainder::Owed;
+use crate::remainder::Remainder;
+use crate::remainder::no_remainder;
+use crate::remainder::owed_count;
+use crate::remainder::owes;
+ghost use Prim.Native.Nat.{_≤_};
+
+// over: one of them has more than 8 obligations. Those past the 33rd are dropped: 33 are already too many.
+pub(crate) struct Found {
+    pub(crate) over: bool,
+    pub(crate) count: usize,
+    pub(crate) list: [Remainder; 33],
+}
+
+pub(crate) fn found_count(found: Found) -> usize
+    ensures { λ r. ⌜ r ≤ 33 ⌝ }
+{
+    let n = found.count;
+    if n < 33 { n } else { 33 }
+}
+
+// Each obligation of a is one of b.
+fn owes_all(a: Owed, b: Owed) -> bool {
+    let n = owed_count(a);
+    let mut i = 0;
+    while i < n {
+        if !owes(b, a.list[i]) {
+            return false;
+        }
+        i += 1;
+    }
+    true
+}
+
+fn same_leads(a: [usize; 16], b: [usize; 16]) -> bool {
+    let mut i = 0;
+    while i < 16 {
+        if a[i] != b[i] {
+            return false;
+        }
+        i += 1;
+    }
+    true
+}
+
+fn same_stopped(a: [bool; 8], b: [bool; 8]) -> bool {
+    let mut k = 0;
+    while k < 8 {
+        if a[k] != b[k] {
+            return false;
+        }
+        k += 1;
+    }
+    true
+}
+
+fn same_carried(a: Remainder, b: Remainder) -> bool {
+    let x = a.leads;
+    let y = b.leads;
+    if same_leads(x, y) {
+        let p = a.stopped;
+        let q = b.stopped;
+        same_stopped(p, q)
+    } else {
+        false
+    }
+}
+
+fn same_owed(a: Owed, b: Owed) -> bool {
+    if owes_all(a, b) {
+        owes_all(b, a)
+    } else {
+        false
+    }
+}
+
+fn same_remainder(a: Remainder, b: Remainder) -> bool {
+    if same_carried(a, b) {
+        same_owed(a.owed, b.owed)
+    } else {
+        false
+    }
+}
+
+fn is_found(found: Found, r: Remainder) -> bool {
+    let n = found_count(found);
+    let mut i = 0;
+    while i < n {
+        if same_remainder(found.list[i], r) {
+            return true;
+        }
+        i += 1;
+    }
+    false
+}
+
+pub(crate) fn none_found() -> Found {
+    let list = [no_remainder(); 33];
+    Found {
+        over: false,
+        count: 0,
+        list,
+    }
+}
+
+// With one remainder more, unless an equal one is there.
+pub(crate) fn with_remainder(found: Found, r: Remainder) -> Found {
+    let mut next = found;
+    if 8 < owed_count(r.owed) {
+        next.over = true;
+        return next;
+    }
+    if is_found(found, r) {
+        return found;
+    }
+    let n = found_count(found);
+    if n < 33 {
+        next.list[n] = r;
+        next.count = n + 1;
+    }
+    next
+}
+
+// More than 32, or one with more than 8 obligations.
+pub(crate) fn is_exhausted(found: Found) -> bool {
+    if found.over { true } else { 32 < found.count }
+}
+
+// One of them has no obligation.
+pub(crate) fn is_clear(found: Found) -> bool {
+    let n = found_count(found);
+    let mut i = 0;
+    while i < n {
+        let r = found.list[i];
+        if r.owed.count == 0 {
+            return true;
+        }
+        i += 1;
+    }
+    false
+}
