@@ -1,0 +1,35 @@
+// The files that a program's arguments name.
+use records::number;
+ghost use Rattle.io.specs.Counts.{Counts};
+
+// The length of a body is a word.
+const LONGEST_RECORD: usize = number::HEAD_LENGTH + 65535;
+
+// How much of a sheet file is read: the clocks, 16 of the longest lines and one record more, which is refused whatever it is. So no byte beyond can change what is printed.
+pub(crate) const SHEET_ROOM: usize = number::HEAD_LENGTH
+    + number::CLOCKS_BODY
+    + number::MAX_LINES * (number::HEAD_LENGTH + number::RELATION_BODY)
+    + LONGEST_RECORD;
+
+// How much of a log file is read: 4,000 instants of eight clocks and one record more, which is refused whatever it is.
+pub(crate) const LOG_ROOM: usize = number::MAX_INSTANTS
+    * (number::HEAD_LENGTH + number::CELL_LENGTH * number::MAX_CLOCKS as usize)
+    + LONGEST_RECORD;
+
+// Puts the file that an argument names at the buffer's front, as far as it has room, and says how many bytes that are. A file that isn't named or can't be opened counts as empty; a read that fails ends the file.
+pub(crate) fn read_file(argument: usize, buffer: &mut [u8]) -> usize
+    ensures { λ r. ⌜ Counts r (now (buffer .exit)) ⌝ }
+{
+    let mut name = io::buffer();
+    let length = os::arg(argument, &mut name);
+    if os::errno() != 0 {
+        return 0;
+    }
+    let file = os::open_read(&name[..length]);
+    if file < 0 {
+        return 0;
+    }
+    let count = io::read_full(file, buffer);
+    libc::close(file);
+    count
+}

@@ -1,0 +1,77 @@
+// Runs of both programs on small files: for each a heading, then what the program prints.
+use libc::STDOUT_FILENO;
+
+// The arguments, in the order of the file `args`: files of data/; a folder; a name of no file; and one more than there are.
+const SHEET: usize = 1;
+
+const LOG: usize = 2;
+
+const EMPTY: usize = 3;
+
+const SHEET_REFUSED: usize = 4;
+
+const LOG_TORN_BODY: usize = 5;
+
+const LOG_TORN_HEAD: usize = 6;
+
+const LOG_KIND: usize = 7;
+
+const LOG_LENGTH: usize = 8;
+
+const LOG_TICK: usize = 9;
+
+const SHEET_100: usize = 10;
+
+const LOG_NINE: usize = 11;
+
+const SHEET_ONE: usize = 12;
+
+const LOG_4001: usize = 13;
+
+const FOLDER: usize = 14;
+
+const NO_FILE: usize = 15;
+
+const NOT_NAMED: usize = 16;
+
+fn heading(program: &[u8], case: &[u8]) {
+    io::write_all(STDOUT_FILENO, program);
+    io::write_all(STDOUT_FILENO, case);
+    io::write_all(STDOUT_FILENO, b"\n");
+}
+
+fn columns_case(case: &[u8], sheet: usize, log: usize) {
+    heading(b"columns: ", case);
+    programs::columns::run(sheet, log);
+}
+
+fn both(case: &[u8], sheet: usize, log: usize) {
+    heading(b"watch: ", case);
+    programs::watch::run(sheet, log);
+    columns_case(case, sheet, log);
+}
+
+fn main() {
+    both(b"document 01's listing", SHEET, LOG);
+    both(b"an empty log", SHEET, EMPTY);
+    both(b"a log that is a folder", SHEET, FOLDER);
+    both(b"a log that can't be opened", SHEET, NO_FILE);
+    both(b"a log that isn't named", SHEET, NOT_NAMED);
+    both(b"a sheet that can't be opened", NO_FILE, LOG);
+    both(
+        b"a sheet with a clock not below C, and a log with a fault",
+        SHEET_REFUSED,
+        LOG_TICK,
+    );
+    both(b"the fifth record's body torn", SHEET, LOG_TORN_BODY);
+    both(b"three bytes after the fifth record", SHEET, LOG_TORN_HEAD);
+    both(b"the third record of kind 33", SHEET, LOG_KIND);
+    both(b"the third record for three clocks", SHEET, LOG_LENGTH);
+    both(
+        b"a tick byte 3 in the third record's second clock",
+        SHEET,
+        LOG_TICK,
+    );
+    both(b"L9", SHEET_100, LOG_NINE);
+    columns_case(b"4,001 instants of one clock", SHEET_ONE, LOG_4001);
+}

@@ -1,0 +1,4 @@
+-- What the programs print, line by line, with examples; and what the inner functions' contracts cite.
+pub mod Text
+pub mod Examples
+pub mod Built

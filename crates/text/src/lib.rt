@@ -1,0 +1,3 @@
+// The lines that the programs print, as bytes of ASCII.
+pub mod build;
+pub mod line;
