@@ -20,6 +20,7 @@ ghost use Rattle.tesl.specs.Lists.{all};
 ghost use Rattle.theory.specs.Step.{wellFormed};
 ghost use Rattle.judge.specs.View.{liveOf, sized};
 ghost use Rattle.judge.specs.Lines.{smallLeads};
+ghost use Rattle.judge.specs.Limits.{within};
 ghost use Rattle.judge.specs.Monitor.{Begins, Accepts, Workable, refusal};
 ghost use Rattle.judge.specs.Promises.{Opened, Observed};
 
@@ -136,4 +137,11 @@ pub fn observe(monitor: Monitor, bytes: &[u8]) -> Given
             accept(monitor, instant)
         }
     }
+}
+
+// Whether a monitor is within its limits, for those who are handed one.
+pub fn within_limits(monitor: Monitor) -> bool
+    ensures { λ r. ⌜ r ≡ within monitor ⌝ }
+{
+    is_within(monitor)
 }

@@ -1,0 +1,3 @@
+-- Document 01, 'Panel count'.
+pub mod Panel
+pub mod Run

@@ -1,0 +1,77 @@
+// The panel: how many of the live remainders owe a clock a tick.
+use judge::held::Count;
+use judge::monitor::Monitor;
+use judge::monitor::within_limits;
+use judge::remainder::Remainder;
+use records::number;
+ghost use mathlib.Core.Path.{_≡_};
+ghost use Prim.Native.Nat.{_≤_};
+ghost use lib.ListN.{take};
+ghost use Rattle.panel.specs.Panel.{entryOwes, owingCount, panelOf, panelCount};
+
+// The count, or the number of a refusal.
+pub enum Panel {
+    Count(usize),
+    Refused(u8),
+}
+
+// An entry with more than eight obligations owes none.
+fn owes(r: Remainder, clock: u8) -> bool
+    ensures { λ b. ⌜ b ≡ entryOwes clock r ⌝ }
+{
+    let owed = r.owed;
+    if number::MAX_OWED < owed {
+        return false;
+    }
+    let mut i = 0;
+    while i < owed {
+        let o = r.obligations[i];
+        if o.clock == clock {
+            return true;
+        }
+        i += 1;
+    }
+    false
+}
+
+// How many entries of the list owe this clock a tick; the clock is compared as it stands.
+pub fn owing(list: &[Remainder], clock: u8) -> usize
+    ensures { λ r. ⌜ r ≡ owingCount clock (now (list .entry)) ⌝ }
+{
+    let mut n: usize = 0;
+    let mut i: usize = 0;
+    while i < list.len() {
+        let r = list[i];
+        if owes(r, clock) {
+            n += 1;
+        }
+        i += 1;
+    }
+    n
+}
+
+// The first `live` of an array are lent.
+fn owing_lent(all: [Remainder; 32], live: usize, clock: u8) -> usize
+    requires { ⌜ live ≤ 32 ⌝ }
+    ensures { λ r. ⌜ r ≡ owingCount clock (take live all) ⌝ }
+{
+    owing(&all[..live], clock)
+}
+
+// Of a monitor: those that it holds, none once broken or exhausted.
+pub fn panel_count(monitor: Monitor, clock: u8) -> Panel
+    ensures { λ r. ⌜ panelOf r ≡ panelCount clock monitor ⌝ }
+{
+    if !within_limits(monitor) {
+        return Panel::Refused(number::MONITOR_LIMITS);
+    }
+    let held = monitor.held;
+    let count = held.count;
+    match count {
+        Count::Exhausted => Panel::Count(0),
+        Count::Live(live) => {
+            let all = held.remainders;
+            Panel::Count(owing_lent(all, live, clock))
+        }
+    }
+}

@@ -1,0 +1,113 @@
+// The panel's counts along stored runs: a row per monitor.
+mod row;
+mod text;
+
+use crate::row::row;
+use crate::text::say;
+use judge::held::Count;
+use judge::held::Held;
+use judge::monitor::Monitor;
+use judge::monitor::observe;
+use judge::monitor::open;
+
+fn opened(sheet: &[u8]) -> Monitor {
+    let given = open(sheet);
+    given.monitor
+}
+
+fn after(m: Monitor, instant: &[u8]) -> Monitor {
+    let given = observe(m, instant);
+    given.monitor
+}
+
+// 0 delayed by 2 on 0 implies 1.
+fn listing() {
+    say(b"Document 01's listing\n");
+    let mut m = opened(b"\x01\x00\x01\x00\x02\x05\x00\x14\x00\x00\x00\x01\x02\x00");
+    row(b"opened", m);
+    m = after(m, b"\x06\x00\x20\x00\x01\xfd\xff\x00\x00\x00");
+    row(b"tick at -3", m);
+    m = after(m, b"\x06\x00\x20\x00\x02\xfe\xff\x00\x00\x00");
+    row(b"unseen at -2", m);
+    m = after(m, b"\x06\x00\x20\x00\x00\xff\xff\x01\x00\x00");
+    row(b"idle at -1, clock 1 ticks", m);
+    m = after(m, b"\x06\x00\x20\x00\x00\x01\x00\x00\x00\x00");
+    row(b"idle at 1", m);
+    m = after(m, b"\x06\x00\x20\x00\x00\x00\x00\x00\x00\x00");
+    row(b"idle at 0, broken", m);
+}
+
+// Clock 0 unseen at a tag.
+fn unseen(m: Monitor, tag: u8) -> Monitor {
+    let mut bytes = [6u8, 0, 32, 0, 2, 0, 0, 0, 0, 0];
+    bytes[5] = tag;
+    after(m, &bytes)
+}
+
+// 0 delayed by 100 on 0 implies 1.
+fn long_delay() {
+    say(b"A delay of 100, unseen ticks\n");
+    let mut m = opened(b"\x01\x00\x01\x00\x02\x05\x00\x14\x00\x00\x00\x01\x64\x00");
+    m = unseen(m, 1);
+    row(b"at 1", m);
+    m = unseen(m, 2);
+    row(b"at 2", m);
+    m = unseen(m, 3);
+    row(b"at 3", m);
+    m = unseen(m, 4);
+    row(b"at 4", m);
+    m = unseen(m, 5);
+    row(b"at 5", m);
+    m = unseen(m, 6);
+    row(b"at 6, exhausted", m);
+}
+
+// The monitor with others held.
+fn holding(m: Monitor, held: Held) -> Monitor {
+    let mut next = m;
+    next.held = held;
+    next
+}
+
+// The monitor with another count of those held.
+fn counted(m: Monitor, count: Count) -> Monitor {
+    let held = m.held;
+    let remainders = held.remainders;
+    holding(m, Held { count, remainders })
+}
+
+// The monitor with another number of obligations in its first remainder.
+fn owing(m: Monitor, owed: usize) -> Monitor {
+    let held = m.held;
+    let count = held.count;
+    let mut remainders = held.remainders;
+    let mut first = remainders[0];
+    first.owed = owed;
+    remainders[0] = first;
+    holding(m, Held { count, remainders })
+}
+
+// 0 sporadic 1 on 1, 0 sporadic 2 on 1, 1 sporadic 3 on 0.
+fn sporadic() {
+    say(b"Three sporadic lines: an entry that owes twice counts once\n");
+    let m = opened(
+        b"\x01\x00\x01\x00\x02\x04\x00\x10\x00\x00\x01\x01\x00\x04\x00\x10\x00\x00\x01\x02\x00\x04\x00\x10\x00\x01\x00\x03\x00",
+    );
+    row(b"opened", m);
+    row(b"made broken", counted(m, Count::Live(0)));
+    row(b"made exhausted", counted(m, Count::Exhausted));
+    row(b"made 32 live", counted(m, Count::Live(32)));
+    row(b"made 33 live", counted(m, Count::Live(33)));
+    row(b"made to owe two", owing(m, 2));
+    row(b"made to owe nine", owing(m, 9));
+    let mut late = m;
+    late.instants = 4001;
+    row(b"made 4,001 instants", late);
+    row(b"no sheet", opened(b""));
+}
+
+fn main() {
+    listing();
+    long_delay();
+    sporadic();
+}
