@@ -1,0 +1,229 @@
+// A case under way: the monitor is called, and what it answers is held against the judge of the whole run.
+use crate::course::idle_instant;
+use crate::damage::Record;
+use crate::damage::damaged;
+use crate::damage::whole;
+use crate::tally;
+use crate::tally::count;
+use crate::tally::count_if;
+use filler::judge::judge as verdict_of;
+use filler::run::Run;
+use filler::verdict::Verdict;
+use judge::answer::Answer;
+use judge::answer::Reply;
+use judge::held::Count;
+use judge::monitor::Given;
+use judge::monitor::Monitor;
+use judge::monitor::observe;
+use judge::monitor::open;
+use records::instant::Instant;
+use records::record::Written;
+use records::sheet::Sheet;
+use records::sheet::write_sheet;
+
+// The sheet, the instants taken so far, the monitor given back last, the last answer, and what was counted.
+pub struct Trial {
+    pub sheet: Sheet,
+    pub run: Run,
+    pub monitor: Monitor,
+    pub answer: Answer,
+    pub tally: [u64; 20],
+}
+
+// The first n bytes, or all where there are fewer.
+fn front(bytes: &[u8], n: usize) -> &[u8] {
+    if bytes.len() < n {
+        return bytes;
+    }
+    &bytes[0..n]
+}
+
+// The whole answer, live and clear with it.
+fn same(a: Answer, v: Verdict) -> bool {
+    match a {
+        Answer::Exhausted => match v {
+            Verdict::Exhausted => true,
+            _ => false,
+        },
+        Answer::Broken => match v {
+            Verdict::Broken => true,
+            _ => false,
+        },
+        Answer::Holding { live, clear } => match v {
+            Verdict::Holding { live: n, clear: c } => {
+                if n == live {
+                    return c == clear;
+                }
+                false
+            }
+            _ => false,
+        },
+    }
+}
+
+// The live count of an answer, 0 of one that isn't holding.
+pub fn live_of(a: Answer) -> usize {
+    match a {
+        Answer::Holding { live, clear: _ } => live,
+        _ => 0,
+    }
+}
+
+// An answer by its kind.
+fn counted(t: [u64; 20], a: Answer) -> [u64; 20] {
+    match a {
+        Answer::Exhausted => count(t, tally::EXHAUSTED),
+        Answer::Broken => count(t, tally::BROKEN),
+        Answer::Holding { live: _, clear } => {
+            if clear {
+                return count(t, tally::CLEAR);
+            }
+            count(t, tally::OWED)
+        }
+    }
+}
+
+// Cases that became exhausted. Of four clocks an instant has at most 16 fillings: where live was 1, it was nine owed.
+fn counted_end(t: [u64; 20], before: usize, a: Answer) -> [u64; 20] {
+    match a {
+        Answer::Exhausted => {
+            let t = count_if(before == 1, t, tally::BY_OWED);
+            count_if(17 <= before, t, tally::BY_LIVE)
+        }
+        _ => t,
+    }
+}
+
+// The first remainder of a monitor owes eight.
+fn is_full(m: Monitor) -> bool {
+    let held = m.held;
+    let n = held.count;
+    match n {
+        Count::Exhausted => false,
+        Count::Live(live) => {
+            let r = held.remainders[0];
+            if live == 0 {
+                return false;
+            }
+            r.owed == 8
+        }
+    }
+}
+
+// What is counted of an answer.
+fn tallied(t: [u64; 20], before: usize, a: Answer, m: Monitor) -> [u64; 20] {
+    let live = live_of(a);
+    let t = counted(t, a);
+    let t = count_if(live == 31, t, tally::LIVE_31);
+    let t = count_if(live == 32, t, tally::LIVE_32);
+    let t = count_if(is_full(m), t, tally::FULL);
+    counted_end(t, before, a)
+}
+
+// A trial with a reply that is due an answer.
+fn answered(t: Trial, run: Run, g: Given) -> Trial {
+    let sheet = t.sheet;
+    let before = t.answer;
+    let told = t.tally;
+    let reply = g.reply;
+    let monitor = g.monitor;
+    match reply {
+        Reply::Refused(_) => Trial {
+            sheet,
+            run,
+            monitor,
+            answer: before,
+            tally: count(told, tally::DIFFERENT),
+        },
+        Reply::Answered(answer) => {
+            let told = tallied(told, live_of(before), answer, monitor);
+            let differs = !same(answer, verdict_of(sheet, run));
+            Trial {
+                sheet,
+                run,
+                monitor,
+                answer,
+                tally: count_if(differs, told, tally::DIFFERENT),
+            }
+        }
+    }
+}
+
+// A run with one instant more; a seventeenth is left out.
+fn with_instant(r: Run, v: Instant) -> Run {
+    let at = r.count;
+    if at < 16 {
+        let mut next = r;
+        next.instants[at] = v;
+        next.count = at + 1;
+        return next;
+    }
+    r
+}
+
+// Opens a sheet; one that can't be written counts as a difference.
+pub fn opened(sheet: Sheet, tally: [u64; 20]) -> Trial {
+    let mut bytes = [0u8; 192];
+    let written = write_sheet(sheet, &mut bytes);
+    let len = match written {
+        Written::Refused(_) => 0,
+        Written::Bytes(n) => n,
+    };
+    let instants = [idle_instant(); 16];
+    let run = Run { count: 0, instants };
+    let g = open(front(&bytes, len));
+    let monitor = g.monitor;
+    let t = Trial {
+        sheet,
+        run,
+        monitor,
+        answer: Answer::Broken,
+        tally: count(tally, tally::CASES),
+    };
+    answered(t, run, g)
+}
+
+// Hands an instant over.
+pub fn taken(t: Trial, v: Instant) -> Trial {
+    let sheet = t.sheet;
+    let monitor = t.monitor;
+    let run = t.run;
+    let r = whole(v, sheet.clocks);
+    let bytes = r.bytes;
+    let g = observe(monitor, front(&bytes, r.len));
+    answered(t, with_instant(run, v), g)
+}
+
+// Whether a reply is the refusal of a number.
+fn is_refused(r: Reply, n: u8) -> bool {
+    match r {
+        Reply::Refused(m) => m == n,
+        Reply::Answered(_) => false,
+    }
+}
+
+// Hands a damaged instant over; the case goes on with the monitor given back.
+pub fn refused(t: Trial, v: Instant, how: u64) -> Trial {
+    let sheet = t.sheet;
+    let run = t.run;
+    let answer = t.answer;
+    let told = t.tally;
+    let before = t.monitor;
+    let r = damaged(v, sheet.clocks, how);
+    let bytes = r.bytes;
+    let g = observe(before, front(&bytes, r.len));
+    let monitor = g.monitor;
+    let reply = g.reply;
+    let at = if is_refused(reply, r.refusal) {
+        tally::REFUSED
+    } else {
+        tally::DIFFERENT
+    };
+    Trial {
+        sheet,
+        run,
+        monitor,
+        answer,
+        tally: count(told, at),
+    }
+}
