@@ -19,7 +19,7 @@ use Rattle.judge.specs.declared.answer.Reply.the-variants as reply
 use Rattle.judge.specs.declared.held.Held.{Held}
 use Rattle.judge.specs.declared.monitor.Monitor.{Monitor}
 use Rattle.judge.specs.declared.monitor.Given.{Given}
-use Rattle.judge.specs.View.{cut, heldOf, liveOf, seenOf, lastOf, sized}
+use Rattle.judge.specs.View.{cut, heldOf, liveOf, seenOf, tagsBefore, sized}
 use Rattle.judge.specs.Lines.{smallLeads}
 use Rattle.judge.specs.Work.{addedAll, worked}
 use Rattle.judge.specs.Start.{blankRemainder}
@@ -62,6 +62,6 @@ pub record Accepts (m : Monitor) (i : Instant) (r : Given) : Type 0 where
   pub sheet : r .monitor .sheet ≡ m .sheet
   pub instants : r .monitor .instants ≡ suc (m .instants)
   pub tags : r .monitor .tags ≡ i .tags
-  pub held : heldBy (r .monitor) ≡ worked 32 (sheetBy m) (lastOf (eqb (m .instants) 0) (m .tags)) (seenOf (m .sheet .clocks) (i .ticks)) (i .tags) (heldBy m)
+  pub held : heldBy (r .monitor) ≡ worked 32 (sheetBy m) (tagsBefore (eqb (m .instants) 0) (m .tags)) (seenOf (m .sheet .clocks) (i .ticks)) (i .tags) (heldBy m)
   pub fits : T (sized (r .monitor .held))
   pub said : replyOf (r .reply) ≡ taken (saidBy (heldBy (r .monitor)))

@@ -121,8 +121,8 @@ abbrev pub seenOf : ℕ → List TickSlot → List Tick
 seenOf c seen = map (λ (t : TickSlot). t .tick) (take c seen)
 
 -- the last tags, of all eight clocks; none before the first instant
-abbrev pub lastOf : Bool → List ℤ → Option (List ℤ)
-lastOf first was = cond first none (some was)
+abbrev pub tagsBefore : Bool → List ℤ → Option (List ℤ)
+tagsBefore first was = cond first none (some was)
 
 -- ---- counts that their arrays have room for
 

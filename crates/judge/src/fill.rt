@@ -23,7 +23,7 @@ ghost use Rattle.records.specs.Instant.{tickAt};
 ghost use Rattle.tesl.specs.Lists.{all};
 ghost use Rattle.tesl.specs.Fits.{noneFalls};
 ghost use Rattle.theory.specs.Step.{wellFormed};
-ghost use Rattle.judge.specs.View.{heldOf, liveOf, isNone, seenOf, sized, lastOf};
+ghost use Rattle.judge.specs.View.{heldOf, liveOf, isNone, seenOf, sized, tagsBefore};
 ghost use Rattle.judge.specs.Questions.{tagsHold};
 ghost use Rattle.judge.specs.Lines.{smallLeads};
 ghost use Rattle.judge.specs.Work.{filling, fillFrom, worked};
@@ -114,7 +114,7 @@ fn fill(
 // The tags of an instant: none falls below its tag at the instant before, and each relation holds.
 fn tags_fit(s: Sheet, first: bool, was: [i16; 8], tags: [i16; 8]) -> bool
     requires { ⌜ s .count ≤ 16 ⌝ }
-    ensures { λ r. ⌜ r ≡ (noneFalls (s .clocks) (lastOf first was) tags && all (tagsHold tags) (sheetValue s .lines)) ⌝ }
+    ensures { λ r. ⌜ r ≡ (noneFalls (s .clocks) (tagsBefore first was) tags && all (tagsHold tags) (sheetValue s .lines)) ⌝ }
 {
     if first {
         return all_tags_hold(s, tags);
@@ -148,7 +148,7 @@ pub(crate) fn work(
     h: Held,
 ) -> Held
     requires { ⌜ (room ≤ 32) × ((s .count ≤ 16) × ((s .clocks ≤ 8) × (T (all smallLeads (liveOf (sheetValue s) h)) × (T (sized h) × T (wellFormed (sheetValue s)))))) ⌝ }
-    ensures { λ r. ⌜ (heldOf (sheetValue s) r ≡ worked room (sheetValue s) (lastOf first was) (seenOf (s .clocks) (instant .ticks)) (instant .tags) (heldOf (sheetValue s) h)) × T (sized r) ⌝ }
+    ensures { λ r. ⌜ (heldOf (sheetValue s) r ≡ worked room (sheetValue s) (tagsBefore first was) (seenOf (s .clocks) (instant .ticks)) (instant .tags) (heldOf (sheetValue s) h)) × T (sized r) ⌝ }
 {
     let count = h.count;
     match count {

@@ -29,7 +29,7 @@ use Rattle.theory.proofs.Tracks.{tracks-exhausted, tracks-next, finding-within}
 use Rattle.judge.specs.declared.remainder.Remainder as arrays
 use Rattle.judge.specs.declared.monitor.Monitor.{Monitor}
 use Rattle.judge.specs.declared.monitor.Given.{Given}
-use Rattle.judge.specs.View.{live, lastOf, seenOf, sized}
+use Rattle.judge.specs.View.{live, tagsBefore, seenOf, sized}
 use Rattle.judge.specs.Work.{worked}
 use Rattle.judge.specs.Answer.{replyOf, saidBy}
 use Rattle.judge.specs.Limits.{sheetWithin, within}
@@ -47,7 +47,7 @@ Works v last i (some rs) none = Proper rs → Finding v last i rs exhausted []
 Works v last i (some rs) (some new) = Every v last i rs new × (Proper rs → Proper new)
 
 works : (v : SheetValue) (first : Bool) (was : List ℤ) (i : Instant) → length i ≤ 8 → (h after : Option (List Remainder)) → All (Shaped (v .clocks)) (live h)
-    → worked 32 v (lastOf first was) (ticksOf i) (filled 8 (pos 0) (tagsOf i)) h ≡ after → Works v (cond first none (some (take (v .clocks) was))) i h after
+    → worked 32 v (tagsBefore first was) (ticksOf i) (filled 8 (pos 0) (tagsOf i)) h ≡ after → Works v (cond first none (some (take (v .clocks) was))) i h after
 unfolding worked Works
 works v first was i size none after s e = sym e
 works v first was i size (some rs) none s e = λ p. worked-none v first was i size rs s p e

@@ -17,7 +17,7 @@ use Rattle.tesl.specs.Answer.{exhausted}
 use Rattle.theory.specs.Sets.{apart, EachOnce}
 use Rattle.theory.specs.Held.{successors}
 use Rattle.theory.specs.Tracks.{Finding}
-use Rattle.judge.specs.View.{lastOf}
+use Rattle.judge.specs.View.{tagsBefore}
 use Rattle.judge.specs.Work.{worked}
 use Rattle.judge.proofs.work.Padded.{lastIn}
 use Rattle.judge.proofs.work.Gather.{of-each, Gathered, Gathering}
@@ -38,13 +38,13 @@ pub record Every (v : SheetValue) (last : Option (List ℤ)) (i : Instant) (rs n
   pub owe : T (all (λ (r : Remainder). leb (owes r) 8) new)
 
 module _ (v : SheetValue) (first : Bool) (was : List ℤ) (i : Instant) (size : length i ≤ 8) (rs : List Remainder) (shaped : All (Shaped (v .clocks)) rs) where
-  gathered : {q : Option (List Remainder)} → worked 32 v (lastOf first was) (ticksOf i) (filled 8 (pos 0) (tagsOf i)) (some rs) ≡ q
+  gathered : {q : Option (List Remainder)} → worked 32 v (tagsBefore first was) (ticksOf i) (filled 8 (pos 0) (tagsOf i)) (some rs) ≡ q
       → Gathering v (lastIn v first was) i rs (reached v (lastIn v first was) rs (fillings i)) q
   gathered e =
       subst (Gathering v (lastIn v first was) i rs (reached v (lastIn v first was) rs (fillings i))) e
       (worked-gathers v first was i size rs (λ r m. let h = of-each (Shaped (v .clocks)) shaped m in (h .clocks, h .owed)))
 
-  pub worked-every : {new : List Remainder} → worked 32 v (lastOf first was) (ticksOf i) (filled 8 (pos 0) (tagsOf i)) (some rs) ≡ some new → Every v (lastIn v first was) i rs new
+  pub worked-every : {new : List Remainder} → worked 32 v (tagsBefore first was) (ticksOf i) (filled 8 (pos 0) (tagsOf i)) (some rs) ≡ some new → Every v (lastIn v first was) i rs new
   worked-every {new} e =
       let g : Gathered v (lastIn v first was) i rs (reached v (lastIn v first was) rs (fillings i)) new = gathered e in
       record {
@@ -53,9 +53,9 @@ module _ (v : SheetValue) (first : Bool) (was : List ℤ) (i : Instant) (size : 
         owe = g .owe;
       }
 
-  pub worked-proper : {new : List Remainder} → Proper rs → worked 32 v (lastOf first was) (ticksOf i) (filled 8 (pos 0) (tagsOf i)) (some rs) ≡ some new → Proper new
+  pub worked-proper : {new : List Remainder} → Proper rs → worked 32 v (tagsBefore first was) (ticksOf i) (filled 8 (pos 0) (tagsOf i)) (some rs) ≡ some new → Proper new
   worked-proper p e = gathered e .tidy p
 
-  pub worked-none : {new : List Remainder} → Proper rs → worked 32 v (lastOf first was) (ticksOf i) (filled 8 (pos 0) (tagsOf i)) (some rs) ≡ none
+  pub worked-none : {new : List Remainder} → Proper rs → worked 32 v (tagsBefore first was) (ticksOf i) (filled 8 (pos 0) (tagsOf i)) (some rs) ≡ none
       → Finding v (lastIn v first was) i rs exhausted new
   worked-none {new} p e = gathered e p new

@@ -21,7 +21,7 @@ use Rattle.tesl.proofs.FormulaLists.{all-append}
 use Rattle.theory.specs.Step.{linesOk, nextOwed, next, stepOk}
 use Rattle.theory.proofs.Lists.{table-ext}
 use Rattle.theory.proofs.Fill.{settled, fillings-settled, foldl, fillFold-is}
-use Rattle.judge.specs.View.{filledOf, lastOf}
+use Rattle.judge.specs.View.{filledOf, tagsBefore}
 use Rattle.judge.specs.Questions.{tagsHold, ticksHold, carriedHolds}
 use Rattle.judge.specs.Lines.{allStopped}
 use Rattle.judge.specs.Owed.{owing, left}
@@ -52,7 +52,7 @@ alike f = record {
   tags = λ k. sym (filled-reads (pos 0) (8 - length (f .tags)) (f .tags) k);
 }
 
-falls : (c : ℕ) (first : Bool) (was : List ℤ) (f : Filled) → noneFalls c (cond first none (some (take c was))) (f .tags) ≡ noneFalls c (lastOf first was) (padded f .tags)
+falls : (c : ℕ) (first : Bool) (was : List ℤ) (f : Filled) → noneFalls c (cond first none (some (take c was))) (f .tags) ≡ noneFalls c (tagsBefore first was) (padded f .tags)
 falls c true was f = refl
 falls c false was f =
     below-ext c (λ k. leZ (tagIn (take c was) k) (tagAt f k)) (λ k. leZ (tagIn was k) (tagAt (padded f) k))
@@ -73,7 +73,7 @@ regroup true true false c d = refl
 regroup true true true c d = refl
 
 pub step-ok : (v : SheetValue) (first : Bool) (was : List ℤ) (f : Filled) (r : Remainder)
-    → stepOk v (lastIn v first was) f r ≡ (tagsFit v (lastOf first was) (padded f .tags) && (all (ticksHold (padded f .ticks)) (v .lines) && goesOn v (padded f) r))
+    → stepOk v (lastIn v first was) f r ≡ (tagsFit v (tagsBefore first was) (padded f .tags) && (all (ticksHold (padded f .ticks)) (v .lines) && goesOn v (padded f) r))
 unfolding stepOk
 step-ok v first was f r =
     let g = padded f in
@@ -83,7 +83,7 @@ step-ok v first was f r =
       lines-ok (g .ticks) (g .tags) (r .stopped) (v .lines) (r .leads),
       late (v .lines) f (r .owed),
     )
-    (regroup (noneFalls (v .clocks) (lastOf first was) (g .tags)) (all (tagsHold (g .tags)) (v .lines)) (all (ticksHold (g .ticks)) (v .lines))
+    (regroup (noneFalls (v .clocks) (tagsBefore first was) (g .tags)) (all (tagsHold (g .tags)) (v .lines)) (all (ticksHold (g .ticks)) (v .lines))
     (linesOk (carriedHolds (g .ticks) (r .stopped)) (v .lines) (r .leads)) (notLate (some (g .tags)) (left g (r .owed))))
 
 stopped-next : (c : ℕ) (ls : List Line) (f : Filled) (stopped : List Bool) → length stopped ≡ c

@@ -20,7 +20,7 @@ use Rattle.theory.specs.Held.{successors}
 use Rattle.theory.proofs.Fill.{foldl}
 use Rattle.theory.proofs.Lists.{any-flatMap}
 use Rattle.theory.proofs.Held.{successors-any}
-use Rattle.judge.specs.View.{lastOf}
+use Rattle.judge.specs.View.{tagsBefore}
 use Rattle.judge.specs.Questions.{ticksHold}
 use Rattle.judge.specs.Work.{advanced, took, settledAll, filling, fillFrom, worked}
 use Rattle.judge.proofs.work.Padded.{padded, lastIn, tagsFit, goesOn, step-ok, fill-is, filling-tags}
@@ -100,11 +100,11 @@ module _ (v : SheetValue) (first : Bool) (was : List ℤ) (i : Instant) where
   tags = filled 8 (pos 0) (tagsOf i)
 
   -- a filling may follow by its tags, its ticks and what is carried
-  step-by : {f : Filled} {a b : Bool} → List·Memᴰ f (fillings i) → tagsFit v (lastOf first was) tags ≡ a → all (ticksHold (padded f .ticks)) (v .lines) ≡ b → (r : Remainder)
+  step-by : {f : Filled} {a b : Bool} → List·Memᴰ f (fillings i) → tagsFit v (tagsBefore first was) tags ≡ a → all (ticksHold (padded f .ticks)) (v .lines) ≡ b → (r : Remainder)
       → stepOk v last f r ≡ (a && (b && goesOn v (padded f) r))
   step-by {f} {a} m d e r =
       step-ok v first was f r
-      ∙ ap (λ (t : List ℤ). tagsFit v (lastOf first was) (filled 8 (pos 0) t) && (all (ticksHold (padded f .ticks)) (v .lines) && goesOn v (padded f) r)) (filling-tags i m)
+      ∙ ap (λ (t : List ℤ). tagsFit v (tagsBefore first was) (filled 8 (pos 0) t) && (all (ticksHold (padded f .ticks)) (v .lines) && goesOn v (padded f) r)) (filling-tags i m)
       ∙ ap (λ (c : Bool). c && (all (ticksHold (padded f .ticks)) (v .lines) && goesOn v (padded f) r)) d
       ∙ ap (λ (c : Bool). a && (c && goesOn v (padded f) r)) e
 
@@ -115,7 +115,7 @@ module _ (v : SheetValue) (first : Bool) (was : List ℤ) (i : Instant) where
     nothing-yet : Work [] (some [])
     nothing-yet = record { once = record { each-once = tt; these = λ x. refl }; covered = λ x t. absurd t; live = omega arith; owe = tt; tidy = λ p. tt }
 
-    settle-one : tagsFit v (lastOf first was) tags ≡ true → (done : List Remainder) (found : Option (List Remainder)) (f : Filled) → List·Memᴰ f (fillings i) → Work done found
+    settle-one : tagsFit v (tagsBefore first was) tags ≡ true → (done : List Remainder) (found : Option (List Remainder)) (f : Filled) → List·Memᴰ f (fillings i) → Work done found
         → Work (done ++ flatMap (one v last f) rs) (filling 32 v tags rs found (padded f .ticks))
     unfolding filling
     settle-one fit done found f m h =
@@ -134,7 +134,7 @@ module _ (v : SheetValue) (first : Bool) (was : List ℤ) (i : Instant) where
             done found rs (each-of (λ (r : Remainder). List·Memᴰ r rs) rs (λ r n. n)) h)
         by-test false e = subst (λ (l : List Remainder). Work l found) (sym (ap (λ (l : List Remainder). done ++ l) (none-reached v last f rs (step-by m fit e)) ∙ append-nil done)) h
 
-    by-fit : length i ≤ 8 → (b : Bool) → tagsFit v (lastOf first was) tags ≡ b
+    by-fit : length i ≤ 8 → (b : Bool) → tagsFit v (tagsBefore first was) tags ≡ b
         → Work (reached v last rs (fillings i)) (cond b (fillFrom (filling 32 v tags rs) 0 (ticksOf i) (replicate 8 false) (some [])) (some []))
     by-fit size true e =
         subst (Work (reached v last rs (fillings i))) (sym (fill-is (filling 32 v tags rs) i size (some [])))
@@ -146,9 +146,9 @@ module _ (v : SheetValue) (first : Bool) (was : List ℤ) (i : Instant) where
         (each-of (λ (f : Filled). flatMap (one v last f) rs ≡ []) (fillings i) (λ f m. none-reached v last f rs (step-by m e refl))))) nothing-yet
 
   pub worked-gathers : length i ≤ 8 → (rs : List Remainder) → ((r : Remainder) → List·Memᴰ r rs → (length (r .stopped) ≡ v .clocks) × (length (r .owed) ≤ 8))
-      → Gathering v last i rs (reached v last rs (fillings i)) (worked 32 v (lastOf first was) (ticksOf i) tags (some rs))
+      → Gathering v last i rs (reached v last rs (fillings i)) (worked 32 v (tagsBefore first was) (ticksOf i) tags (some rs))
   unfolding worked
   worked-gathers size [] shaped =
       subst (λ (l : List Remainder). Gathering v last i [] l (some []))
       (sym (flatMap-none (λ (f : Filled). []) (fillings i) (each-of (λ (f : Filled). [] ≡ []) (fillings i) (λ f m. refl)))) (nothing-yet [] shaped)
-  worked-gathers size (r ∷ rs) shaped = by-fit (r ∷ rs) shaped size (tagsFit v (lastOf first was) tags) refl
+  worked-gathers size (r ∷ rs) shaped = by-fit (r ∷ rs) shaped size (tagsFit v (tagsBefore first was) tags) refl

@@ -4,7 +4,7 @@ use Prim.Native.Nat.{ℕ}
 use native.Mathlib.Omega.{arith}
 use lib.ListN.{length, length-map}
 use Rattle.records.specs.Sheet.{sheetValue}
-use Rattle.judge.specs.View.{seenOf, lastOf}
+use Rattle.judge.specs.View.{seenOf, tagsBefore}
 use Rattle.judge.proofs.fill.Laws.{worked-exhausted, worked-broken, worked-no, worked-yes}
 use borrow.Author.Needs.{needs}
 use Rattle.judge.proofs.fill.work.Statement.{statement}
@@ -44,7 +44,7 @@ returns-3 c =
     let l : length (a .h .remainders) ≡ 32 = simp length-map at (e .good .1 .1 .1 .1 .1 .0 .1 .1 .1 .0 .1 .0 .1) in
     let v = sheetValue (a .s) in
     let s = ap (λ (m : ℕ). seenOf m (a .instant .ticks)) (c .before .clocks-of .ensures) in
-    (worked-yes (a .room) v (lastOf (a .first) (a .was)) (seenOf (a .s .clocks) (a .instant .ticks)) (a .instant .tags) (a .h) (k .0 .0) (k .1) (c .before .before .before .before .before .before .before .if1 .left) l _ (c .before .before .before .before .tags-fit .ensures) _ (c .before .before .before .before .before .broken .ensures .0 v) (c .before .before .before .if2 .taken) _ s _ (c .fill .ensures .0), c .fill .ensures .1)
+    (worked-yes (a .room) v (tagsBefore (a .first) (a .was)) (seenOf (a .s .clocks) (a .instant .ticks)) (a .instant .tags) (a .h) (k .0 .0) (k .1) (c .before .before .before .before .before .before .before .if1 .left) l _ (c .before .before .before .before .tags-fit .ensures) _ (c .before .before .before .before .before .broken .ensures .0 v) (c .before .before .before .if2 .taken) _ s _ (c .fill .ensures .0), c .fill .ensures .1)
 
 returns-4 : tie.Need-returns-4
 returns-4 c =
@@ -53,7 +53,7 @@ returns-4 c =
     let k = c .before .before .before .before .before .before .count .given in
     let l : length (a .h .remainders) ≡ 32 = simp length-map at (e .good .1 .1 .1 .1 .1 .0 .1 .1 .1 .0 .1 .0 .1) in
     let v = sheetValue (a .s) in
-    (worked-no (a .room) v (lastOf (a .first) (a .was)) (seenOf (a .s .clocks) (a .instant .ticks)) (a .instant .tags) (a .h) (k .0 .0) (k .1) (c .before .before .before .before .if1 .left) l _ (c .before .tags-fit .ensures) _ (c .before .before .broken .ensures .0 v) (c .if2 .left), c .before .before .broken .ensures .1)
+    (worked-no (a .room) v (tagsBefore (a .first) (a .was)) (seenOf (a .s .clocks) (a .instant .ticks)) (a .instant .tags) (a .h) (k .0 .0) (k .1) (c .before .before .before .before .if1 .left) l _ (c .before .tags-fit .ensures) _ (c .before .before .broken .ensures .0 v) (c .if2 .left), c .before .before .broken .ensures .1)
 
 pub work-spec : {M : Type 1} → statement M
 work-spec =
