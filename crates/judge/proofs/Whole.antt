@@ -1,17 +1,17 @@
--- Whole numbers as the machine holds them: equality is of bits, and sums and products of tags fit. Assumes nothing.
-use mathlib.Core.Bool.{Bool, true, false, not, cond}
+-- Whole numbers as the machine holds them: equality is of bits, and what a call returns reads back as it is. Assumes nothing.
+use mathlib.Core.Bool.{Bool, true, false, not}
 use mathlib.Core.Path.{_≡_, refl, ap, _∙_}
-use Prim.Native.Nat.{ℕ, zero, suc, _+_, _-_, _*_, _^_, _<_, _≤_}
-use native.Mathlib.Nat.{mul-le-mul}
+use Prim.Native.Nat.{ℕ, suc, _-_, _^_, _<_}
 use native.Mathlib.Omega.{arith}
 use lib.Dec.{eqb, ltb, leb}
-use lib.IntN.{ℤ, pos, negsuc, negℤ, _+ℤ_, _*ℤ_}
+use lib.IntN.{ℤ, pos, negsuc, _+ℤ_}
 use lib.Signed.{mag, leZ, ltZ}
 use mir.Syntax.{w16, w64}
 use mir.Val.{toZ, ofZ, SFits}
-use mir.Facts.{toZ-ofZ, sfits-widen}
+use mir.Facts.{toZ-ofZ}
 use borrow.Author.Tests.{eq-eqb, ne-eqb, eqb-true, eqb-false, le-leb, lt-leb, ltb-true, ltb-false}
 use Rattle.records.proofs.word.Laws.{back}
+use Rattle.records.proofs.word.Widened.{held-wide}
 use Rattle.tesl.specs.Fits.{eqZ}
 
 -- ---- tests
@@ -38,55 +38,6 @@ ltZ-leZ (pos a) (pos b) = ltb-at a b (ltb a b) refl
 ltZ-leZ (pos a) (negsuc b) = refl
 ltZ-leZ (negsuc a) (pos b) = refl
 ltZ-leZ (negsuc a) (negsuc b) = ltb-at b a (ltb b a) refl
-
--- ---- sums and products
-
-mag-sub : (t : Bool) (a b : ℕ) → mag (cond t (negsuc (b - suc a)) (pos (a - b))) ≤ a + b
-mag-sub true a b = omega arith
-mag-sub false a b = omega arith
-
-mag-add : (x y : ℤ) → mag (x +ℤ y) ≤ mag x + mag y + 1
-mag-add (pos a) (pos b) = omega arith
-mag-add (pos a) (negsuc b) = omega (arith, mag-sub (ltb a (suc b)) a (suc b))
-mag-add (negsuc a) (pos b) = omega (arith, mag-sub (ltb b (suc a)) b (suc a))
-mag-add (negsuc a) (negsuc b) = omega arith
-
-mag-neg : (n : ℕ) → mag (negℤ (pos n)) ≤ n
-mag-neg zero = omega arith
-mag-neg (suc n) = omega arith
-
-area : (m n : ℕ) → m ≤ 32768 → n ≤ 32768 → m * n ≤ 1073741824
-area m n h k = mul-le-mul {n₁ = m} {m₁ = n} {n₂ = 32768} {m₂ = 32768} h k
-
-mag-mul : (x y : ℤ) → mag x < 32768 → mag y < 32768 → mag (x *ℤ y) ≤ 1073741824
-mag-mul (pos a) (pos b) h k = area a b (omega arith) (omega arith)
-mag-mul (pos a) (negsuc b) h k = omega (arith, mag-neg (a * suc b), area a (suc b) (omega arith) (omega arith))
-mag-mul (negsuc a) (pos b) h k = omega (arith, mag-neg (suc a * b), area (suc a) b (omega arith) (omega arith))
-mag-mul (negsuc a) (negsuc b) h k = area (suc a) (suc b) (omega arith) (omega arith)
-
--- a tag and a delay
-pub due-fits : (t : ℤ) (d : ℕ) → SFits w16 t → d < 65536 → SFits w64 (t +ℤ pos d)
-due-fits t d f h = record { sfits = omega (arith, mag-add t (pos d), f .sfits) }
-
-module _ {x y : ℤ} (f : SFits w16 x) (g : SFits w16 y) where
-  pub product-fits : SFits w64 (x *ℤ y)
-  product-fits = record { sfits = omega (arith, mag-mul x y (f .sfits) (g .sfits)) }
-
-  pub relation-fits : {z : ℤ} → SFits w16 z → SFits w64 (x *ℤ y +ℤ z)
-  relation-fits {z} h = record { sfits = omega (arith, mag-mul x y (f .sfits) (g .sfits), mag-add (x *ℤ y) z, h .sfits) }
-
--- ---- a number of 16 bits, held in 64
-
-pub wide-fits : {x : ℤ} → SFits w16 x → SFits w64 x
-wide-fits f = sfits-widen {w = w16} {w′ = w64} tt f
-
--- as `wide` returns it
-pub widened : {z x : ℤ} → SFits w16 x → z ≡ toZ w16 (ofZ w16 x) → z ≡ x
-widened f e = e ∙ toZ-ofZ {w = w16} f
-
--- and as the machine reads it back
-pub held-wide : {z x : ℤ} → SFits w16 x → z ≡ toZ w16 (ofZ w16 x) → toZ w64 (ofZ w64 z) ≡ x
-held-wide f e = ap (λ (t : ℤ). toZ w64 (ofZ w64 t)) (widened f e) ∙ toZ-ofZ {w = w64} (wide-fits f)
 
 -- ---- what the machine reads back of a call's result
 

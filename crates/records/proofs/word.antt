@@ -1,3 +1,4 @@
 pub mod Bytes
 pub mod Inverse
 pub mod Laws
+pub mod Widened

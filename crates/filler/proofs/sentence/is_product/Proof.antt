@@ -5,7 +5,7 @@ use mir.Facts.{toZ-ofZ}
 use mir.Val.{toZ, ofZ}
 use mir.Syntax.{w64}
 use borrow.Author.Needs.{needs}
-use Rattle.filler.proofs.Whole.{product-fits, relation-fits, held-wide}
+use Rattle.records.proofs.word.Widened.{product-fits, relation-fits, held-wide}
 use Rattle.filler.proofs.sentence.is_product.Statement.{statement}
 use Rattle.filler.proofs.sentence.is_product.Tie as tie
 

@@ -6,7 +6,7 @@ use mir.Facts.{toZ-ofZ, toZ-pos}
 use mir.Val.{toZ, ofZ, SFits}
 use mir.Syntax.{w64}
 use borrow.Author.Needs.{needs}
-use Rattle.judge.proofs.Whole.{due-fits, held-wide}
+use Rattle.records.proofs.word.Widened.{due-fits, held-wide}
 use Rattle.judge.proofs.obligation.due_of.Statement.{statement}
 use Rattle.judge.proofs.obligation.due_of.Tie as tie
 

@@ -1,7 +1,7 @@
 -- `wide` meets its contract: a number of 16 bits fits 64. Assumes nothing.
 use mir.Syntax.{w16, w64}
 use mir.Facts.{toZ-ofZ}
-use Rattle.judge.proofs.Whole.{wide-fits}
+use Rattle.records.proofs.word.Widened.{wide-fits}
 use Rattle.judge.proofs.obligation.wide.Statement.{statement}
 use Rattle.judge.proofs.obligation.wide.Tie as tie
 

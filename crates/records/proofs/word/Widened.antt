@@ -1,4 +1,4 @@
--- Sums and products of numbers of 16 bits fit 64. Assumes nothing.
+-- Numbers of 16 bits in 64: sums and products of them fit, and what is widened reads back as itself. Assumes nothing.
 use mathlib.Core.Bool.{Bool, true, false, cond}
 use mathlib.Core.Path.{_≡_, ap, _∙_}
 use Prim.Native.Nat.{ℕ, zero, suc, _+_, _-_, _*_, _<_, _≤_}
@@ -52,6 +52,10 @@ module _ {x y : ℤ} (f : SFits w16 x) (g : SFits w16 y) where
 pub wide-fits : {x : ℤ} → SFits w16 x → SFits w64 x
 wide-fits f = sfits-widen {w = w16} {w′ = w64} tt f
 
--- as the machine reads back what `wide` returns
+-- as a cast to 64 returns it
+pub widened : {z x : ℤ} → SFits w16 x → z ≡ toZ w16 (ofZ w16 x) → z ≡ x
+widened f e = e ∙ toZ-ofZ {w = w16} f
+
+-- and as the machine reads it back
 pub held-wide : {z x : ℤ} → SFits w16 x → z ≡ toZ w16 (ofZ w16 x) → toZ w64 (ofZ w64 z) ≡ x
-held-wide f e = ap (λ (t : ℤ). toZ w64 (ofZ w64 t)) (e ∙ toZ-ofZ {w = w16} f) ∙ toZ-ofZ {w = w64} (wide-fits f)
+held-wide f e = ap (λ (t : ℤ). toZ w64 (ofZ w64 t)) (widened f e) ∙ toZ-ofZ {w = w64} (wide-fits f)
