@@ -4,6 +4,7 @@ pub mod View
 pub mod Questions
 pub mod Lines
 pub mod Owed
+pub mod Once
 pub mod Work
 pub mod Answer
 pub mod Limits

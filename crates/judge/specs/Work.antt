@@ -1,18 +1,18 @@
 -- What an instant makes of the remainders held, in the order in which the monitor works: `none` once exhausted.
-use mathlib.Core.Bool.{Bool, true, false, cond, _&&_}
+use mathlib.Core.Bool.{Bool, true, false, cond, _&&_, Bool·beq}
 use mathlib.Core.List.{List, [], _∷_, _++_}
 use mathlib.Core.Option.{Option, none, some}
 use Prim.Native.Nat.{ℕ, _+_}
-use lib.Dec.{ltb}
+use lib.Dec.{eqb, ltb}
 use lib.IntN.{ℤ}
 use lib.ListN.{length, replicate, set}
 use Rattle.records.specs.declared.instant.Tick.{Tick}
 use Rattle.records.specs.declared.instant.Tick.the-variants.{Idle, Ticks, Unseen}
 use Rattle.records.specs.Sheet.{SheetValue}
-use Rattle.tesl.specs.Lists.{all, any, flatMap}
+use Rattle.tesl.specs.Lists.{all, any, flatMap, within, sameList}
 use Rattle.tesl.specs.Run.{Filled}
 use Rattle.tesl.specs.Fits.{Obligation, noneFalls, owedFrom}
-use Rattle.tesl.specs.Remainder.{Remainder, sameRemainder}
+use Rattle.tesl.specs.Remainder.{Remainder, sameObligation}
 use Rattle.theory.specs.Step.{linesOk, nextLeads}
 use Rattle.judge.specs.Advanced.{Advanced, fails, over, onto}
 use Rattle.judge.specs.View.{filledOf}
@@ -50,10 +50,16 @@ advanced v f begun r =
 
 -- ---- those held
 
+-- as many obligations, the same carried, and each that r owes is among x's: equal remainders, where each owes an obligation once
+unfoldable pub sameCounted : Remainder → Remainder → Bool
+sameCounted x r =
+    eqb (length (x .owed)) (length (r .owed))
+    && (sameList Bool·beq (x .stopped) (r .stopped) && (sameList eqb (x .leads) (r .leads) && within sameObligation (r .owed) (x .owed)))
+
 -- one more, unless it is there, while there is room
 unfoldable pub inserted : ℕ → Option (List Remainder) → Remainder → Option (List Remainder)
 inserted room none x = none
-inserted room (some rs) x = cond (any (sameRemainder x) rs) (some rs) (cond (ltb (length rs) room) (some (rs ++ (x ∷ []))) none)
+inserted room (some rs) x = cond (any (sameCounted x) rs) (some rs) (cond (ltb (length rs) room) (some (rs ++ (x ∷ []))) none)
 
 abbrev pub took : ℕ → Option (List Remainder) → Advanced → Option (List Remainder)
 took room found fails = found

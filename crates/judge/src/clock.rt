@@ -25,6 +25,13 @@ pub(crate) fn tag_at(tags: [i16; 8], k: u8) -> i16
     if i < 8 { tags[i] } else { 0 }
 }
 
+// A number of 16 bits in 64, where products and differences of tags don't wrap.
+pub(crate) fn wide(x: i16) -> i64
+    ensures { λ r. ⌜ r ≡ x ⌝ }
+{
+    x as i64
+}
+
 // The stopped clocks, with one more.
 pub(crate) fn stop(stopped: [bool; 8], k: u8) -> [bool; 8]
     ensures { λ r. ⌜ r ≡ set stopped k true ⌝ }

@@ -9,15 +9,14 @@ ghost use mathlib.Core.Path.{_≡_};
 ghost use mathlib.Core.Bool.{Bool·beq, _&&_};
 ghost use mathlib.Core.List.{map};
 ghost use mathlib.Core.Option.{none};
-ghost use Prim.Native.Nat.{ℕ, _≤_};
+ghost use Prim.Native.Nat.{_≤_};
 ghost use lib.Dec.{T, eqb};
-ghost use lib.ListN.{length, take};
+ghost use lib.ListN.{take};
 ghost use Rattle.records.specs.Sheet.{SheetValue, sheetValue};
-ghost use Rattle.tesl.specs.Lists.{any, within, sameList};
-ghost use Rattle.tesl.specs.Remainder.{sameObligation, sameRemainder};
+ghost use Rattle.tesl.specs.Lists.{any, sameList};
 ghost use Rattle.theory.specs.Step.{nextLeads};
-ghost use Rattle.judge.specs.View.{inUse, owedOf, viewOf, heldOf, sized};
-ghost use Rattle.judge.specs.Work.{inserted};
+ghost use Rattle.judge.specs.View.{inUse, viewOf, heldOf, sized};
+ghost use Rattle.judge.specs.Work.{sameCounted, inserted};
 
 // Exhausted, when none is held; or how many are: none when broken.
 pub enum Count {
@@ -93,52 +92,36 @@ pub(crate) fn clocks_of(s: Sheet) -> usize
 // What a remainder carries beside its obligations.
 fn same_carried(s: Sheet, a: Remainder, b: Remainder) -> bool
     requires { ⌜ (s .count ≤ 16) × (s .clocks ≤ 8) ⌝ }
-    ensures { λ r. ⌜ r ≡ (sameList eqb (viewOf (sheetValue s) a .leads) (viewOf (sheetValue s) b .leads) && sameList Bool·beq (viewOf (sheetValue s) a .stopped) (viewOf (sheetValue s) b .stopped)) ⌝ }
+    ensures { λ r. ⌜ r ≡ (sameList Bool·beq (viewOf (sheetValue s) a .stopped) (viewOf (sheetValue s) b .stopped) && sameList eqb (viewOf (sheetValue s) a .leads) (viewOf (sheetValue s) b .leads)) ⌝ }
 {
-    let x = a.leads;
-    let y = b.leads;
-    if same_leads(s, x, y) {
-        let p = a.stopped;
-        let q = b.stopped;
-        same_stopped(clocks_of(s), p, q)
+    let p = a.stopped;
+    let q = b.stopped;
+    if same_stopped(clocks_of(s), p, q) {
+        let x = a.leads;
+        let y = b.leads;
+        same_leads(s, x, y)
     } else {
         false
     }
 }
 
-// Each obligation of a is among b's.
-fn owes_all(a: Remainder, b: Remainder) -> bool
-    ensures { λ r. ⌜ r ≡ within sameObligation (owedOf a) (owedOf b) ⌝ }
-{
-    let n = owed_count(a);
-    let mut j = 0;
-    while j < n {
-        let o = a.obligations[j];
-        if owes(b, o) {
-            j += 1;
-        } else {
-            return false;
-        }
-    }
-    true
-}
-
 // x is one of the first n; the comparison stops at the first equal one.
+// Where each owes an obligation once, two that owe as many are compared by one inclusion.
 fn is_held(s: Sheet, n: usize, remainders: [Remainder; 32], x: Remainder) -> bool
     requires { ⌜ (s .count ≤ 16) × ((s .clocks ≤ 8) × (n ≤ 32)) ⌝ }
-    ensures { λ r. ⌜ r ≡ any (sameRemainder (viewOf (sheetValue s) x)) (map (viewOf (sheetValue s)) (take n remainders)) ⌝ }
+    ensures { λ r. ⌜ r ≡ any (sameCounted (viewOf (sheetValue s) x)) (map (viewOf (sheetValue s)) (take n remainders)) ⌝ }
 {
+    let m = owed_count(x);
     let mut i = 0;
     'held: while i < n {
         let r = remainders[i];
         i += 1;
+        if owed_count(r) != m {
+            continue;
+        }
         if !same_carried(s, x, r) {
             continue;
         }
-        if !owes_all(x, r) {
-            continue;
-        }
-        let m = owed_count(r);
         let mut j = 0;
         while j < m {
             let o = r.obligations[j];

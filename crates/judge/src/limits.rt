@@ -24,7 +24,7 @@ ghost use Rattle.judge.specs.View.{obligationOf, owedOf, inUse};
 ghost use Rattle.judge.specs.Limits.{obligationWithin, remainderWithin, heldWithin, Limited};
 
 // From the least tag to the greatest and the longest delay after it.
-fn due_within(due: i64) -> bool
+fn due_within(due: i32) -> bool
     ensures { λ r. ⌜ r ≡ (leZ (negsuc 32767) due && leZ due (pos 98302)) ⌝ }
 {
     if -32768 <= due { due <= 98302 } else { false }

@@ -2,9 +2,9 @@
 use crate::clock::stop;
 use crate::clock::tag_at;
 use crate::clock::ticks_at;
+use crate::clock::wide;
 use crate::obligation::Obligation;
 use crate::obligation::due_of;
-use crate::obligation::wide;
 use records::line::Line;
 ghost use mathlib.Core.Path.{_≡_};
 ghost use mathlib.Core.Bool.{not, _&&_, _||_};

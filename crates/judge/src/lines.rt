@@ -1,11 +1,11 @@
 // The questions of a line asked of all lines of a sheet, and of all clocks.
 use crate::clock::tag_at;
+use crate::clock::wide;
 use crate::line::carried_holds;
 use crate::line::lead_after;
 use crate::line::stopped_after;
 use crate::line::tags_hold;
 use crate::line::ticks_hold;
-use crate::obligation::wide;
 use records::sheet::Sheet;
 use records::sheet::line_at;
 ghost use mathlib.Core.Path.{_≡_};

@@ -13,24 +13,24 @@ ghost use Rattle.judge.specs.View.{obligationOf, filledOf};
 pub struct Obligation {
     pub clock: u8,
     pub on: u8,
-    pub due: i64,
+    pub due: i32,
 }
 
-// A number of 16 bits in 64, where sums and products of tags don't wrap.
-pub(crate) fn wide(x: i16) -> i64
+// A tag, or the t of a sporadic line, as a due: dues, −32,768 to 98,302, fit 32 bits.
+pub(crate) fn as_due(x: i16) -> i32
     ensures { λ r. ⌜ r ≡ x ⌝ }
 {
-    x as i64
+    x as i32
 }
 
 // The due of a delay that begins at a tag.
-pub(crate) fn due_of(tag: i16, delay: u16) -> i64
+pub(crate) fn due_of(tag: i16, delay: u16) -> i32
     ensures { λ r. ⌜ r ≡ tag +ℤ pos delay ⌝ }
 {
-    wide(tag) + (delay as i64)
+    as_due(tag) + (delay as i32)
 }
 
-fn same_due(a: i64, b: i64) -> bool
+fn same_due(a: i32, b: i32) -> bool
     ensures { λ r. ⌜ r ≡ eqZ a b ⌝ }
 {
     a == b
@@ -55,7 +55,7 @@ pub(crate) fn is_met(o: Obligation, ticks: [bool; 8], tags: [i16; 8]) -> bool
     ensures { λ r. ⌜ r ≡ meets (filledOf ticks tags) (obligationOf o) ⌝ }
 {
     if ticks_at(ticks, o.clock) {
-        same_due(wide(tag_at(tags, o.on)), o.due)
+        same_due(as_due(tag_at(tags, o.on)), o.due)
     } else {
         false
     }
@@ -65,5 +65,5 @@ pub(crate) fn is_met(o: Obligation, ticks: [bool; 8], tags: [i16; 8]) -> bool
 pub(crate) fn is_late(o: Obligation, tags: [i16; 8]) -> bool
     ensures { λ r. ⌜ r ≡ not (leZ (tagIn tags (o .on)) (o .due)) ⌝ }
 {
-    o.due < wide(tag_at(tags, o.on))
+    o.due < as_due(tag_at(tags, o.on))
 }

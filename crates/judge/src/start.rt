@@ -1,7 +1,7 @@
 // What a sheet owes before the first instant.
 use crate::line::Begun;
 use crate::obligation::Obligation;
-use crate::obligation::wide;
+use crate::obligation::as_due;
 use crate::remainder::Added;
 use crate::remainder::Remainder;
 use crate::remainder::add;
@@ -25,7 +25,7 @@ fn owed_at_start(l: Line) -> Begun
         Line::Sporadic { a, b, t } => Begun::Owed(Obligation {
             clock: a,
             on: b,
-            due: wide(t),
+            due: as_due(t),
         }),
         _ => Begun::Nothing,
     }

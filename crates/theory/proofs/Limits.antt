@@ -19,13 +19,13 @@ use Rattle.tesl.specs.Remainder.{Remainder, leadOf, remainder, sameRemainder, o
 use Rattle.tesl.specs.Answer.{exhausted, remainders, answer}
 use Rattle.theory.specs.Step.{nextLead, nextLeads, nextOwed, next, stepOk, lastTagsOf, nexts, wellFormed}
 use Rattle.theory.specs.Limits.{dueOk, clocksOk, withinLimits, HeldLimits}
-use Rattle.theory.specs.Sets.{EachOnce}
+use Rattle.theory.specs.Sets.{Covers}
 use Rattle.theory.specs.Held.{Held, successors}
 use Rattle.tesl.proofs.Tests.{and-l, and-r, and-i}
 use Rattle.theory.proofs.Lists.{any-map, any-flatMap, any-imp, none-any, all-as-any, snoc-ind, snoc-each}
 use Rattle.theory.proofs.LineKinds.{law}
 use Rattle.theory.proofs.Owed.{start-all, next-all, start-clocks, next-clocks}
-use Rattle.theory.proofs.Sets.{any-set, distinct-set}
+use Rattle.theory.proofs.Sets.{any-covers, any-set, distinct-set}
 use Rattle.theory.proofs.Respect.{remainder-equivalence, alike, any-owed}
 use Rattle.theory.proofs.Fillings.{found, any-nexts, found-snoc}
 use Rattle.theory.proofs.Answers.{held-few}
@@ -129,15 +129,16 @@ module _ (s : SheetValue) (wf : T (wellFormed s)) (values : All IsLineValue (s .
 
   -- ---- what is held
 
-  -- from any held ones within the limits, whether a run has them or not
-  pub successors-within : (last : Option (List ℤ)) (i : Instant) → IsInstant i → (held : ℕ) (rs new : List Remainder) → EachOnce sameRemainder new (successors s last i rs)
+  -- from any held ones within the limits, whether a run has them or not, and some of their successors
+  pub successors-within : (last : Option (List ℤ)) (i : Instant) → IsInstant i → (held : ℕ) (rs new : List Remainder) → Covers sameRemainder new (successors s last i rs)
       → T (all (withinLimits (s .clocks) held) rs) → T (all (withinLimits (s .clocks) (suc held)) new)
   unfolding beyond successors
-  successors-within last i h held rs new e w =
+  successors-within last i h held rs new c w =
       subst T (sym (all-as-any (withinLimits (s .clocks) (suc held)) new)) (not-T (any (beyond (suc held)) new)
       (λ t. T-not (any (beyond held) rs) (subst T (all-as-any (withinLimits (s .clocks) held) rs) w)
       (any-imp (λ (r : Remainder). any (beyond (suc held)) (nexts s last i r)) (beyond held) rs (nexts-within last i h held)
-      (subst T (any-set sameRemainder remainder-equivalence (beyond (suc held)) (beyond-same (suc held)) new (successors s last i rs) (e .these) ∙ any-flatMap (beyond (suc held)) (nexts s last i) rs) t))))
+      (subst T (any-flatMap (beyond (suc held)) (nexts s last i) rs)
+      (any-covers sameRemainder remainder-equivalence (beyond (suc held)) (beyond-same (suc held)) new (successors s last i rs) c t)))))
 
   pub held-within : (run : List Instant) (rs : List Remainder) → All IsInstant run → answer s run ≢ exhausted → Held s run rs → HeldLimits (s .clocks) (length run) rs
   unfolding remainders beyond

@@ -48,7 +48,7 @@ module _ {A : Type 0} (same : A → A → Bool) (E : Equivalence same) where
   pub any-same : (x y : A) (xs : List A) → T (same x y) → T (any (same y) xs) → T (any (same x) xs)
   any-same x y xs s t = any-imp (same y) (same x) xs (λ z u. E .chain x y z s u) t
 
-  any-covers : (p : A → Bool) → ((x y : A) → T (same x y) → T (p x) → T (p y)) → (xs ys : List A) → Covers same xs ys → T (any p xs) → T (any p ys)
+  pub any-covers : (p : A → Bool) → ((x y : A) → T (same x y) → T (p x) → T (p y)) → (xs ys : List A) → Covers same xs ys → T (any p xs) → T (any p ys)
   any-covers p h [] ys c t = absurd t
   any-covers p h (x ∷ xs) ys c t = or-e (p x) (any p xs) t
       (λ u. any-imp (same x) p ys (λ y s. h x y s u) (c x (or-l (same x x) (any (same x) xs) (E .reflex x))))
@@ -119,6 +119,19 @@ module _ {A : Type 0} (same : A → A → Bool) (E : Equivalence same) where
       let r = length-le xs (remove same x ys) (and-r (not (any (same x) xs)) (apart same xs) a)
       (λ z t. remove-keeps x z (not-T (same x z) (λ s. T-not (any (same x) xs) n (any-same x z xs s t))) ys (c z (or-r (same z x) (any (same z) xs) t))) in
       omega (arith, length-remove same x ys (c x (or-l (same x x) (any (same x) xs) (E .reflex x))))
+
+  -- each of xs among ys, none of xs twice, and ys no longer: each of ys is among xs
+  covers-back : (xs ys : List A) → T (apart same xs) → length ys ≤ length xs → Covers same xs ys → Covers same ys xs
+  covers-back xs ys a l c y t = by-test (any (same y) xs) (λ n. n)
+    where
+      by-test : (b : Bool) → (T (not b) → T (not (any (same y) xs))) → T b
+      by-test true n = tt
+      by-test false n =
+          let k = length-le (y ∷ xs) ys (and-i (not (any (same y) xs)) (apart same xs) (n tt) a) (λ z u. or-e (same z y) (any (same z) xs) u (λ v. any-same z y ys v t) (c z)) in
+          omega arith
+
+  pub within-back : (xs ys : List A) → T (apart same xs) → length ys ≤ length xs → T (within same xs ys) → T (within same ys xs)
+  within-back xs ys a l t = covers→within ys xs (covers-back xs ys a l (within→covers xs ys t))
 
   pub length-same : (xs ys : List A) → T (apart same xs) → T (apart same ys) → SameSet same xs ys → length xs ≡ length ys
   length-same xs ys a b e = le-antisymm (length-le xs ys a (λ x t. subst T (e x) t)) (length-le ys xs b (λ x t. subst T (sym (e x)) t))

@@ -77,4 +77,4 @@ finding-within s l last i h instants w (many among a c k) n = absurd (n refl)
 finding-within s l last i h instants w (one-more among a c k x t u) n = absurd (n refl)
 finding-within s l last i h instants w (owed x t k) n = absurd (n refl)
 finding-within s l last i h instants {rs = rs} {new = new} w (every e k o) n =
-    record { live = k; owe = o; within = successors-within s (l .clocks-below) (l .values) last i h instants rs new e (w .within) }
+    record { live = k; owe = o; within = successors-within s (l .clocks-below) (l .values) last i h instants rs new (λ x t. subst T (e .these x) t) (w .within) }

@@ -22,8 +22,10 @@ use Rattle.judge.specs.declared.held.Held.{Held}
 use Rattle.judge.specs.Advanced.{Advanced, fails, over, onto}
 use Rattle.judge.specs.View.{viewOf, filledOf, seenOf, isNone, heldOf, liveOf}
 use Rattle.judge.specs.Questions.{tagsHold, ticksHold}
+use Rattle.judge.specs.Once.{onceEach}
 use Rattle.judge.specs.Work.{inserted, took, settledAll, filling, fillFrom, worked, advanced}
 use Rattle.judge.proofs.Places.{rest-end, rest-cons}
+use Rattle.judge.proofs.work.Once.{settled-once}
 
 -- what `fill` asks, at another clock and with other remainders found
 pub asked : {A B C D E E′ P Q R R′ W : Type 0} → A × (B × (C × (D × (E × (P × (Q × (R × W))))))) → E′ → R′ → A × (B × (C × (D × (E′ × (P × (Q × (R′ × W)))))))
@@ -35,9 +37,9 @@ module _ (room : ℕ) (v : SheetValue) (tags : List ℤ) (rs : List Remainder) (
   unfolding filling
   filling-no h = rw (sym e, h)
 
-  pub filling-yes : ok ≡ true → (begun : List Obligation) → begun ≡ flatMap (owedFrom (filledOf ticks tags)) (v .lines) → (r : Option (List Remainder)) → r ≡ settledAll room v (filledOf ticks tags) begun rs found → r ≡ filling room v tags rs found ticks
+  pub filling-yes : ok ≡ true → (begun : List Obligation) → begun ≡ onceEach (flatMap (owedFrom (filledOf ticks tags)) (v .lines)) → (r : Option (List Remainder)) → r ≡ settledAll room v (filledOf ticks tags) begun rs found → r ≡ filling room v tags rs found ticks
   unfolding filling
-  filling-yes h begun b r f = f ∙ rw (sym e, h, b)
+  filling-yes h begun b r f = f ∙ rw (sym e, h, b) (settled-once v (filledOf ticks tags) (flatMap (owedFrom (filledOf ticks tags)) (v .lines)) room rs found)
 
 -- ---- once exhausted, it stays so
 took-none : (room : ℕ) (a : Advanced) → took room none a ≡ none

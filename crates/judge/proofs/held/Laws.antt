@@ -11,7 +11,7 @@ use lib.ListN.{length, take, drop, getD, set, length-map}
 use lib.Seq.{length-take-le, take-suc-set}
 use types.Run.{OneOf}
 use denote.Enum.Declared.{tagOf}
-use borrow.Author.Tests.{lt-ltb, le-ltb, not-true, not-false}
+use borrow.Author.Tests.{lt-ltb, le-ltb, eq-eqb, ne-eqb, not-true, not-false}
 use Rattle.records.proofs.line.Line.{the-type}
 use Rattle.records.specs.declared.line.Line.{Line}
 use Rattle.records.specs.declared.sheet.Sheet.{Sheet}
@@ -19,17 +19,19 @@ use Rattle.records.specs.Lists.{listedFrom}
 use Rattle.records.specs.Sheet.{SheetValue, lineAt, sheetValue}
 use Rattle.records.proofs.Lists.{listed-cons, listed-end, listed-take}
 use Rattle.tesl.specs.Lists.{all, any, within, sameList}
-use Rattle.tesl.specs.Remainder.{Remainder, sameObligation, sameRemainder}
+use Rattle.tesl.specs.Fits.{Obligation}
+use Rattle.tesl.specs.Remainder.{Remainder, sameObligation}
 use Rattle.tesl.proofs.FormulaLists.{all-append}
 use Rattle.tesl.proofs.Tests.{and-l, and-r, and-i}
 use Rattle.theory.specs.Step.{nextLeads}
+use Rattle.judge.specs.declared.obligation.Obligation as code
 use Rattle.judge.specs.declared.held.Count.the-variants.{Exhausted, Live}
 use Rattle.judge.specs.declared.held.Count.{Count}
 use Rattle.judge.specs.declared.held.Held.{Held}
 use Rattle.judge.specs.declared.remainder.Remainder as arrays
-use Rattle.judge.specs.View.{inUse, viewOf, heldIn, heldOf, sizedIn, sized}
+use Rattle.judge.specs.View.{obligationOf, inUse, firstOf, viewOf, heldIn, heldOf, sizedIn, sized}
 use Rattle.judge.specs.Lines.{leadIn}
-use Rattle.judge.specs.Work.{inserted}
+use Rattle.judge.specs.Work.{sameCounted, inserted}
 use Rattle.judge.proofs.Places.{first-set}
 use Rattle.judge.proofs.line.Laws.{lead-keys, unused}
 
@@ -86,32 +88,35 @@ at-line a b e f = f ∙ rw e
 
 -- ---- equality of two remainders, test by test
 module _ (x r : Remainder) where
-  abbrev pub sameCarried : Bool
-  sameCarried = sameList eqb (x .leads) (r .leads) && sameList Bool·beq (x .stopped) (r .stopped)
+  abbrev sameCount : Bool
+  sameCount = eqb (length (x .owed)) (length (r .owed))
 
-  abbrev forth : Bool
-  forth = within sameObligation (x .owed) (r .owed)
+  abbrev sameCarried : Bool
+  sameCarried = sameList Bool·beq (x .stopped) (r .stopped) && sameList eqb (x .leads) (r .leads)
 
-  abbrev back : Bool
-  back = within sameObligation (r .owed) (x .owed)
+  abbrev among : Bool
+  among = within sameObligation (r .owed) (x .owed)
 
-  tests : sameRemainder x r ≡ (sameCarried && (forth && back))
-  unfolding sameRemainder
-  tests = sym (and-assoc (sameList eqb (x .leads) (r .leads)) (sameList Bool·beq (x .stopped) (r .stopped)) (forth && back))
+  tests : sameCounted x r ≡ (sameCount && (sameCarried && among))
+  unfolding sameCounted
+  tests = ap (λ (b : Bool). sameCount && b) (sym (and-assoc (sameList Bool·beq (x .stopped) (r .stopped)) (sameList eqb (x .leads) (r .leads)) among))
+
+  pub other-count : (length (x .owed) ≡ length (r .owed) → ⊥) → sameCounted x r ≡ false
+  other-count n = tests ∙ rw (ne-eqb (length (x .owed)) (length (r .owed)) n)
 
   module _ {c : Bool} (e : c ≡ sameCarried) where
-    pub other-carried : not c ≡ true → sameRemainder x r ≡ false
-    other-carried q = tests ∙ rw (sym e, not-true c q)
+    pub other-carried : not c ≡ true → sameCounted x r ≡ false
+    other-carried q = tests ∙ rw (sym e, not-true c q) (and-false sameCount)
 
-    module _ {o : Bool} (f : o ≡ forth) where
-      pub equal : not c ≡ false → not o ≡ false → back ≡ true → sameRemainder x r ≡ true
-      equal q s g = tests ∙ rw (sym e, sym f, not-false c q, not-false o s, g)
+    pub equal : length (x .owed) ≡ length (r .owed) → not c ≡ false → among ≡ true → sameCounted x r ≡ true
+    equal n q g = tests ∙ rw (eq-eqb (length (x .owed)) (length (r .owed)) n, sym e, not-false c q, g)
 
-  pub other-owed : {o : Bool} → o ≡ forth → not o ≡ true → sameRemainder x r ≡ false
-  other-owed {o} f q = tests ∙ rw (sym f, not-true o q) (and-false sameCarried)
+  pub other-owed : among ≡ false → sameCounted x r ≡ false
+  other-owed g = tests ∙ rw (g, and-false sameCarried) (and-false sameCount)
 
-  pub other-back : back ≡ false → sameRemainder x r ≡ false
-  other-back g = tests ∙ rw (g, and-false forth) (and-false sameCarried)
+-- how many the first n of an array are
+pub count-first : (n : ℕ) (os : List code.Obligation) {owed : List Obligation} → n ≤ length os → firstOf n os ≡ owed → length owed ≡ n
+count-first n os h e = ap length (sym e) ∙ length-map (take n os) obligationOf ∙ length-take-le n os h
 
 -- ---- those held
 abbrev small : arrays.Remainder → Bool
@@ -139,7 +144,7 @@ module _ (h : Held) (n : ℕ) (e : h .count ≡ Live n) where
     abbrev seen : List Remainder
     seen = map (viewOf v) (take n (h .remainders))
 
-    module _ {b : Bool} (f : b ≡ any (sameRemainder (viewOf v x)) seen) where
+    module _ {b : Bool} (f : b ≡ any (sameCounted (viewOf v x)) seen) where
       pub there : b ≡ true → heldOf v h ≡ inserted room (heldOf v h) (viewOf v x)
       unfolding inserted
       there q = rw (held-live v, sym f, q)
@@ -155,7 +160,7 @@ module _ (h : Held) (n : ℕ) (e : h .count ≡ Live n) where
       many : length seen ≡ n
       many = length-map (take n (h .remainders)) (viewOf v) ∙ length-take-le n (h .remainders) (omega (arith, at-most t))
 
-      module _ {b : Bool} (f : b ≡ any (sameRemainder (viewOf v x)) seen) (q : b ≡ false) where
+      module _ {b : Bool} (f : b ≡ any (sameCounted (viewOf v x)) seen) (q : b ≡ false) where
         pub more : n < room → room ≤ 32 → some (map (viewOf v) (take (n + 1) (set (h .remainders) n x))) ≡ inserted room (heldOf v h) (viewOf v x)
         unfolding inserted
         more k m = rw (held-live v, sym f, q, many, lt-ltb n room k) (ap some (first-set (viewOf v) (h .remainders) n x (omega arith)))

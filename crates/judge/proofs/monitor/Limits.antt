@@ -1,4 +1,4 @@
--- Limits of a monitor (11) as theory has them: of its sheet and of those held; what within them the work asks; and those held stay within them. Assumes nothing.
+-- Limits of a monitor (11) as theory has them: of its sheet and of those held; what within them the work asks; and the shape of those held. Assumes nothing.
 use mathlib.Core.Bool.{Bool, true, false, _&&_, and-false, and-assoc}
 use mathlib.Core.List.{List, [], _∷_, map}
 use mathlib.Core.Path.{_≡_, refl, sym, ap, _∙_, subst, fun-ext}
@@ -11,15 +11,13 @@ use Rattle.records.specs.Outcome.{Outcome, taken, refused, decide}
 use Rattle.records.specs.Sheet.{SheetValue, lineAt, sheetValueChecks}
 use Rattle.records.specs.Types.{All, IsSheet}
 use Rattle.records.proofs.Lists.{both, taken-passed, length-listed}
-use Rattle.tesl.specs.Lists.{all, distinct}
+use Rattle.tesl.specs.Lists.{all}
 use Rattle.tesl.specs.Fits.{Obligation}
-use Rattle.tesl.specs.Remainder.{Remainder, sameObligation, owes}
-use Rattle.tesl.proofs.Tests.{and-l, and-r, and-i, ≡→T, T→≡}
+use Rattle.tesl.specs.Remainder.{Remainder}
+use Rattle.tesl.proofs.Tests.{and-l, and-r, ≡→T, T→≡}
 use Rattle.theory.specs.Step.{wellFormed}
-use Rattle.theory.specs.Limits.{SheetLimits, HeldLimits, clocksOk, dueOk, withinLimits}
+use Rattle.theory.specs.Limits.{SheetLimits, clocksOk, dueOk, withinLimits}
 use Rattle.theory.proofs.Lists.{all-imp}
-use Rattle.theory.proofs.Sets.{distinct-set, distinct-apart, length-le}
-use Rattle.theory.proofs.Respect.{owed-equivalence}
 use Rattle.theory.proofs.Opened.{checked-limits}
 use Rattle.judge.specs.declared.remainder.Remainder as arrays
 use Rattle.judge.specs.declared.held.Count.{Count}
@@ -126,7 +124,7 @@ workable m l h = record {
   fits = l .fits;
 }
 
--- ---- what theory asks of those held
+-- ---- the shape of those held
 
 take-most : {A : Type 0} (n : ℕ) (xs : List A) → length (take n xs) ≤ n
 take-most zero xs = omega arith
@@ -159,30 +157,3 @@ module _ (v : SheetValue) (c-most : v .clocks ≤ 8) where
       → All (Shaped (v .clocks)) (live (heldIn v count rs))
   held-shaped Exhausted rs s t = tt
   held-shaped (Live n) rs s t = all-shaped (take n rs) (all-take _ n rs s) (and-r (leb n 32) (all (λ (r : arrays.Remainder). leb (r .owed) 8) (take n rs)) t)
-
--- a remainder owes at most as many as it lists
-few-owed : (r : Remainder) → length (r .owed) ≤ 8 → T (leb (owes r) 8)
-unfolding owes
-few-owed r h =
-    let k = length-le sameObligation owed-equivalence (distinct sameObligation (r .owed)) (r .owed) (distinct-apart sameObligation owed-equivalence (r .owed))
-    (λ o t. subst T (distinct-set sameObligation owed-equivalence (r .owed) o) t) in
-    le→leb (length (distinct sameObligation (r .owed))) 8 (omega arith)
-
-all-owed : (c : ℕ) (rs : List Remainder) → All (Shaped c) rs → T (all (λ (r : Remainder). leb (owes r) 8) rs)
-all-owed c [] h = tt
-all-owed c (r ∷ rs) h = and-i (leb (owes r) 8) (all (λ (q : Remainder). leb (owes q) 8) rs) (few-owed r (h .0 .owed)) (all-owed c rs (h .1))
-
--- live: how many the array has in use
-held-live : (v : SheetValue) (count : Count) (rs : List arrays.Remainder) → T (sizedIn count rs) → length (live (heldIn v count rs)) ≤ 32
-held-live v Exhausted rs t = omega arith
-held-live v (Live n) rs t =
-    let h = leb→le n 32 (and-l (leb n 32) (all (λ (r : arrays.Remainder). leb (r .owed) 8) (take n rs)) t) in
-    let k = take-most n rs in
-    omega (arith, length-map (take n rs) (viewOf v))
-
-pub held-bounded : (m : Monitor) → Limits m → All (Shaped (m .sheet .clocks)) (live (heldBy m)) → HeldLimits (m .sheet .clocks) (m .instants) (live (heldBy m))
-held-bounded m l s = record {
-  live = held-live (sheetBy m) (m .held .count) (m .held .remainders) (l .fits);
-  owe = all-owed (m .sheet .clocks) (live (heldBy m)) s;
-  within = l .views;
-}

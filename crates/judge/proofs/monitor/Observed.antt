@@ -20,12 +20,14 @@ use Rattle.records.specs.Instant.{Cell, tickSlot, readInstant, instantOf}
 use Rattle.records.specs.Types.{All, IsBytes, IsSheet, IsInstant}
 use Rattle.tesl.specs.Lists.{all}
 use Rattle.tesl.specs.Run.{Instant, ticksOf, tagsOf}
-use Rattle.tesl.specs.Remainder.{Remainder, sameObligation}
+use Rattle.tesl.specs.Remainder.{Remainder, sameRemainder}
 use Rattle.tesl.specs.Answer.{Answer, exhausted, judged, answer}
-use Rattle.theory.specs.Sets.{apart}
-use Rattle.theory.specs.Limits.{SheetLimits, HeldLimits, withinLimits}
+use Rattle.theory.specs.Sets.{Covers}
+use Rattle.theory.specs.Held.{successors}
+use Rattle.theory.specs.Limits.{SheetLimits, withinLimits}
 use Rattle.theory.specs.Tracks.{State, Tracks, stateAfter, Finding, every}
-use Rattle.theory.proofs.Tracks.{tracks-exhausted, tracks-next, finding-within}
+use Rattle.theory.proofs.Limits.{successors-within}
+use Rattle.theory.proofs.Tracks.{tracks-exhausted, tracks-next}
 use Rattle.judge.specs.declared.remainder.Remainder as arrays
 use Rattle.judge.specs.declared.monitor.Monitor.{Monitor}
 use Rattle.judge.specs.declared.monitor.Given.{Given}
@@ -35,8 +37,8 @@ use Rattle.judge.specs.Answer.{replyOf, saidBy}
 use Rattle.judge.specs.Limits.{sheetWithin, within}
 use Rattle.judge.specs.Monitor.{sheetBy, heldBy, lastBy, Accepts}
 use Rattle.judge.specs.Promises.{Follows, Accepted}
-use Rattle.judge.proofs.work.Found.{Shaped, Proper, Every, worked-every, worked-proper, worked-none}
-use Rattle.judge.proofs.monitor.Limits.{Limits, limits-of, within-limits, held-shaped, held-bounded}
+use Rattle.judge.proofs.work.Found.{Shaped, Proper, Every, worked-among, worked-every, worked-none}
+use Rattle.judge.proofs.monitor.Limits.{Limits, within-limits}
 
 -- ---- what the work makes of those held, found or not
 
@@ -44,14 +46,14 @@ use Rattle.judge.proofs.monitor.Limits.{Limits, limits-of, within-limit
 Works : SheetValue → Option (List ℤ) → Instant → Option (List Remainder) → Option (List Remainder) → Type 0
 Works v last i none after = after ≡ none
 Works v last i (some rs) none = Proper rs → Finding v last i rs exhausted []
-Works v last i (some rs) (some new) = Every v last i rs new × (Proper rs → Proper new)
+Works v last i (some rs) (some new) = Covers sameRemainder new (successors v last i rs) × (Proper rs → Every v last i rs new)
 
 works : (v : SheetValue) (first : Bool) (was : List ℤ) (i : Instant) → length i ≤ 8 → (h after : Option (List Remainder)) → All (Shaped (v .clocks)) (live h)
     → worked 32 v (tagsBefore first was) (ticksOf i) (filled 8 (pos 0) (tagsOf i)) h ≡ after → Works v (cond first none (some (take (v .clocks) was))) i h after
 unfolding worked Works
 works v first was i size none after s e = sym e
 works v first was i size (some rs) none s e = λ p. worked-none v first was i size rs s p e
-works v first was i size (some rs) (some new) s e = (worked-every v first was i size rs s e, λ p. worked-proper v first was i size rs s p e)
+works v first was i size (some rs) (some new) s e = (worked-among v first was i size rs s e, λ p. worked-every v first was i size rs s p e)
 
 -- ---- the answer and those held after it
 
@@ -64,17 +66,17 @@ proper-after : (v : SheetValue) (last : Option (List ℤ)) (i : Instant) (h afte
 unfolding Works
 proper-after v last i none after w p = rw w tt
 proper-after v last i (some rs) none w p = tt
-proper-after v last i (some rs) (some new) w p = w .1 p
+proper-after v last i (some rs) (some new) w p = w .1 p .proper
 
 every-found : {v : SheetValue} {last : Option (List ℤ)} {i : Instant} {rs new : List Remainder} → Every v last i rs new → Finding v last i rs (judged new) new
 every-found e = every (e .once) (e .live) (e .owe)
 
 views-after : (v : SheetValue) → SheetLimits v → (last : Option (List ℤ)) (i : Instant) → IsInstant i → (n : ℕ) (h after : Option (List Remainder)) → Works v last i h after
-    → HeldLimits (v .clocks) n (live h) → T (all (withinLimits (v .clocks) (suc n)) (live after))
+    → T (all (withinLimits (v .clocks) n) (live h)) → T (all (withinLimits (v .clocks) (suc n)) (live after))
 unfolding Works
 views-after v l last i value n none after w b = rw w tt
 views-after v l last i value n (some rs) none w b = tt
-views-after v l last i value n (some rs) (some new) w b = finding-within v l last i value n b (every-found (w .0)) (judged-short new) .within
+views-after v l last i value n (some rs) (some new) w b = successors-within v (l .clocks-below) (l .values) last i value n rs new (w .0) b
 
 tracks-after : (v : SheetValue) → SheetLimits v → (run : List Instant) (n : ℕ) (last : Option (List ℤ)) (i : Instant) (h after : Option (List Remainder)) → Works v last i h after → Proper (live h)
     → Tracks v run (record { instants = n; last = last; said = saidBy h; live = live h })
@@ -82,7 +84,7 @@ tracks-after : (v : SheetValue) → SheetLimits v → (run : List Instant) (n : 
 unfolding Works
 tracks-after v l run n last i none after w p t = rw w (tracks-exhausted v run i _ t [] refl)
 tracks-after v l run n last i (some rs) none w p t = tracks-next v run i _ t (l .clocks-below) (judged-short rs) (w p)
-tracks-after v l run n last i (some rs) (some new) w p t = tracks-next v run i _ t (l .clocks-below) (judged-short rs) (every-found (w .0))
+tracks-after v l run n last i (some rs) (some new) w p t = tracks-next v run i _ t (l .clocks-below) (judged-short rs) (every-found (w .1 p))
 
 -- ---- the instant that was read
 
@@ -112,7 +114,7 @@ module _ (m : Monitor) (l : Limits m) (sheet : T (sheetWithin (sheetBy m))) (roo
   limits-after = within-limits (r .monitor) (rw (a .sheet) sheet) (let n = a .instants in omega arith) (a .fits)
       (subst (λ (s : Sheet). T (all (withinLimits (s .clocks) (r .monitor .instants)) (live (heldBy (r .monitor))))) (sym (a .sheet))
       (subst (λ (n : ℕ). T (all (withinLimits (m .sheet .clocks) n) (live (heldBy (r .monitor))))) (sym (a .instants))
-      (views-after (sheetBy m) (l .sheet) (lastBy m) i value (m .instants) (heldBy m) (heldBy (r .monitor)) found (held-bounded m l shaped))))
+      (views-after (sheetBy m) (l .sheet) (lastBy m) i value (m .instants) (heldBy m) (heldBy (r .monitor)) found (l .views))))
 
   last-after : lastBy (r .monitor) ≡ some (tagsOf i)
   last-after = rw (a .sheet, a .instants, a .tags, eqb·suc-zero (m .instants)) (ap some (first-of (λ (c : Cell). c .tag) (pos 0) (m .sheet .clocks) i size))

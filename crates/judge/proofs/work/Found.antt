@@ -1,4 +1,4 @@
--- What the monitor's work on an instant has found: every successor once, or a reason to answer exhausted. Assumes nothing.
+-- What the monitor's work on an instant has found: some of the successors; and every one once, or a reason to answer exhausted, where each remainder held has an obligation once. Assumes nothing.
 use mathlib.Core.Bool.{Bool}
 use mathlib.Core.List.{List}
 use mathlib.Core.Option.{Option, none, some}
@@ -12,14 +12,15 @@ use Rattle.records.specs.Types.{All}
 use Rattle.records.specs.Sheet.{SheetValue}
 use Rattle.tesl.specs.Lists.{all}
 use Rattle.tesl.specs.Run.{Instant, ticksOf, tagsOf, fillings}
-use Rattle.tesl.specs.Remainder.{Remainder, sameObligation, sameRemainder, owes}
+use Rattle.tesl.specs.Remainder.{Remainder, sameRemainder, owes}
 use Rattle.tesl.specs.Answer.{exhausted}
-use Rattle.theory.specs.Sets.{apart, EachOnce}
+use Rattle.theory.specs.Sets.{Covers, EachOnce}
 use Rattle.theory.specs.Held.{successors}
 use Rattle.theory.specs.Tracks.{Finding}
 use Rattle.judge.specs.View.{tagsBefore}
 use Rattle.judge.specs.Work.{worked}
 use Rattle.judge.proofs.work.Padded.{lastIn}
+use Rattle.judge.proofs.work.Counted.{Once}
 use Rattle.judge.proofs.work.Gather.{of-each, Gathered, Gathering}
 use Rattle.judge.proofs.work.Settle.{reached, reached-are, worked-gathers}
 
@@ -28,14 +29,15 @@ pub record Shaped (c : ℕ) (r : Remainder) : Type 0 where
   pub clocks : length (r .stopped) ≡ c
   pub owed : length (r .owed) ≤ 8
 
--- each obligation once
+-- each has an obligation once
 abbrev pub Proper : List Remainder → Type 0
-Proper rs = All (λ (r : Remainder). T (apart sameObligation (r .owed))) rs
+Proper rs = All Once rs
 
 pub record Every (v : SheetValue) (last : Option (List ℤ)) (i : Instant) (rs new : List Remainder) : Type 0 where
   pub once : EachOnce sameRemainder new (successors v last i rs)
   pub live : length new ≤ 32
   pub owe : T (all (λ (r : Remainder). leb (owes r) 8) new)
+  pub proper : Proper new
 
 module _ (v : SheetValue) (first : Bool) (was : List ℤ) (i : Instant) (size : length i ≤ 8) (rs : List Remainder) (shaped : All (Shaped (v .clocks)) rs) where
   gathered : {q : Option (List Remainder)} → worked 32 v (tagsBefore first was) (ticksOf i) (filled 8 (pos 0) (tagsOf i)) (some rs) ≡ q
@@ -44,17 +46,21 @@ module _ (v : SheetValue) (first : Bool) (was : List ℤ) (i : Instant) (size : 
       subst (Gathering v (lastIn v first was) i rs (reached v (lastIn v first was) rs (fillings i))) e
       (worked-gathers v first was i size rs (λ r m. let h = of-each (Shaped (v .clocks)) shaped m in (h .clocks, h .owed)))
 
-  pub worked-every : {new : List Remainder} → worked 32 v (tagsBefore first was) (ticksOf i) (filled 8 (pos 0) (tagsOf i)) (some rs) ≡ some new → Every v (lastIn v first was) i rs new
-  worked-every {new} e =
+  -- whether a run has rs or not
+  pub worked-among : {new : List Remainder} → worked 32 v (tagsBefore first was) (ticksOf i) (filled 8 (pos 0) (tagsOf i)) (some rs) ≡ some new
+      → Covers sameRemainder new (successors v (lastIn v first was) i rs)
+  worked-among e = gathered e .among
+
+  pub worked-every : {new : List Remainder} → Proper rs → worked 32 v (tagsBefore first was) (ticksOf i) (filled 8 (pos 0) (tagsOf i)) (some rs) ≡ some new
+      → Every v (lastIn v first was) i rs new
+  worked-every {new} p e =
       let g : Gathered v (lastIn v first was) i rs (reached v (lastIn v first was) rs (fillings i)) new = gathered e in
       record {
-        once = record { each-once = g .once .each-once; these = λ x. g .once .these x ∙ reached-are v (lastIn v first was) i rs x };
+        once = record { each-once = g .once p .each-once; these = λ x. g .once p .these x ∙ reached-are v (lastIn v first was) i rs x };
         live = g .live;
         owe = g .owe;
+        proper = g .tidy p;
       }
-
-  pub worked-proper : {new : List Remainder} → Proper rs → worked 32 v (tagsBefore first was) (ticksOf i) (filled 8 (pos 0) (tagsOf i)) (some rs) ≡ some new → Proper new
-  worked-proper p e = gathered e .tidy p
 
   pub worked-none : {new : List Remainder} → Proper rs → worked 32 v (tagsBefore first was) (ticksOf i) (filled 8 (pos 0) (tagsOf i)) (some rs) ≡ none
       → Finding v (lastIn v first was) i rs exhausted new

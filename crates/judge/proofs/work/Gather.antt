@@ -2,7 +2,7 @@
 use mathlib.Core.Bool.{Bool, true, false, not, cond, _&&_}
 use mathlib.Core.List.{List, [], _∷_, _++_, append-nil, append-assoc, List·Memᴰ, List·Memᴰ·head, List·Memᴰ·tail}
 use mathlib.Core.Option.{Option, none, some}
-use mathlib.Core.Path.{refl, sym, subst}
+use mathlib.Core.Path.{_≡_, refl, sym, subst}
 use Prim.Native.Nat.{_≤_}
 use native.Mathlib.Omega.{arith}
 use lib.Dec.{T, leb, ltb, ltb→lt, nltb→le}
@@ -12,11 +12,11 @@ use Rattle.records.specs.Sheet.{SheetValue}
 use Rattle.records.specs.Types.{All}
 use Rattle.tesl.specs.Lists.{all, any, flatMap}
 use Rattle.tesl.specs.Run.{Instant, Filled, fillings}
-use Rattle.tesl.specs.Remainder.{Remainder, sameObligation, sameRemainder, owes}
+use Rattle.tesl.specs.Remainder.{Remainder, sameRemainder, owes}
 use Rattle.tesl.specs.Answer.{exhausted}
 use Rattle.tesl.proofs.Tests.{and-i, or-e}
 use Rattle.tesl.proofs.FormulaLists.{all-append}
-use Rattle.theory.specs.Sets.{apart, Covers, EachOnce}
+use Rattle.theory.specs.Sets.{Covers, EachOnce}
 use Rattle.theory.specs.Step.{next, stepOk}
 use Rattle.theory.specs.Held.{successors}
 use Rattle.theory.specs.Tracks.{Finding, one-more, owed}
@@ -26,7 +26,8 @@ use Rattle.theory.proofs.Sets.{any-same, again, fresh}
 use Rattle.theory.proofs.Respect.{remainder-equivalence}
 use Rattle.theory.proofs.Held.{successor-found}
 use Rattle.judge.specs.Advanced.{Advanced}
-use Rattle.judge.specs.Work.{inserted, took}
+use Rattle.judge.specs.Work.{sameCounted, inserted, took}
+use Rattle.judge.proofs.work.Counted.{Once, any-counted}
 use Rattle.judge.proofs.work.Advance.{Steps, broken, too-many, goes}
 
 -- ---- what holds of each of a list
@@ -42,18 +43,14 @@ module _ {A : Type 0} (P : A → Type 0) where
 
 -- ---- those found
 
--- each obligation once
-abbrev pub Once : Remainder → Type 0
-Once r = T (apart sameObligation (r .owed))
-
 module _ (v : SheetValue) (last : Option (List ℤ)) (i : Instant) (rs : List Remainder) where
-  -- xs are the reached ones, which are successors
+  -- xs are successors; and the reached ones, where each of rs has an obligation once
   pub record Gathered (reached xs : List Remainder) : Type 0 where
-    pub once : EachOnce sameRemainder xs reached
-    pub covered : Covers sameRemainder reached (successors v last i rs)
+    pub among : Covers sameRemainder xs (successors v last i rs)
     pub live : length xs ≤ 32
     pub owe : T (all (λ (r : Remainder). leb (owes r) 8) xs)
     pub tidy : All Once rs → All Once xs
+    pub once : All Once rs → EachOnce sameRemainder xs reached
 
   -- or there is a reason to answer exhausted
   abbrev pub Gathering : List Remainder → Option (List Remainder) → Type 0
@@ -63,42 +60,45 @@ module _ (v : SheetValue) (last : Option (List ℤ)) (i : Instant) (rs : List Re
   -- ---- one remainder by one filling
 
   module _ {f : Filled} {r : Remainder} (m : List·Memᴰ r rs) (n : List·Memᴰ f (fillings i)) where
-    -- what it becomes, if it goes on
-    covers-more : (reached : List Remainder) → T (stepOk v last f r) → Covers sameRemainder reached (successors v last i rs)
-        → Covers sameRemainder (reached ++ (next v f r ∷ [])) (successors v last i rs)
-    covers-more reached ok c z t = or-e (any (sameRemainder z) reached) (sameRemainder z (next v f r)) (subst T (any-snoc (sameRemainder z) reached (next v f r)) t)
-        (c z) (λ u. any-same sameRemainder remainder-equivalence z (next v f r) (successors v last i rs) u (successor-found v last i m n ok))
+    -- what it becomes, if it goes on, is a successor
+    goes-on : (x : Remainder) → T (stepOk v last f r) → T (sameRemainder x (next v f r)) → T (any (sameRemainder x) (successors v last i rs))
+    goes-on x ok s = any-same sameRemainder remainder-equivalence x (next v f r) (successors v last i rs) s (successor-found v last i m n ok)
+
+    among-more : (xs : List Remainder) (x : Remainder) → T (any (sameRemainder x) (successors v last i rs)) → Covers sameRemainder xs (successors v last i rs)
+        → Covers sameRemainder (xs ++ (x ∷ [])) (successors v last i rs)
+    among-more xs x g c z t = or-e (any (sameRemainder z) xs) (sameRemainder z x) (subst T (any-snoc (sameRemainder z) xs x) t)
+        (c z) (λ u. any-same sameRemainder remainder-equivalence z x (successors v last i rs) u g)
 
     gather-insert : (reached : List Remainder) (found : Option (List Remainder)) (x : Remainder) → T (stepOk v last f r) → T (sameRemainder x (next v f r))
         → T (leb (owes x) 8) → (Once r → Once x) → Gathering reached found → Gathering (reached ++ (next v f r ∷ [])) (inserted 32 found x)
     unfolding inserted
     gather-insert reached none x ok s w o h = h
-    gather-insert reached (some xs) x ok s w o h = by-tests (any (sameRemainder x) xs) (ltb (length xs) 32) (λ t. t) (λ t. t) (λ t. t) (λ t. t)
+    gather-insert reached (some xs) x ok s w o h = by-tests (any (sameCounted x) xs) (ltb (length xs) 32) (λ t. t) (λ t. t) (λ t. t) (λ t. t)
       where
         few : Remainder → Bool
         few q = leb (owes q) 8
 
-        more : Covers sameRemainder (reached ++ (next v f r ∷ [])) (successors v last i rs)
-        more = covers-more reached ok (h .covered)
+        same : All Once rs → any (sameCounted x) xs ≡ any (sameRemainder x) xs
+        same p = any-counted x xs (o (of-each Once p m)) (h .tidy p)
 
-        by-tests : (a b : Bool) → (T a → T (any (sameRemainder x) xs)) → (T (not a) → T (not (any (sameRemainder x) xs))) → (T b → T (ltb (length xs) 32))
+        by-tests : (a b : Bool) → (T a → T (any (sameCounted x) xs)) → (T (not a) → T (not (any (sameCounted x) xs))) → (T b → T (ltb (length xs) 32))
             → (T (not b) → T (not (ltb (length xs) 32))) → Gathering (reached ++ (next v f r ∷ [])) (cond a (some xs) (cond b (some (xs ++ (x ∷ []))) none))
         by-tests true b t n l g = record {
-          once = again sameRemainder remainder-equivalence (h .once) x (next v f r) s (t tt);
-          covered = more;
+          among = h .among;
           live = h .live;
           owe = h .owe;
           tidy = h .tidy;
+          once = λ p. again sameRemainder remainder-equivalence (h .once p) x (next v f r) s (subst T (same p) (t tt));
         }
         by-tests false true t n l g = record {
-          once = fresh sameRemainder remainder-equivalence (h .once) x (next v f r) s (n tt);
-          covered = more;
+          among = among-more xs x (goes-on x ok s) (h .among);
           live = let lt = ltb→lt (length xs) 32 (l tt) in omega (arith, length-append xs (x ∷ []));
           owe = subst T (sym (all-append few xs (x ∷ []))) (and-i (all few xs) (few x && true) (h .owe) (and-i (few x) true w tt));
           tidy = λ p. each-snoc Once xs (h .tidy p) (o (of-each Once p m));
+          once = λ p. fresh sameRemainder remainder-equivalence (h .once p) x (next v f r) s (subst (λ (b : Bool). T (not b)) (same p) (n tt));
         }
-        by-tests false false t n′ l g = λ p new. one-more xs (h .once .each-once) (λ z u. h .covered z (subst T (h .once .these z) u)) (nltb→le (length xs) 32 (g tt)) x
-            (any-same sameRemainder remainder-equivalence x (next v f r) (successors v last i rs) s (successor-found v last i m n ok)) (n′ tt)
+        by-tests false false t n l g = λ p new. one-more xs (h .once p .each-once) (h .among) (nltb→le (length xs) 32 (g tt)) x (goes-on x ok s)
+            (subst (λ (b : Bool). T (not b)) (same p) (n tt))
 
     pub gather-one : (reached : List Remainder) (found : Option (List Remainder)) {ok : Bool} {a : Advanced} → (T ok → T (stepOk v last f r)) → Steps v f r ok a
         → Gathering reached found → Gathering (reached ++ cond ok (next v f r ∷ []) []) (took 32 found a)

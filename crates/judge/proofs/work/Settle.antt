@@ -113,7 +113,7 @@ module _ (v : SheetValue) (first : Bool) (was : List ℤ) (i : Instant) where
     Work = Gathering v last i rs
 
     nothing-yet : Work [] (some [])
-    nothing-yet = record { once = record { each-once = tt; these = λ x. refl }; covered = λ x t. absurd t; live = omega arith; owe = tt; tidy = λ p. tt }
+    nothing-yet = record { among = λ x t. absurd t; live = omega arith; owe = tt; tidy = λ p. tt; once = λ p. record { each-once = tt; these = λ x. refl } }
 
     settle-one : tagsFit v (tagsBefore first was) tags ≡ true → (done : List Remainder) (found : Option (List Remainder)) (f : Filled) → List·Memᴰ f (fillings i) → Work done found
         → Work (done ++ flatMap (one v last f) rs) (filling 32 v tags rs found (padded f .ticks))

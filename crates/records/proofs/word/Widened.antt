@@ -1,14 +1,14 @@
--- Numbers of 16 bits in 64: sums and products of them fit, and what is widened reads back as itself. Assumes nothing.
+-- Numbers of 16 bits in more: sums of them fit 32, products 64, and what is widened reads back as itself. Assumes nothing.
 use mathlib.Core.Bool.{Bool, true, false, cond}
 use mathlib.Core.Path.{_≡_, ap, _∙_}
 use Prim.Native.Nat.{ℕ, zero, suc, _+_, _-_, _*_, _<_, _≤_}
 use native.Mathlib.Nat.{mul-le-mul}
 use native.Mathlib.Omega.{arith}
-use lib.Dec.{ltb}
+use lib.Dec.{T, leb, ltb}
 use lib.IntN.{ℤ, pos, negsuc, negℤ, _+ℤ_, _*ℤ_}
 use lib.Signed.{mag}
-use mir.Syntax.{w16, w64}
-use mir.Val.{toZ, ofZ, SFits}
+use mir.Syntax.{Width, w16, w32, w64}
+use mir.Val.{hbits, toZ, ofZ, SFits}
 use mir.Facts.{toZ-ofZ, sfits-widen}
 
 -- ---- sums and products
@@ -37,7 +37,7 @@ mag-mul (negsuc a) (pos b) h k = omega (arith, mag-neg (suc a * b), area (suc a)
 mag-mul (negsuc a) (negsuc b) h k = area (suc a) (suc b) (omega arith) (omega arith)
 
 -- a tag and a delay
-pub due-fits : (t : ℤ) (d : ℕ) → SFits w16 t → d < 65536 → SFits w64 (t +ℤ pos d)
+pub due-fits : (t : ℤ) (d : ℕ) → SFits w16 t → d < 65536 → SFits w32 (t +ℤ pos d)
 due-fits t d f h = record { sfits = omega (arith, mag-add t (pos d), f .sfits) }
 
 module _ {x y : ℤ} (f : SFits w16 x) (g : SFits w16 y) where
@@ -47,15 +47,16 @@ module _ {x y : ℤ} (f : SFits w16 x) (g : SFits w16 y) where
   pub relation-fits : {z : ℤ} → SFits w16 z → SFits w64 (x *ℤ y +ℤ z)
   relation-fits {z} h = record { sfits = omega (arith, mag-mul x y (f .sfits) (g .sfits), mag-add (x *ℤ y) z, h .sfits) }
 
--- ---- a number of 16 bits, held in 64
+-- ---- a number of 16 bits, held in more
 
-pub wide-fits : {x : ℤ} → SFits w16 x → SFits w64 x
-wide-fits f = sfits-widen {w = w16} {w′ = w64} tt f
-
--- as a cast to 64 returns it
+-- as a cast returns it
 pub widened : {z x : ℤ} → SFits w16 x → z ≡ toZ w16 (ofZ w16 x) → z ≡ x
 widened f e = e ∙ toZ-ofZ {w = w16} f
 
--- and as the machine reads it back
-pub held-wide : {z x : ℤ} → SFits w16 x → z ≡ toZ w16 (ofZ w16 x) → toZ w64 (ofZ w64 z) ≡ x
-held-wide f e = ap (λ (t : ℤ). toZ w64 (ofZ w64 t)) (widened f e) ∙ toZ-ofZ {w = w64} (wide-fits f)
+module _ (w : Width) (wider : T (leb (hbits w16) (hbits w))) where
+  pub wide-fits : {x : ℤ} → SFits w16 x → SFits w x
+  wide-fits f = sfits-widen {w = w16} {w′ = w} wider f
+
+  -- as the machine reads it back
+  pub held-wide : {z x : ℤ} → SFits w16 x → z ≡ toZ w16 (ofZ w16 x) → toZ w (ofZ w z) ≡ x
+  held-wide f e = ap (λ (t : ℤ). toZ w (ofZ w t)) (widened f e) ∙ toZ-ofZ {w = w} (wide-fits f)

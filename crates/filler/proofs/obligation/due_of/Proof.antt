@@ -2,19 +2,19 @@
 use mathlib.Core.Path.{_≡_}
 use native.Mathlib.Omega.{arith}
 use lib.IntN.{pos, _+ℤ_}
-use mir.Facts.{toZ-pos}
+use mir.Facts.{toZ-pos, sfits-widen}
 use mir.Val.{toZ, ofZ, SFits}
-use mir.Syntax.{w64}
+use mir.Syntax.{w32, w64}
 use borrow.Author.Needs.{needs}
 use Rattle.records.proofs.word.Widened.{due-fits, held-wide}
 use Rattle.filler.proofs.obligation.due_of.Statement.{statement}
 use Rattle.filler.proofs.obligation.due_of.Tie as tie
 
 sum : (c : tie.After-wide) → toZ w64 (ofZ w64 (c .wide .result)) +ℤ toZ w64 (c .before .args .delay) ≡ c .before .args .tag +ℤ pos (c .before .args .delay)
-sum c = rw (held-wide (c .before .fits .tag) (c .wide .ensures), toZ-pos w64 {n = c .before .args .delay} (omega arith))
+sum c = rw (held-wide w64 tt (c .before .fits .tag) (c .wide .ensures), toZ-pos w64 {n = c .before .args .delay} (omega arith))
 
 fits : (c : tie.After-wide) → SFits w64 (c .before .args .tag +ℤ pos (c .before .args .delay))
-fits c = due-fits (c .before .args .tag) (c .before .args .delay) (c .before .fits .tag) (omega arith)
+fits c = sfits-widen {w = w32} {w′ = w64} tt (due-fits (c .before .args .tag) (c .before .args .delay) (c .before .fits .tag) (omega arith))
 
 wide-requires : tie.Need-wide-requires
 wide-requires c κs = search needs

@@ -6,10 +6,10 @@ use Rattle.filler.proofs.obligation.wide.Statement.{statement}
 use Rattle.filler.proofs.obligation.wide.Tie as tie
 
 cast-result : tie.Need-cast-result
-cast-result c = rw (toZ-ofZ {w = w16} (c .fits .x)) (wide-fits (c .fits .x))
+cast-result c = rw (toZ-ofZ {w = w16} (c .fits .x)) (wide-fits w64 tt (c .fits .x))
 
 returns : tie.Need-returns
-returns c = rw (toZ-ofZ {w = w16} (c .fits .x)) (toZ-ofZ {w = w64} (wide-fits (c .fits .x)))
+returns c = rw (toZ-ofZ {w = w16} (c .fits .x)) (toZ-ofZ {w = w64} (wide-fits w64 tt (c .fits .x)))
 
 pub wide-spec : {M : Type 1} → statement M
 wide-spec = tie.close (tie.spec cast-result returns)

@@ -16,7 +16,7 @@ held z = toZ w64 (ofZ w64 z)
 sum : (c : tie.After-wide4) → held (held (c .before .before .wide2 .result) *ℤ held (c .before .wide3 .result)) +ℤ held (c .wide4 .result) ≡ c .before .before .before .before .args .p *ℤ c .before .before .before .before .args .b +ℤ c .before .before .before .before .args .q
 sum c =
     let f = c .before .before .before .before .fits in
-    rw (held-wide (f .p) (c .before .before .wide2 .ensures), held-wide (f .b) (c .before .wide3 .ensures), held-wide (f .q) (c .wide4 .ensures), toZ-ofZ {w = w64} (product-fits (f .p) (f .b)))
+    rw (held-wide w64 tt (f .p) (c .before .before .wide2 .ensures), held-wide w64 tt (f .b) (c .before .wide3 .ensures), held-wide w64 tt (f .q) (c .wide4 .ensures), toZ-ofZ {w = w64} (product-fits (f .p) (f .b)))
 
 wide-requires : tie.Need-wide-requires
 wide-requires c κs = search needs
@@ -30,7 +30,7 @@ wide-requires-3 c κs = search needs
 mul-result : tie.Need-mul-result
 mul-result c =
     let f = c .before .before .before .fits in
-    rw (held-wide (f .p) (c .before .wide2 .ensures), held-wide (f .b) (c .wide3 .ensures)) (product-fits (f .p) (f .b))
+    rw (held-wide w64 tt (f .p) (c .before .wide2 .ensures), held-wide w64 tt (f .b) (c .wide3 .ensures)) (product-fits (f .p) (f .b))
 
 wide-requires-4 : tie.Need-wide-requires-4
 wide-requires-4 c κs = search needs

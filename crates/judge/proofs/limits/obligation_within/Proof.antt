@@ -1,6 +1,6 @@
 -- `obligation_within` meets its contract: a test of each clock, then of the due. Assumes nothing.
 use mir.Facts.{toZ-ofZ}
-use mir.Syntax.{w64}
+use mir.Syntax.{w32}
 use borrow.Author.Needs.{needs}
 use borrow.Author.Tests.{lt-ltb, le-ltb}
 use Rattle.judge.specs.Limits.{obligationWithin}
@@ -13,7 +13,7 @@ due-within-requires c κs = search needs
 returns : tie.Need-returns
 unfolding obligationWithin
 returns c =
-    let d = toZ-ofZ {w = w64} {z = c .before .before .before .before .before .before .args .o .due} (record { sfits = c .before .struct-told .given .1 .1 .0 .1 }) in
+    let d = toZ-ofZ {w = w32} {z = c .before .before .before .before .before .before .args .o .due} (record { sfits = c .before .struct-told .given .1 .1 .0 .1 }) in
     rw (lt-ltb _ _ (c .before .before .before .before .if1 .taken), lt-ltb _ _ (c .before .before .if2 .taken)) (rw d at (c .due-within .ensures))
 
 returns-2 : tie.Need-returns-2

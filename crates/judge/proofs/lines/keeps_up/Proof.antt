@@ -1,4 +1,5 @@
 -- `keeps_up` meets its contract: the machine compares the tags as whole numbers. Assumes nothing.
+use mir.Syntax.{w64}
 use borrow.Author.Needs.{needs}
 use Rattle.judge.proofs.Whole.{held-tag}
 use Rattle.judge.proofs.lines.keeps_up.Statement.{statement}
@@ -20,7 +21,7 @@ returns : tie.Need-returns
 returns c =
     let t = c .before .before .before .tag-at in
     let u = c .before .tag-at2 in
-    rw (held-tag (t .ok) (c .before .before .wide .ensures) (t .ensures), held-tag (u .ok) (c .wide2 .ensures) (u .ensures))
+    rw (held-tag w64 tt (t .ok) (c .before .before .wide .ensures) (t .ensures), held-tag w64 tt (u .ok) (c .wide2 .ensures) (u .ensures))
 
 pub keeps-up-spec : {M : Type 1} → statement M
 keeps-up-spec =

@@ -4,20 +4,20 @@ use native.Mathlib.Omega.{arith}
 use lib.IntN.{pos, _+ℤ_}
 use mir.Facts.{toZ-ofZ, toZ-pos}
 use mir.Val.{toZ, ofZ, SFits}
-use mir.Syntax.{w64}
+use mir.Syntax.{w32}
 use borrow.Author.Needs.{needs}
 use Rattle.records.proofs.word.Widened.{due-fits, held-wide}
 use Rattle.judge.proofs.obligation.due_of.Statement.{statement}
 use Rattle.judge.proofs.obligation.due_of.Tie as tie
 
-sum : (c : tie.After-wide) → toZ w64 (ofZ w64 (c .wide .result)) +ℤ toZ w64 (c .before .args .delay) ≡ c .before .args .tag +ℤ pos (c .before .args .delay)
-sum c = rw (held-wide (c .before .fits .tag) (c .wide .ensures), toZ-pos w64 {n = c .before .args .delay} (omega arith))
+sum : (c : tie.After-as-due) → toZ w32 (ofZ w32 (c .as-due .result)) +ℤ toZ w32 (c .before .args .delay) ≡ c .before .args .tag +ℤ pos (c .before .args .delay)
+sum c = rw (held-wide w32 tt (c .before .fits .tag) (c .as-due .ensures), toZ-pos w32 {n = c .before .args .delay} (omega arith))
 
-fits : (c : tie.After-wide) → SFits w64 (c .before .args .tag +ℤ pos (c .before .args .delay))
+fits : (c : tie.After-as-due) → SFits w32 (c .before .args .tag +ℤ pos (c .before .args .delay))
 fits c = due-fits (c .before .args .tag) (c .before .args .delay) (c .before .fits .tag) (omega arith)
 
-wide-requires : tie.Need-wide-requires
-wide-requires c κs = search needs
+as-due-requires : tie.Need-as-due-requires
+as-due-requires c κs = search needs
 
 cast-result : tie.Need-cast-result
 cast-result c = search needs
@@ -26,7 +26,7 @@ add-result : tie.Need-add-result
 add-result c = rw (sum c) (fits c)
 
 returns : tie.Need-returns
-returns c = rw (sum c) (toZ-ofZ {w = w64} (fits c))
+returns c = rw (sum c) (toZ-ofZ {w = w32} (fits c))
 
 pub due-of-spec : {M : Type 1} → statement M
-due-of-spec = tie.close (tie.spec wide-requires cast-result add-result returns)
+due-of-spec = tie.close (tie.spec as-due-requires cast-result add-result returns)

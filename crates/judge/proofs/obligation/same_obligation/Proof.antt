@@ -1,7 +1,7 @@
 -- `same_obligation` meets its contract: field by field. Assumes nothing.
 use mathlib.Core.Path.{_≡_, sym, _∙_}
 use mir.Facts.{toZ-ofZ}
-use mir.Syntax.{w64}
+use mir.Syntax.{w32}
 use borrow.Author.Tests.{eq-eqb, ne-eqb}
 use borrow.Author.Needs.{needs}
 use Rattle.tesl.specs.Fits.{eqZ}
@@ -10,8 +10,8 @@ use Rattle.judge.proofs.obligation.same_obligation.Tie as tie
 
 dues : (c : tie.After-same-due) → c .same-due .result ≡ eqZ (c .before .before .before .before .before .before .args .a .due) (c .before .before .before .before .before .before .args .b .due)
 dues c =
-    let da = toZ-ofZ {w = w64} {z = c .before .before .before .before .before .before .args .a .due} (record { sfits = c .before .before .struct-told .given .1 .1 .0 .1 }) in
-    let db = toZ-ofZ {w = w64} {z = c .before .before .before .before .before .before .args .b .due} (record { sfits = c .before .struct-told2 .given .1 .1 .0 .1 }) in
+    let da = toZ-ofZ {w = w32} {z = c .before .before .before .before .before .before .args .a .due} (record { sfits = c .before .before .struct-told .given .1 .1 .0 .1 }) in
+    let db = toZ-ofZ {w = w32} {z = c .before .before .before .before .before .before .args .b .due} (record { sfits = c .before .struct-told2 .given .1 .1 .0 .1 }) in
     rw (da, db) at (c .same-due .ensures)
 
 same-due-requires : tie.Need-same-due-requires

@@ -1,7 +1,7 @@
 -- `owed_at_start` meets its contract: a sporadic line by its arm, the rest by one law. Assumes nothing.
 use mathlib.Core.Path.{_≡_}
 use mir.Facts.{toZ-ofZ}
-use mir.Syntax.{w16, w64}
+use mir.Syntax.{w16, w32}
 use mir.Val.{toZ, ofZ}
 use borrow.Author.Needs.{needs}
 use Rattle.judge.proofs.start.Laws.{rest-start}
@@ -11,17 +11,17 @@ use Rattle.judge.proofs.start.owed_at_start.Tie as tie
 enum-known-l : tie.Need-enum-known-l
 enum-known-l c = search needs
 
-wide-requires : tie.Need-wide-requires
-wide-requires c κs = search needs
+as-due-requires : tie.Need-as-due-requires
+as-due-requires c κs = search needs
 
 returns : tie.Need-returns
 returns c =
     let l = c .before .before .l .given in
     let t : toZ w16 (ofZ w16 (l .0 .1 .1 .0)) ≡ l .0 .1 .1 .0 = search needs in
-    rw (l .1, toZ-ofZ {w = w64} (record { sfits = c .wide .ok }), c .wide .ensures, t)
+    rw (l .1, toZ-ofZ {w = w32} (record { sfits = c .as-due .ok }), c .as-due .ensures, t)
 
 returns-2 : tie.Need-returns-2
 returns-2 c = rest-start (c .before .args .l) (c .match .keys2)
 
 pub owed-at-start-spec : {M : Type 1} → statement M
-owed-at-start-spec = tie.close (tie.spec enum-known-l wide-requires returns returns-2)
+owed-at-start-spec = tie.close (tie.spec enum-known-l as-due-requires returns returns-2)

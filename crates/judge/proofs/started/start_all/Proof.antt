@@ -1,6 +1,5 @@
--- `start_all` meets its contract. The invariant: what is begun so far, then what the lines from i on begin, is what all lines begin. Assumes nothing.
-use mathlib.Core.List.{_++_}
-use mathlib.Core.Path.{_≡_, refl}
+-- `start_all` meets its contract. The invariant: what is begun so far, with what the lines from i on begin, is what all lines begin, each once. Assumes nothing.
+use mathlib.Core.Path.{_≡_, refl, ap}
 use Prim.Native.Nat.{_≤_, _-_}
 use native.Mathlib.Omega.{arith}
 use lib.ListN.{length, length-set}
@@ -9,14 +8,15 @@ use Rattle.records.specs.Sheet.{sheetValue}
 use Rattle.tesl.specs.Lists.{flatMap}
 use Rattle.tesl.specs.Fits.{owedFrom}
 use Rattle.judge.specs.View.{filledOf, firstOf}
-use Rattle.judge.proofs.started.Laws.{begunFrom, begun-start, begun-end, begun-none, begun-more}
+use Rattle.judge.specs.Once.{joinedAll, onceEach}
+use Rattle.judge.proofs.started.Laws.{begunFrom, begun-start, begun-end, begun-none, begun-again, begun-more}
 use Rattle.judge.proofs.started.start_all.Statement.{statement}
 use Rattle.judge.proofs.started.start_all.Tie as tie
 
 abbrev Inv-loop : tie.InvT-loop
 Inv-loop s ticks tags n obligations₀ count₀ i₀ obligations count i =
     let begins = owedFrom (filledOf ticks tags) in
-    (i ≤ n) × ((count ≤ i) × ((length obligations ≡ 16) × (flatMap begins (sheetValue s .lines) ≡ firstOf count obligations ++ begunFrom begins s n i)))
+    (i ≤ n) × ((count ≤ i) × ((length obligations ≡ 16) × (onceEach (flatMap begins (sheetValue s .lines)) ≡ joinedAll (firstOf count obligations) (begunFrom begins s n i))))
 
 abbrev μ-loop : tie.MeasureT-loop
 μ-loop s ticks tags n obligations₀ count₀ i₀ obligations count i = n - i
@@ -24,7 +24,7 @@ abbrev μ-loop : tie.MeasureT-loop
 loop-holds : tie.Need-loop-holds Inv-loop μ-loop
 loop-holds c =
     let a = c .args in
-    (omega arith, (omega arith, (refl, begun-start (owedFrom (filledOf (a .ticks) (a .tags))) (a .s))))
+    (omega arith, (omega arith, (refl, ap onceEach (begun-start (owedFrom (filledOf (a .ticks) (a .tags))) (a .s)))))
 
 line-at-requires : tie.Need-line-at-requires Inv-loop μ-loop
 line-at-requires c κs = search needs
@@ -54,6 +54,24 @@ loop-again c =
 enum-known-o : tie.Need-enum-known-o Inv-loop μ-loop
 enum-known-o c = search needs
 
+has-begun-requires : tie.Need-has-begun-requires Inv-loop μ-loop
+has-begun-requires c κs = search needs
+
+loop-less-2 : tie.Need-loop-less-2 Inv-loop μ-loop
+loop-less-2 c = search needs
+
+loop-again-2 : tie.Need-loop-again-2 Inv-loop μ-loop
+loop-again-2 c =
+    let at = c .before .before .before .before .before .before .before .before in
+    let a = at .before .args in
+    let l = c .before .before .before .before .before .before .line-at in
+    let b = c .before .before .before .before .before .begins in
+    let o = c .before .before .before .o .given in
+    let t = c .before .has-begun in
+    let begins = owedFrom (filledOf (a .ticks) (a .tags)) in
+    let again = begun-again begins (a .s) (a .s .count) (at .loop .i) (at .loop .count) (at .loop .obligations) (at .loop .inv .1 .1 .1) (omega arith) (l .result) (l .ensures) (b .result) (b .ensures) in
+    (omega arith, (omega arith, (at .loop .inv .1 .1 .0, again (o .0 .0) (o .1) (t .result) (t .ensures) (c .if1 .taken))))
+
 mul-obligations : tie.Need-mul-obligations Inv-loop μ-loop
 mul-obligations c = search needs
 
@@ -63,18 +81,20 @@ array-set-from-obligations c = search needs
 add-count : tie.Need-add-count Inv-loop μ-loop
 add-count c = search needs
 
-loop-less-2 : tie.Need-loop-less-2 Inv-loop μ-loop
-loop-less-2 c = search needs
+loop-less-3 : tie.Need-loop-less-3 Inv-loop μ-loop
+loop-less-3 c = search needs
 
-loop-again-2 : tie.Need-loop-again-2 Inv-loop μ-loop
-loop-again-2 c =
-    let at = c .before .before .before .before .before .before in
+loop-again-3 : tie.Need-loop-again-3 Inv-loop μ-loop
+loop-again-3 c =
+    let at = c .before .before .before .before .before .before .before .before in
     let a = at .before .args in
-    let l = c .before .before .before .before .line-at in
-    let b = c .before .before .before .begins in
+    let l = c .before .before .before .before .before .before .line-at in
+    let b = c .before .before .before .before .before .begins in
+    let o = c .before .before .before .o .given in
+    let t = c .before .has-begun in
     let begins = owedFrom (filledOf (a .ticks) (a .tags)) in
     let more = begun-more begins (a .s) (a .s .count) (at .loop .i) (at .loop .count) (at .loop .obligations) (at .loop .inv .1 .1 .1) (omega arith) (l .result) (l .ensures) (b .result) (b .ensures) in
-    (omega arith, (omega arith, (simp length-set (at .loop .inv .1 .1 .0), more (c .before .o .given .0 .0) (c .before .o .given .1) (omega arith))))
+    (omega arith, (omega arith, (simp length-set (at .loop .inv .1 .1 .0), more (o .0 .0) (o .1) (t .result) (t .ensures) (c .if1 .left) (omega arith))))
 
 returns : tie.Need-returns Inv-loop μ-loop
 returns c =
@@ -96,9 +116,12 @@ start-all-spec =
     loop-less
     loop-again
     enum-known-o
+    has-begun-requires
+    loop-less-2
+    loop-again-2
     mul-obligations
     array-set-from-obligations
     add-count
-    loop-less-2
-    loop-again-2
+    loop-less-3
+    loop-again-3
     returns)

@@ -2,14 +2,14 @@
 use mir.Syntax.{w16, w64}
 use mir.Facts.{toZ-ofZ}
 use Rattle.records.proofs.word.Widened.{wide-fits}
-use Rattle.judge.proofs.obligation.wide.Statement.{statement}
-use Rattle.judge.proofs.obligation.wide.Tie as tie
+use Rattle.judge.proofs.clock.wide.Statement.{statement}
+use Rattle.judge.proofs.clock.wide.Tie as tie
 
 cast-result : tie.Need-cast-result
-cast-result c = rw (toZ-ofZ {w = w16} (c .fits .x)) (wide-fits (c .fits .x))
+cast-result c = rw (toZ-ofZ {w = w16} (c .fits .x)) (wide-fits w64 tt (c .fits .x))
 
 returns : tie.Need-returns
-returns c = rw (toZ-ofZ {w = w16} (c .fits .x)) (toZ-ofZ {w = w64} (wide-fits (c .fits .x)))
+returns c = rw (toZ-ofZ {w = w16} (c .fits .x)) (toZ-ofZ {w = w64} (wide-fits w64 tt (c .fits .x)))
 
 pub wide-spec : {M : Type 1} → statement M
 wide-spec = tie.close (tie.spec cast-result returns)
