@@ -1,0 +1,64 @@
+//! Sheets and logs as bytes, by document 01's records.
+
+pub fn record(kind: u16, body: &[u8]) -> Vec<u8> {
+    let mut bytes = Vec::with_capacity(4 + body.len());
+    bytes.extend((body.len() as u16).to_le_bytes());
+    bytes.extend(kind.to_le_bytes());
+    bytes.extend(body);
+    bytes
+}
+
+pub fn clocks(count: u8) -> Vec<u8> {
+    record(1, &[count])
+}
+
+/// A sporadic t on B.
+pub fn sporadic(a: u8, t: i16, b: u8) -> Vec<u8> {
+    let t = t.to_le_bytes();
+    record(16, &[a, b, t[0], t[1]])
+}
+
+/// A = p × B + q.
+pub fn relation(a: u8, p: i16, b: u8, q: i16) -> Vec<u8> {
+    let (p, q) = (p.to_le_bytes(), q.to_le_bytes());
+    record(17, &[a, b, p[0], p[1], q[0], q[1]])
+}
+
+pub fn implies(a: u8, b: u8) -> Vec<u8> {
+    record(18, &[a, b])
+}
+
+pub fn excludes(a: u8, b: u8) -> Vec<u8> {
+    record(19, &[a, b])
+}
+
+/// A delayed by d on B implies D.
+pub fn delayed(a: u8, by: u16, b: u8, d: u8) -> Vec<u8> {
+    let by = by.to_le_bytes();
+    record(20, &[a, b, d, by[0], by[1]])
+}
+
+pub fn weakly(a: u8, b: u8) -> Vec<u8> {
+    record(21, &[a, b])
+}
+
+pub fn strictly(a: u8, b: u8) -> Vec<u8> {
+    record(22, &[a, b])
+}
+
+pub fn kills(a: u8, b: u8) -> Vec<u8> {
+    record(23, &[a, b])
+}
+
+pub const IDLE: u8 = 0;
+pub const TICK: u8 = 1;
+pub const UNSEEN: u8 = 2;
+
+pub fn instant(cells: &[(u8, i16)]) -> Vec<u8> {
+    let mut body = Vec::with_capacity(3 * cells.len());
+    for (tick, tag) in cells {
+        body.push(*tick);
+        body.extend(tag.to_le_bytes());
+    }
+    record(32, &body)
+}

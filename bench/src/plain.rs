@@ -1,0 +1,638 @@
+//! The yardstick: document 01's monitor written as in careful C. It works in
+//! place and without heap; what the tags alone decide is done once per
+//! instant, what the ticks alone decide once per filling; it stops as soon as
+//! the answer is known. It shares nothing with the library.
+
+const MAX_CLOCKS: usize = 8;
+const MAX_LINES: usize = 16;
+const MAX_SPORADIC: usize = 8;
+const MAX_INSTANTS: u32 = 4000;
+const MAX_LIVE: usize = 32;
+const MAX_OWED: usize = 8;
+
+const HEAD: usize = 4;
+const ENTRY: usize = 3;
+
+const EXHAUSTED: u8 = 1;
+const BROKEN: u8 = 2;
+const HOLDING: u8 = 3;
+
+const SHORT_BUFFER: u8 = 10;
+
+/// A list of at most N, without heap.
+#[derive(Clone, Copy)]
+struct List<T, const N: usize> {
+    count: usize,
+    items: [T; N],
+}
+
+impl<T: Copy + Default, const N: usize> Default for List<T, N> {
+    fn default() -> Self {
+        List {
+            count: 0,
+            items: [T::default(); N],
+        }
+    }
+}
+
+impl<T: Copy + Default, const N: usize> List<T, N> {
+    fn push(&mut self, item: T) {
+        self.items[self.count] = item;
+        self.count += 1;
+    }
+
+    fn all(&self) -> &[T] {
+        &self.items[..self.count]
+    }
+}
+
+// ---- records
+
+fn word(bytes: &[u8]) -> u16 {
+    u16::from_le_bytes([bytes[0], bytes[1]])
+}
+
+fn tag(bytes: &[u8]) -> i16 {
+    word(bytes) as i16
+}
+
+/// Kind and body of the record at the front, unless it is torn.
+fn record(bytes: &[u8]) -> Option<(u16, &[u8])> {
+    if bytes.len() < HEAD {
+        return None;
+    }
+    let end = HEAD + word(bytes) as usize;
+    if bytes.len() < end {
+        return None;
+    }
+    Some((word(&bytes[2..]), &bytes[HEAD..end]))
+}
+
+#[derive(Clone, Copy, Default, PartialEq, Eq)]
+struct Obligation {
+    due: i32,
+    clock: u8,
+    on: u8,
+}
+
+#[derive(Clone, Copy, Default)]
+struct Relation {
+    a: usize,
+    b: usize,
+    p: i32,
+    q: i32,
+}
+
+/// Two clocks as masks.
+#[derive(Clone, Copy, Default)]
+struct Pair {
+    a: u8,
+    b: u8,
+}
+
+/// Each tick of `from` begins an obligation.
+#[derive(Clone, Copy, Default)]
+struct Delay {
+    from: u8,
+    on: u8,
+    clock: u8,
+    by: i32,
+}
+
+#[derive(Clone, Copy, Default)]
+struct Precedes {
+    a: u8,
+    b: u8,
+    strict: bool,
+}
+
+/// The lines of a sheet, listed by what is asked of them.
+struct Sheet {
+    clocks: usize,
+    sporadic: List<Obligation, MAX_SPORADIC>,
+    relations: List<Relation, MAX_LINES>,
+    implies: List<Pair, MAX_LINES>,
+    excludes: List<Pair, MAX_LINES>,
+    kills: List<Pair, MAX_LINES>,
+    delays: List<Delay, MAX_LINES>,
+    precedes: List<Precedes, MAX_LINES>,
+}
+
+fn read_sheet(bytes: &[u8]) -> Result<Sheet, u8> {
+    let (kind, body) = record(bytes).ok_or(1)?;
+    if kind != 1 {
+        return Err(2);
+    }
+    if body.len() != 1 {
+        return Err(3);
+    }
+    let clocks = body[0] as usize;
+    if !(1..=MAX_CLOCKS).contains(&clocks) {
+        return Err(4);
+    }
+    let mut sheet = Sheet {
+        clocks,
+        sporadic: List::default(),
+        relations: List::default(),
+        implies: List::default(),
+        excludes: List::default(),
+        kills: List::default(),
+        delays: List::default(),
+        precedes: List::default(),
+    };
+    let mut at = HEAD + 1;
+    let mut lines = 0;
+    while at < bytes.len() {
+        let (kind, body) = record(&bytes[at..]).ok_or(1)?;
+        if lines == MAX_LINES {
+            return Err(8);
+        }
+        read_line(&mut sheet, kind, body)?;
+        lines += 1;
+        at += HEAD + body.len();
+    }
+    Ok(sheet)
+}
+
+fn read_line(sheet: &mut Sheet, kind: u16, body: &[u8]) -> Result<(), u8> {
+    let (length, clocks) = match kind {
+        16 => (4, 2),
+        17 => (6, 2),
+        18 | 19 | 21 | 22 | 23 => (2, 2),
+        20 => (5, 3),
+        _ => return Err(5),
+    };
+    if body.len() != length {
+        return Err(6);
+    }
+    if body[..clocks].iter().any(|&k| k as usize >= sheet.clocks) {
+        return Err(7);
+    }
+    let (a, b) = (body[0], body[1]);
+    let pair = Pair {
+        a: 1 << a,
+        b: 1 << b,
+    };
+    match kind {
+        16 => {
+            if sheet.sporadic.count == MAX_SPORADIC {
+                return Err(9);
+            }
+            sheet.sporadic.push(Obligation {
+                clock: a,
+                due: tag(&body[2..]) as i32,
+                on: b,
+            });
+        }
+        17 => sheet.relations.push(Relation {
+            a: a as usize,
+            b: b as usize,
+            p: tag(&body[2..]) as i32,
+            q: tag(&body[4..]) as i32,
+        }),
+        18 => sheet.implies.push(pair),
+        19 => sheet.excludes.push(pair),
+        20 => sheet.delays.push(Delay {
+            from: 1 << a,
+            on: b,
+            clock: body[2],
+            by: word(&body[3..]) as i32,
+        }),
+        21 => sheet.precedes.push(Precedes {
+            a,
+            b,
+            strict: false,
+        }),
+        22 => sheet.precedes.push(Precedes { a, b, strict: true }),
+        _ => sheet.kills.push(pair),
+    }
+    Ok(())
+}
+
+/// Ticks as masks.
+struct Instant {
+    ticks: u8,
+    unseen: u8,
+    tags: [i16; MAX_CLOCKS],
+}
+
+/// 13 to 15, or the instant.
+fn read_instant(kind: u16, body: &[u8], clocks: usize) -> Result<Instant, u8> {
+    if kind != 32 {
+        return Err(13);
+    }
+    if body.len() != 3 * clocks {
+        return Err(14);
+    }
+    let mut instant = Instant {
+        ticks: 0,
+        unseen: 0,
+        tags: [0; MAX_CLOCKS],
+    };
+    for (k, cell) in body.chunks_exact(3).enumerate() {
+        match cell[0] {
+            0 => {}
+            1 => instant.ticks |= 1 << k,
+            2 => instant.unseen |= 1 << k,
+            _ => return Err(15),
+        }
+        instant.tags[k] = tag(&cell[1..]);
+    }
+    Ok(instant)
+}
+
+// ---- the monitor
+
+/// Obligations without repeats; a lead for each precedes line, in the
+/// sheet's order; the clocks that are stopped.
+#[derive(Clone, Copy, Default)]
+struct Remainder {
+    owed: List<Obligation, MAX_OWED>,
+    leads: [u16; MAX_LINES],
+    stopped: u8,
+}
+
+/// The remainders held; the place after the last is where the next one is
+/// built before it is compared with them.
+struct Set {
+    live: usize,
+    clear: bool,
+    items: [Remainder; MAX_LIVE + 1],
+}
+
+impl Set {
+    fn empty() -> Set {
+        Set {
+            live: 0,
+            clear: false,
+            items: [Remainder::default(); MAX_LIVE + 1],
+        }
+    }
+}
+
+/// What depends on a filling alone.
+struct Filling {
+    ticks: u8,
+    stops: u8,
+    begun: List<Obligation, MAX_LINES>,
+    needs: [u16; MAX_LINES],
+    gains: [u16; MAX_LINES],
+}
+
+struct Exhausted;
+
+struct Monitor {
+    sheet: Sheet,
+    instants: u32,
+    tags: [i16; MAX_CLOCKS],
+    exhausted: bool,
+    /// Two sets that change places: those held and those found.
+    held: usize,
+    sets: [Set; 2],
+}
+
+impl Monitor {
+    fn open(sheet: Sheet) -> Monitor {
+        let mut m = Monitor {
+            sheet,
+            instants: 0,
+            tags: [0; MAX_CLOCKS],
+            exhausted: false,
+            held: 0,
+            sets: [Set::empty(), Set::empty()],
+        };
+        let first = &mut m.sets[0];
+        let owed = &mut first.items[0].owed;
+        for o in m.sheet.sporadic.all() {
+            if !owed.all().contains(o) {
+                owed.push(*o);
+            }
+        }
+        first.live = 1;
+        first.clear = owed.count == 0;
+        m
+    }
+
+    fn held(&self) -> &Set {
+        &self.sets[self.held]
+    }
+
+    /// Answer, live, clear.
+    fn answer(&self) -> [u8; ENTRY] {
+        let held = self.held();
+        if self.exhausted {
+            [EXHAUSTED, 0, 0]
+        } else if held.live == 0 {
+            [BROKEN, 0, 0]
+        } else {
+            [HOLDING, held.live as u8, held.clear as u8]
+        }
+    }
+
+    fn observe(&mut self, instant: &Instant) {
+        let first = self.instants == 0;
+        self.instants += 1;
+        if self.exhausted || self.held().live == 0 {
+            return;
+        }
+        if !tags_fit(&self.sheet, first, &self.tags, &instant.tags) {
+            self.sets[self.held].live = 0;
+            return;
+        }
+        self.tags = instant.tags;
+        let (left, right) = self.sets.split_at_mut(1);
+        let (held, found) = if self.held == 0 {
+            (&left[0], &mut right[0])
+        } else {
+            (&right[0], &mut left[0])
+        };
+        match advance(&self.sheet, instant, held, found) {
+            Ok(()) => self.held = 1 - self.held,
+            Err(Exhausted) => self.exhausted = true,
+        }
+    }
+}
+
+/// No tag falls, and each relation holds.
+fn tags_fit(sheet: &Sheet, first: bool, was: &[i16; MAX_CLOCKS], tags: &[i16; MAX_CLOCKS]) -> bool {
+    if !first && (0..sheet.clocks).any(|k| tags[k] < was[k]) {
+        return false;
+    }
+    sheet
+        .relations
+        .all()
+        .iter()
+        .all(|r| tags[r.a] as i32 == r.p * tags[r.b] as i32 + r.q)
+}
+
+/// What those held become by an instant, filling by filling.
+fn advance(sheet: &Sheet, instant: &Instant, held: &Set, found: &mut Set) -> Result<(), Exhausted> {
+    found.live = 0;
+    found.clear = false;
+    let mut filling = Filling {
+        ticks: 0,
+        stops: 0,
+        begun: List::default(),
+        needs: [0; MAX_LINES],
+        gains: [0; MAX_LINES],
+    };
+    let leads = sheet.precedes.count;
+    let unseen = instant.unseen;
+    let mut part = 0u8;
+    loop {
+        let ticks = instant.ticks | part;
+        if ticks_fit(sheet, ticks) {
+            fill(sheet, ticks, &instant.tags, &mut filling);
+            for r in &held.items[..held.live] {
+                let next = &mut found.items[found.live];
+                if step(r, &filling, leads, &instant.tags, next)? {
+                    insert(found, leads)?;
+                }
+            }
+        }
+        // The next part of the unseen ticks; after the last the first.
+        part = part.wrapping_sub(unseen) & unseen;
+        if part == 0 {
+            return Ok(());
+        }
+    }
+}
+
+/// Implies, excludes, and kills within the instant.
+fn ticks_fit(sheet: &Sheet, ticks: u8) -> bool {
+    let both = |l: &Pair| ticks & l.a != 0 && ticks & l.b != 0;
+    sheet
+        .implies
+        .all()
+        .iter()
+        .all(|l| ticks & l.a == 0 || ticks & l.b != 0)
+        && !sheet.excludes.all().iter().any(both)
+        && !sheet.kills.all().iter().any(both)
+}
+
+/// The clocks that a filling stops, the obligations it begins (each once),
+/// and for each precedes line the lead it needs and what it adds to it.
+fn fill(sheet: &Sheet, ticks: u8, tags: &[i16; MAX_CLOCKS], f: &mut Filling) {
+    f.ticks = ticks;
+    f.stops = 0;
+    for l in sheet.kills.all() {
+        if ticks & l.a != 0 {
+            f.stops |= l.b;
+        }
+    }
+    f.begun.count = 0;
+    for l in sheet.delays.all() {
+        if ticks & l.from != 0 {
+            let o = Obligation {
+                clock: l.clock,
+                due: tags[l.on as usize] as i32 + l.by,
+                on: l.on,
+            };
+            if !f.begun.all().contains(&o) {
+                f.begun.push(o);
+            }
+        }
+    }
+    for (i, l) in sheet.precedes.all().iter().enumerate() {
+        let a = (ticks >> l.a & 1) as u16;
+        let b = (ticks >> l.b & 1) as u16;
+        f.needs[i] = if l.strict { b } else { b & !a };
+        f.gains[i] = a.wrapping_sub(b);
+    }
+}
+
+/// One remainder, one filled instant on, into `next`; false: it does not fit.
+fn step(
+    r: &Remainder,
+    f: &Filling,
+    leads: usize,
+    tags: &[i16; MAX_CLOCKS],
+    next: &mut Remainder,
+) -> Result<bool, Exhausted> {
+    if r.stopped & f.ticks != 0 {
+        return Ok(false);
+    }
+    for i in 0..leads {
+        if r.leads[i] < f.needs[i] {
+            return Ok(false);
+        }
+        next.leads[i] = r.leads[i].wrapping_add(f.gains[i]);
+    }
+    next.stopped = r.stopped | f.stops;
+    next.owed.count = 0;
+    for o in r.owed.all() {
+        let now = tags[o.on as usize] as i32;
+        if now == o.due && f.ticks >> o.clock & 1 != 0 {
+            continue;
+        }
+        if now > o.due {
+            return Ok(false);
+        }
+        next.owed.push(*o);
+    }
+    for o in f.begun.all() {
+        if !next.owed.all().contains(o) {
+            if next.owed.count == MAX_OWED {
+                return Err(Exhausted);
+            }
+            next.owed.push(*o);
+        }
+    }
+    Ok(true)
+}
+
+/// Keeps the remainder built in the place after the last, unless it is held.
+fn insert(found: &mut Set, leads: usize) -> Result<(), Exhausted> {
+    let n = found.live;
+    let (held, rest) = found.items.split_at(n);
+    let x = &rest[0];
+    if held.iter().any(|r| same(x, r, leads)) {
+        return Ok(());
+    }
+    if n == MAX_LIVE {
+        return Err(Exhausted);
+    }
+    found.clear |= x.owed.count == 0;
+    found.live = n + 1;
+    Ok(())
+}
+
+/// Neither lists an obligation twice, so equal counts and one inclusion do.
+fn same(x: &Remainder, r: &Remainder, leads: usize) -> bool {
+    x.owed.count == r.owed.count
+        && x.stopped == r.stopped
+        && x.leads[..leads] == r.leads[..leads]
+        && x.owed.all().iter().all(|o| r.owed.all().contains(o))
+}
+
+// ---- the calls
+
+fn pack(number: u8, answer: [u8; ENTRY], count: u32) -> u64 {
+    number as u64
+        | (answer[0] as u64) << 8
+        | (answer[1] as u64) << 16
+        | (answer[2] as u64) << 24
+        | (count as u64) << 32
+}
+
+/// Takes a whole log, up to the refusal whose number it gives (0: none).
+/// `each` is handed every answer.
+fn follow(m: &mut Monitor, log: &[u8], mut each: impl FnMut([u8; ENTRY])) -> u8 {
+    let mut at = 0;
+    while at < log.len() {
+        let Some((kind, body)) = record(&log[at..]) else {
+            return 12;
+        };
+        match read_instant(kind, body, m.sheet.clocks) {
+            Err(number) => return number,
+            Ok(_) if m.instants == MAX_INSTANTS => return 16,
+            Ok(instant) => m.observe(&instant),
+        }
+        each(m.answer());
+        at += HEAD + body.len();
+    }
+    0
+}
+
+/// How many instants of a log are taken.
+fn count(clocks: usize, log: &[u8]) -> u32 {
+    let mut at = 0;
+    let mut n = 0;
+    while at < log.len() && n < MAX_INSTANTS {
+        match record(&log[at..]) {
+            Some((kind, body)) if read_instant(kind, body, clocks).is_ok() => {
+                at += HEAD + body.len()
+            }
+            _ => break,
+        }
+        n += 1;
+    }
+    n
+}
+
+fn result(number: u8, m: &Monitor) -> u64 {
+    let answer = if number == 0 { m.answer() } else { [0; ENTRY] };
+    pack(number, answer, m.instants)
+}
+
+pub fn judge(sheet: &[u8], log: &[u8]) -> u64 {
+    match read_sheet(sheet) {
+        Err(number) => pack(number, [0; ENTRY], 0),
+        Ok(sheet) => {
+            let mut m = Monitor::open(sheet);
+            let number = follow(&mut m, log, |_| ());
+            result(number, &m)
+        }
+    }
+}
+
+pub fn watch(sheet: &[u8], log: &[u8], out: &mut [u8]) -> u64 {
+    match read_sheet(sheet) {
+        Err(number) => pack(number, [0; ENTRY], 0),
+        Ok(sheet) => {
+            let n = count(sheet.clocks, log);
+            if out.len() < ENTRY * n as usize {
+                return pack(SHORT_BUFFER, [0; ENTRY], n);
+            }
+            let mut entries = out.chunks_exact_mut(ENTRY);
+            let mut m = Monitor::open(sheet);
+            let number = follow(&mut m, log, |answer| {
+                entries.next().unwrap().copy_from_slice(&answer);
+            });
+            result(number, &m)
+        }
+    }
+}
+
+pub fn panel(sheet: &[u8], log: &[u8], clock: u8) -> u64 {
+    match read_sheet(sheet) {
+        Err(number) => pack(number, [0; ENTRY], 0),
+        Ok(sheet) => {
+            let mut m = Monitor::open(sheet);
+            let number = follow(&mut m, log, |_| ());
+            let held = m.held();
+            let mut owing = 0;
+            if number == 0 && !m.exhausted {
+                for r in &held.items[..held.live] {
+                    if r.owed.all().iter().any(|o| o.clock == clock) {
+                        owing += 1;
+                    }
+                }
+            }
+            pack(number, [0, owing, 0], m.instants)
+        }
+    }
+}
+
+/// After a whole log that holds, the most obligations of a remainder.
+pub fn most_owed(sheet: &[u8], log: &[u8]) -> usize {
+    match read_sheet(sheet) {
+        Err(_) => 0,
+        Ok(sheet) => {
+            let mut m = Monitor::open(sheet);
+            follow(&mut m, log, |_| ());
+            let held = m.held();
+            held.items[..held.live]
+                .iter()
+                .map(|r| r.owed.count)
+                .max()
+                .unwrap_or(0)
+        }
+    }
+}
+
+pub fn sheet_number(sheet: &[u8]) -> u8 {
+    read_sheet(sheet).err().unwrap_or(0)
+}
+
+pub fn instant_number(bytes: &[u8], clocks: u8) -> u8 {
+    if !(1..=MAX_CLOCKS).contains(&(clocks as usize)) {
+        return 4;
+    }
+    match record(bytes) {
+        Some((kind, body)) if bytes.len() == HEAD + body.len() => {
+            read_instant(kind, body, clocks as usize).err().unwrap_or(0)
+        }
+        _ => 12,
+    }
+}

@@ -1,0 +1,580 @@
+//! The differential test: random sheets and logs, valid and damaged, through
+//! every call of the library and of the plain monitor.
+use crate::bytes::*;
+use crate::xorshift::Xorshift;
+use crate::{library, plain};
+
+/// Tags at both ends, and factors whose product is a small number once it is
+/// cut to 16 bits.
+const EXTREME: [i16; 10] = [-32768, -32767, -257, -256, -1, 0, 1, 256, 257, 32767];
+
+type Line = Vec<u8>;
+
+/// A sheet and a log, records apart.
+struct Input {
+    clocks: u8,
+    lines: Vec<Line>,
+    instants: Vec<Vec<u8>>,
+}
+
+fn small(r: &mut Xorshift, low: i16, high: i16) -> i16 {
+    low + r.below((high - low + 1) as u64) as i16
+}
+
+fn tag(r: &mut Xorshift) -> i16 {
+    if r.once_in(20) {
+        r.pick(&EXTREME)
+    } else {
+        small(r, -2, 5)
+    }
+}
+
+fn line(r: &mut Xorshift, clocks: u8) -> Line {
+    let mut clock = || r.below(clocks as u64) as u8;
+    let (a, b, d) = (clock(), clock(), clock());
+    match r.below(17) {
+        0..=3 => sporadic(a, tag(r), b),
+        4 => {
+            if r.once_in(3) {
+                let (p, q) = (r.pick(&EXTREME), tag(r));
+                relation(a, p, b, q)
+            } else {
+                let (p, q) = (small(r, -1, 2), small(r, -1, 1));
+                relation(a, p, b, q)
+            }
+        }
+        5 => implies(a, b),
+        6 => excludes(a, b),
+        7..=11 => {
+            let by = if r.once_in(20) {
+                r.pick(&[32767, 32768, 65535])
+            } else {
+                r.below(4) as u16
+            };
+            delayed(a, by, b, d)
+        }
+        12 | 13 => weakly(a, b),
+        14 => strictly(a, b),
+        _ => kills(a, b),
+    }
+}
+
+fn lines(r: &mut Xorshift, clocks: u8) -> Vec<Line> {
+    let count = match r.below(20) {
+        0 => 0,
+        1 => 16,
+        2 => 17,
+        3 => 7 + r.below(9),
+        _ => 1 + r.below(5),
+    };
+    let sporadic_only = r.once_in(40);
+    let mut lines: Vec<Line> = Vec::new();
+    for _ in 0..count {
+        let l = if sporadic_only {
+            let (a, b) = (r.below(clocks as u64) as u8, r.below(clocks as u64) as u8);
+            sporadic(a, small(r, 0, 20), b)
+        } else if !lines.is_empty() && r.once_in(6) {
+            // One that was there, or one that differs from it in its on-clock alone.
+            let mut again = lines[r.below(lines.len() as u64) as usize].clone();
+            if r.once_in(2) {
+                again[5] = r.below(clocks as u64) as u8;
+            }
+            again
+        } else {
+            line(r, clocks)
+        };
+        lines.push(l);
+    }
+    lines
+}
+
+/// Lines that keep much in mind: obligations that stay owed for a while,
+/// leads and stopped clocks. Such runs come near 8 obligations and 32 live.
+fn heavy_lines(r: &mut Xorshift, clocks: u8) -> Vec<Line> {
+    let mut lines: Vec<Line> = Vec::new();
+    let owed = r.below(9);
+    for i in 0..owed {
+        lines.push(sporadic(
+            r.below(clocks as u64) as u8,
+            20 + (i / 2) as i16,
+            0,
+        ));
+    }
+    for _ in 0..1 + r.below(16 - owed) {
+        let mut clock = || r.below(clocks as u64) as u8;
+        let (a, b, d) = (clock(), clock(), clock());
+        lines.push(match r.below(10) {
+            0 => weakly(a, b),
+            1 => kills(a, b),
+            2 => excludes(a, b),
+            _ => delayed(a, 3 + r.below(5) as u16, b, d),
+        });
+    }
+    lines
+}
+
+/// Tags that stay or rise, seldom fall; obeyed, relations decide theirs.
+fn next_tags(r: &mut Xorshift, tags: &mut [i16], lines: &[Line], obey: bool) {
+    let together = r.once_in(2);
+    let step = small(r, 0, 1);
+    for t in tags.iter_mut() {
+        *t = match r.below(200) {
+            0 => t.wrapping_sub(1),
+            1 => r.pick(&EXTREME),
+            2..=20 => t.saturating_add(2),
+            _ if together => t.saturating_add(step),
+            _ => t.saturating_add(small(r, 0, 1)),
+        };
+    }
+    if !obey {
+        return;
+    }
+    for l in lines.iter().filter(|l| l[2] == 17) {
+        let word = |at: usize| i16::from_le_bytes([l[at], l[at + 1]]) as i64;
+        let value = word(6) * tags[l[5] as usize] as i64 + word(8);
+        // Cut to 16 bits: right, or what a product formed in 16 bits would be.
+        tags[l[4] as usize] = value as i16;
+    }
+}
+
+/// An instant with at most `most` unseen ticks, one tick in `rare` unseen.
+fn next_instant(r: &mut Xorshift, tags: &[i16], most: usize, rare: u64) -> Vec<u8> {
+    let mut unseen = 0;
+    let cells: Vec<_> = tags
+        .iter()
+        .map(|&t| {
+            if unseen < most && r.once_in(rare) {
+                unseen += 1;
+                (UNSEEN, t)
+            } else {
+                (r.pick(&[IDLE, IDLE, TICK]), t)
+            }
+        })
+        .collect();
+    instant(&cells)
+}
+
+fn is_holding(result: u64) -> bool {
+    result >> 8 & 0xff == 3
+}
+
+/// Mostly few clocks, small tags and few unseen ticks, so that dues are met or
+/// missed; some near the limits, some with eight clocks unseen, some long.
+fn input(r: &mut Xorshift) -> Input {
+    if r.once_in(1000) {
+        return long_input(r);
+    }
+    let crowded = r.once_in(400);
+    let heavy = r.once_in(12);
+    let clocks = if crowded {
+        8
+    } else if heavy {
+        3 + r.below(4) as u8
+    } else if r.once_in(8) {
+        1 + r.below(8) as u8
+    } else {
+        1 + r.below(4) as u8
+    };
+    let lines = if heavy {
+        heavy_lines(r, clocks)
+    } else {
+        lines(r, clocks)
+    };
+    let mut v = Input {
+        clocks,
+        lines,
+        instants: Vec::new(),
+    };
+    let (most, rare, count) = if crowded {
+        (8, 1, 1 + r.below(3))
+    } else if heavy {
+        (1 + r.below(4) as usize, r.pick(&[2, 1000]), 1 + r.below(6))
+    } else {
+        (4, r.pick(&[2, 3, 6, 1000]), r.below(13))
+    };
+    // Most logs are steered: of a few instants the first that still holds.
+    let tries = if heavy {
+        r.pick(&[1, 1, 4])
+    } else {
+        r.pick(&[1, 4, 4, 8])
+    };
+    let obey = !r.once_in(4);
+    let sheet = v.sheet();
+    let mut log = Vec::new();
+    let mut tags: Vec<i16> = (0..clocks).map(|_| tag(r)).collect();
+    for _ in 0..count {
+        let mut chosen = Vec::new();
+        let mut chosen_tags = Vec::new();
+        for _ in 0..tries {
+            chosen_tags = tags.clone();
+            next_tags(r, &mut chosen_tags, &v.lines, obey);
+            chosen = next_instant(r, &chosen_tags, most, rare);
+            if tries > 1 && !crowded {
+                let end = log.len();
+                log.extend(&chosen);
+                let holds = is_holding(plain::judge(&sheet, &log));
+                log.truncate(end);
+                if holds {
+                    break;
+                }
+            }
+        }
+        tags = chosen_tags;
+        log.extend(&chosen);
+        v.instants.push(chosen);
+    }
+    v
+}
+
+/// Around 4,000 instants, all ticks seen.
+fn long_input(r: &mut Xorshift) -> Input {
+    let clocks = 1 + r.below(2) as u8;
+    let lines = if r.once_in(2) {
+        vec![weakly(0, 0)]
+    } else {
+        Vec::new()
+    };
+    let count = 3999 + r.below(4);
+    let instants = (0..count)
+        .map(|n| {
+            let cells: Vec<_> = (0..clocks)
+                .map(|_| (r.pick(&[IDLE, TICK]), n as i16))
+                .collect();
+            instant(&cells)
+        })
+        .collect();
+    Input {
+        clocks,
+        lines,
+        instants,
+    }
+}
+
+impl Input {
+    fn sheet(&self) -> Vec<u8> {
+        let mut bytes = clocks(self.clocks);
+        bytes.extend(self.lines.concat());
+        bytes
+    }
+
+    fn log(&self) -> Vec<u8> {
+        self.instants.concat()
+    }
+
+    fn is_long(&self) -> bool {
+        self.instants.len() > 1000
+    }
+
+    /// A fault in one record of the sheet or the log, often in the last: there
+    /// it meets the seventeenth line and the instant after 4,000.
+    fn damage(&mut self, r: &mut Xorshift) {
+        let any = r.below(256) as u8;
+        let long = self.is_long();
+        let records = if long || r.once_in(2) {
+            &mut self.instants
+        } else {
+            &mut self.lines
+        };
+        let Some(last) = records.len().checked_sub(1) else {
+            return;
+        };
+        let which = if long || r.once_in(3) {
+            last
+        } else {
+            r.below(last as u64 + 1) as usize
+        };
+        let record = &mut records[which];
+        match r.below(9) {
+            // Kind.
+            0 => record[2] = r.pick(&[0, 1, 15, 16, 17, 18, 19, 20, 21, 22, 23, 24, 32, 33, any]),
+            1 => record[3] = r.pick(&[1, any]),
+            // Length, by the field alone or by the body alone.
+            2 => record[0] = record[0].wrapping_add(r.pick(&[1, 2, 255])),
+            3 => {
+                record.pop();
+            }
+            // Length, both.
+            4 => {
+                record.push(any);
+                record[0] = (record.len() - 4) as u8;
+            }
+            5 => {
+                record.pop();
+                record[0] = (record.len() - 4) as u8;
+            }
+            // A clock of a line, a tick byte of an instant.
+            _ => {
+                let body = record.len() - 4;
+                let at = if record[2] == 32 {
+                    3 * r.below(body as u64 / 3)
+                } else {
+                    r.below(3)
+                };
+                record[4 + at as usize % body] = r.pick(&[3, self.clocks, 255, any]);
+            }
+        }
+    }
+}
+
+/// A fault in a byte string.
+fn damage_bytes(r: &mut Xorshift, bytes: &mut Vec<u8>) {
+    let at = r.below(bytes.len() as u64 + 1) as usize;
+    let any = r.below(256) as u8;
+    match r.below(7) {
+        0 if at < bytes.len() => bytes[at] ^= 1 << r.below(8),
+        1 if at < bytes.len() => bytes[at] = any,
+        2 if at < bytes.len() => {
+            bytes.remove(at);
+        }
+        3 => bytes.insert(at, any),
+        4 => bytes.truncate(at),
+        5 => bytes.clear(),
+        _ => bytes.extend((0..1 + r.below(5)).map(|_| r.below(4) as u8)),
+    }
+}
+
+/// A fault in the record of the clocks.
+fn damage_head(r: &mut Xorshift, sheet: &mut Vec<u8>) {
+    let any = r.below(256) as u8;
+    match r.below(4) {
+        0 => sheet[4] = r.pick(&[0, 9, 255, any]),
+        1 => sheet[2] = r.pick(&[0, 2, 16, any]),
+        2 => sheet[0] = r.pick(&[0, 2, any]),
+        _ => {
+            sheet[0] = 2;
+            sheet.insert(5, any);
+        }
+    }
+}
+
+/// How often each outcome of a call was seen.
+#[derive(Default)]
+struct Seen {
+    numbers: [u64; 17],
+    exhausted: u64,
+    broken: u64,
+    clear: u64,
+    owed: u64,
+    full: u64,
+    other: u64,
+}
+
+impl Seen {
+    fn number(&mut self, n: u64) {
+        match self.numbers.get_mut(n as usize) {
+            Some(count) => *count += 1,
+            None => self.other += 1,
+        }
+    }
+
+    fn result(&mut self, result: u64) {
+        self.number(result & 0xff);
+        self.full += (result >> 16 & 0xff == 32) as u64;
+        match (result >> 8 & 0xff, result >> 24 & 0xff) {
+            (0, _) => {}
+            (1, _) => self.exhausted += 1,
+            (2, _) => self.broken += 1,
+            (3, 1) => self.clear += 1,
+            (3, 0) => self.owed += 1,
+            _ => self.other += 1,
+        }
+    }
+
+    fn print(&self, call: &str, taken: &str) {
+        println!("{call}: {taken}");
+        let refused: Vec<String> = (1..17)
+            .filter(|&n| self.numbers[n] > 0)
+            .map(|n| format!("{n}: {}", self.numbers[n]))
+            .collect();
+        println!("    refused {}", refused.join(", "));
+        assert_eq!(
+            self.other, 0,
+            "{call}: an outcome that document 01 does not have"
+        );
+    }
+}
+
+fn hex(bytes: &[u8]) -> String {
+    bytes
+        .iter()
+        .map(|b| format!("{b:02x}"))
+        .collect::<Vec<_>>()
+        .join(" ")
+}
+
+struct Test {
+    differences: u64,
+    judged: Seen,
+    watched: Seen,
+    panelled: Seen,
+    owing: u64,
+    sheets: Seen,
+    instants: Seen,
+}
+
+impl Test {
+    /// Counts a difference, and prints the first few whole.
+    fn compare<T: PartialEq + std::fmt::Debug>(
+        &mut self,
+        call: &str,
+        index: u64,
+        sheet: &[u8],
+        log: &[u8],
+        library: T,
+        plain: T,
+    ) {
+        if library == plain {
+            return;
+        }
+        self.differences += 1;
+        if self.differences <= 5 {
+            println!("case {index}, {call}: library {library:x?}, plain {plain:x?}");
+            println!("    sheet {}", hex(sheet));
+            println!("    log   {}", hex(&log[..log.len().min(400)]));
+        }
+    }
+
+    fn run(&mut self, r: &mut Xorshift, index: u64) {
+        let mut v = input(r);
+        let damaged = r.once_in(if v.is_long() { 2 } else { 3 });
+        if damaged && (v.is_long() || r.once_in(2)) {
+            v.damage(r);
+        }
+        let (mut sheet, mut log) = (v.sheet(), v.log());
+        if damaged && !v.is_long() {
+            match r.below(6) {
+                0 => damage_bytes(r, &mut sheet),
+                1 => damage_head(r, &mut sheet),
+                2 | 3 => damage_bytes(r, &mut log),
+                _ => {}
+            }
+        }
+
+        let judged = plain::judge(&sheet, &log);
+        self.judged.result(judged);
+        self.compare(
+            "lift_judge",
+            index,
+            &sheet,
+            &log,
+            library::judge(&sheet, &log),
+            judged,
+        );
+
+        // A buffer with room to spare, just enough, or too short.
+        let need = 3 * (judged >> 32) as usize;
+        let room = match r.below(8) {
+            0 => r.below(need as u64 + 1) as usize,
+            1 if need > 0 => need - 1,
+            2 | 3 => need,
+            _ => need + 1 + r.below(8) as usize,
+        };
+        let fill = r.below(256) as u8;
+        let (mut ours, mut theirs) = (vec![fill; room], vec![fill; room]);
+        let watched = plain::watch(&sheet, &log, &mut ours);
+        self.watched.result(watched);
+        let result = library::watch(&sheet, &log, &mut theirs);
+        self.compare(
+            "lift_watch",
+            index,
+            &sheet,
+            &log,
+            (result, theirs),
+            (watched, ours),
+        );
+
+        let clock = if r.once_in(20) {
+            r.below(256) as u8
+        } else {
+            r.below(v.clocks as u64) as u8
+        };
+        let panelled = plain::panel(&sheet, &log, clock);
+        self.panelled.number(panelled & 0xff);
+        self.owing += (panelled >> 16 & 0xff != 0) as u64;
+        self.compare(
+            "lift_panel",
+            index,
+            &sheet,
+            &log,
+            library::panel(&sheet, &log, clock),
+            panelled,
+        );
+
+        let number = plain::sheet_number(&sheet);
+        self.sheets.number(number as u64);
+        self.compare(
+            "lift_sheet_number",
+            index,
+            &sheet,
+            &[],
+            library::sheet_number(&sheet),
+            number,
+        );
+
+        // A record of the log, the whole log, or a part of it.
+        let record: &[u8] = match r.below(8) {
+            0 => &log,
+            1 => &log[..r.below(log.len() as u64 + 1) as usize],
+            _ => &log[..log.len().min(4 + 3 * v.clocks as usize)],
+        };
+        let clocks = if r.once_in(6) {
+            r.below(11) as u8
+        } else {
+            v.clocks
+        };
+        let number = plain::instant_number(record, clocks);
+        self.instants.number(number as u64);
+        self.compare(
+            "lift_instant_number",
+            index,
+            &[],
+            record,
+            library::instant_number(record, clocks),
+            number,
+        );
+    }
+}
+
+/// The number of differences.
+pub fn random(seed: u64, count: u64) -> u64 {
+    let mut test = Test {
+        differences: 0,
+        judged: Seen::default(),
+        watched: Seen::default(),
+        panelled: Seen::default(),
+        owing: 0,
+        sheets: Seen::default(),
+        instants: Seen::default(),
+    };
+    for index in 0..count {
+        test.run(&mut Xorshift::new(seed ^ index << 20), index);
+    }
+    let said = |s: &Seen| {
+        format!(
+            "holding {} clear and {} owed, of these {} with 32 live, broken {}, exhausted {}",
+            s.clear, s.owed, s.full, s.broken, s.exhausted
+        )
+    };
+    test.judged.print("lift_judge", &said(&test.judged));
+    test.watched.print("lift_watch", &said(&test.watched));
+    test.panelled.print(
+        "lift_panel",
+        &format!(
+            "taken {}, some owing {}",
+            test.panelled.numbers[0], test.owing
+        ),
+    );
+    test.sheets.print(
+        "lift_sheet_number",
+        &format!("taken {}", test.sheets.numbers[0]),
+    );
+    test.instants.print(
+        "lift_instant_number",
+        &format!("taken {}", test.instants.numbers[0]),
+    );
+    println!(
+        "random {seed}: {count} sheets and logs, {} differences",
+        test.differences
+    );
+    test.differences
+}

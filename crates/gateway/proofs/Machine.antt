@@ -1,0 +1,153 @@
+-- The machine's answers to a log: how many there are and how large they get, what they come to, and their bytes. Assumes nothing.
+use mathlib.Core.Bool.{Bool, true, false, cond}
+use mathlib.Core.List.{List, [], _∷_, _++_, map}
+use mathlib.Core.Logic.{_≢_}
+use mathlib.Core.Path.{_≡_, refl, sym, ap, _∙_}
+use Prim.Native.Nat.{ℕ, suc, _+_, _*_, _≤_, _<_}
+use native.Mathlib.Omega.{arith}
+use native.Mathlib.Nat.{add-zero}
+use lib.Dec.{leb}
+use lib.ListN.{length, length-append}
+use borrow.Author.Tests.{leb-false}
+use Rattle.records.specs.Outcome.{Outcome, taken, refused}
+use Rattle.records.specs.Sheet.{SheetValue, readSheet}
+use Rattle.records.specs.Types.{All}
+use Rattle.records.specs.Instant.{readInstant}
+use Rattle.tesl.specs.Lists.{any, filter, beginnings, flatMap}
+use Rattle.tesl.specs.Run.{Instant, runFillings}
+use Rattle.tesl.specs.Fits.{fits}
+use Rattle.tesl.specs.Remainder.{Remainder, remainder, sameRemainder}
+use Rattle.tesl.specs.Answer.{Answer, exhausted, broken, holding, Standing, remainders, tooMany, judged, answer}
+use Rattle.tesl.specs.Machine.{unlessFull, accepts, listAfter, reply, machine, session, concluded, judgeLog}
+use Rattle.theory.proofs.Sets.{distinct-apart}
+use Rattle.theory.proofs.Respect.{remainder-equivalence}
+use Rattle.theory.proofs.Answers.{held-few}
+use Rattle.gateway.specs.Result.{liveCode, unlessRefused, callsOf, answersTaken, entry}
+use Rattle.gateway.specs.Inner.{Small}
+
+-- ---- live is at most 32
+
+pub few-remainders : (s : SheetValue) (run : List Instant) → answer s run ≢ exhausted → length (remainders s run) ≤ 32
+unfolding remainders
+few-remainders s run n =
+    held-few s run (remainders s run) n
+    (record { each-once = distinct-apart sameRemainder remainder-equivalence (map (remainder s) (filter (fits s) (runFillings run))); these = λ x. refl })
+    .0
+
+holding-live : (s : SheetValue) (run : List Instant) {n : ℕ} {standing : Standing} → answer s run ≡ holding n standing → n ≡ length (remainders s run)
+unfolding answer judged
+holding-live s run {n} {standing} e = by-test (any (λ (b : List Instant). tooMany (remainders s b)) (beginnings run)) (remainders s run) e
+  where
+    by-test : (b : Bool) (rs : List Remainder) → cond b exhausted (judged rs) ≡ holding n standing → n ≡ length rs
+    by-test true rs x = let z : _≡_ {A = ℕ} 0 1 = cc in absurd (omega arith)
+    by-test false [] x = let z : _≡_ {A = ℕ} 0 1 = cc in absurd (omega arith)
+    by-test false (r ∷ rs) x = cc
+
+live-small : (s : SheetValue) (run : List Instant) → liveCode (answer s run) ≤ 32
+live-small s run = by-answer (answer s run) refl
+  where
+    by-answer : (a : Answer) → answer s run ≡ a → liveCode a ≤ 32
+    by-answer exhausted e = omega arith
+    by-answer broken e = omega arith
+    by-answer (holding n standing) e =
+        let h = few-remainders s run (λ x. let z : _≡_ {A = ℕ} 0 1 = cc in absurd (omega arith)) in
+        let l = holding-live s run e in
+        omega arith
+
+-- ---- the answers to a list of calls
+
+-- each
+pub answers-small : (s : SheetValue) (run : List Instant) (calls : List (List ℕ)) → All (λ (a : Answer). liveCode a ≤ 32) (answersTaken (machine s run calls))
+unfolding machine
+answers-small s run [] = tt
+answers-small s run (bytes ∷ calls) = by-outcome (accepts s run bytes) (λ run′. answers-small s run′ calls)
+  where
+    by-outcome : (o : Outcome Instant) → ((run′ : List Instant) → All (λ (a : Answer). liveCode a ≤ 32) (answersTaken (machine s run′ calls)))
+        → All (λ (a : Answer). liveCode a ≤ 32) (answersTaken (reply s run o ∷ machine s (listAfter run o) calls))
+    by-outcome (taken i) ih = (live-small s (run ++ (i ∷ [])), ih (run ++ (i ∷ [])))
+    by-outcome (refused n) ih = tt
+
+-- 16: a call is taken only while fewer than 4,000 are held
+taken-room : (n : ℕ) (o : Outcome Instant) {i : Instant} → unlessFull n o ≡ taken i → n < 4000
+taken-room n (refused k) e = let z : _≡_ {A = ℕ} 0 1 = cc in absurd (omega arith)
+taken-room n (taken j) {i} e = by-test (leb 4000 n) refl e
+  where
+    by-test : (t : Bool) → leb 4000 n ≡ t → cond t (refused 16) (taken j) ≡ taken i → n < 4000
+    by-test true h x = let z : _≡_ {A = ℕ} 0 1 = cc in absurd (omega arith)
+    by-test false h x = omega (arith, leb-false 4000 n h)
+
+pub answers-few : (s : SheetValue) (run : List Instant) (calls : List (List ℕ)) → length run ≤ 4000 → length run + length (answersTaken (machine s run calls)) ≤ 4000
+unfolding machine accepts
+answers-few s run [] h = omega arith
+answers-few s run (bytes ∷ calls) h = by-outcome (accepts s run bytes) refl (λ run′ l. answers-few s run′ calls l)
+  where
+    by-outcome : (o : Outcome Instant) → accepts s run bytes ≡ o
+        → ((run′ : List Instant) → length run′ ≤ 4000 → length run′ + length (answersTaken (machine s run′ calls)) ≤ 4000)
+        → length run + length (answersTaken (reply s run o ∷ machine s (listAfter run o) calls)) ≤ 4000
+    by-outcome (refused n) e ih = omega arith
+    by-outcome (taken i) e ih =
+        let r = taken-room (length run) (readInstant (s .clocks) bytes) e in
+        let l = length-append run (i ∷ []) in
+        let k = ih (run ++ (i ∷ [])) (omega arith) in
+        omega arith
+
+-- ---- what they come to
+
+pub concluded-count : (o : Outcome Answer) (n : ℕ) (replies : List (Outcome Answer)) → concluded o n replies .instants ≡ n + length (answersTaken replies)
+concluded-count o n [] = sym (add-zero n)
+concluded-count o n (taken a ∷ replies) = concluded-count (taken a) (suc n) replies ∙ omega arith
+concluded-count o n (refused m ∷ replies) = sym (add-zero n)
+
+concluded-live : (o : Outcome Answer) (n : ℕ) (replies : List (Outcome Answer)) → unlessRefused liveCode o ≤ 32
+    → All (λ (a : Answer). liveCode a ≤ 32) (answersTaken replies) → unlessRefused liveCode (concluded o n replies .outcome) ≤ 32
+concluded-live o n [] h all = h
+concluded-live o n (taken a ∷ replies) h all = concluded-live (taken a) (suc n) replies (all .0) (all .1)
+concluded-live o n (refused m ∷ replies) h all = omega arith
+
+pub judged-small : (sheet log : List ℕ) → Small (judgeLog sheet log)
+unfolding judgeLog session
+judged-small sheet log = by-read (readSheet sheet) refl
+  where
+    by-read : (o : Outcome SheetValue) → readSheet sheet ≡ o → Small (judgeLog sheet log)
+    by-read (refused n) e = rw e record { live = omega arith; count = omega arith }
+    by-read (taken s) e =
+        let calls = callsOf log in
+        let n = concluded-count (taken (answer s [])) 0 (machine s [] calls) in
+        let k = answers-few s [] calls (omega arith) in
+        rw e
+        record {
+          live = concluded-live (taken (answer s [])) 0 (machine s [] calls) (live-small s []) (answers-small s [] calls);
+          count = omega arith;
+        }
+
+-- ---- answers said before others
+
+-- the last of them, or what was said before
+abbrev pub lastSaid : Outcome Answer → List Answer → Outcome Answer
+lastSaid o [] = o
+lastSaid o (a ∷ said) = lastSaid (taken a) said
+
+pub last-snoc : (o : Outcome Answer) (said : List Answer) (a : Answer) → lastSaid o (said ++ (a ∷ [])) ≡ taken a
+last-snoc o [] a = refl
+last-snoc o (b ∷ said) a = last-snoc (taken b) said a
+
+pub concluded-said : (o : Outcome Answer) (n : ℕ) (said : List Answer) (replies : List (Outcome Answer))
+    → concluded o n (map taken said ++ replies) ≡ concluded (lastSaid o said) (n + length said) replies
+concluded-said o n [] replies = rw add-zero
+concluded-said o n (a ∷ said) replies =
+    let k : suc n + length said ≡ n + suc (length said) = omega arith in
+    concluded-said (taken a) (suc n) said replies ∙ rw k
+
+pub answers-said : (said : List Answer) (replies : List (Outcome Answer)) → answersTaken (map taken said ++ replies) ≡ said ++ answersTaken replies
+answers-said [] replies = refl
+answers-said (a ∷ said) replies = ap (λ (others : List Answer). a ∷ others) (answers-said said replies)
+
+-- ---- their bytes
+
+pub length-entries : (said : List Answer) → length (flatMap entry said) ≡ 3 * length said
+length-entries [] = refl
+length-entries (a ∷ said) = omega (arith, length-entries said)
+
+pub entries-snoc : (said : List Answer) (a : Answer) → flatMap entry (said ++ (a ∷ [])) ≡ flatMap entry said ++ entry a
+entries-snoc [] a = refl
+entries-snoc (b ∷ said) a = ap (λ (bytes : List ℕ). entry b ++ bytes) (entries-snoc said a)

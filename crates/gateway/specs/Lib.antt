@@ -1,0 +1,3 @@
+-- What the exported calls return and write, and what the contracts of the inner functions cite.
+pub mod Result
+pub mod Inner

@@ -1,0 +1,96 @@
+// The monitor for C and Rust: calls over numbers and byte slices, which take every input.
+// A result of 64 bits, from its lowest byte up: the number of the refusal, or 0; the answer, 1 exhausted, 2 broken, 3 holding, 0 after a refusal;
+// live, 0 unless holding; 1 if clear, else 0; and in the upper 32 bits the count of instants taken.
+mod count;
+mod follow;
+mod log;
+mod pack;
+mod write;
+
+use crate::count::count_instants;
+use crate::follow::follow_log;
+use crate::follow::owing_after;
+use crate::pack::pack;
+use crate::pack::pack_reply;
+use crate::pack::reading_number;
+use crate::pack::reply_number;
+use crate::write::ENTRY_LENGTH;
+use crate::write::write_answers;
+use judge::answer::Reply;
+use judge::log::judge_log;
+use judge::monitor::open;
+use records::instant::read_instant;
+use records::number;
+use records::sheet::read_sheet;
+ghost use mathlib.Core.Path.{_≡_};
+ghost use Rattle.records.specs.Sheet.{readSheet};
+ghost use Rattle.records.specs.Instant.{readInstant};
+ghost use Rattle.tesl.specs.Machine.{judgeLog};
+ghost use Rattle.gateway.specs.Result.{numberOf, judgedCode, shownCode, watched, watchedAs};
+
+// Returns the result of a sheet and a whole log: the last answer, or the number of the first refusal and the count before it.
+#[no_mangle]
+pub extern "C" fn lift_judge(sheet: &[u8], log: &[u8]) -> u64
+    ensures { λ r. ⌜ r ≡ judgedCode (judgeLog (now (sheet .entry)) (now (log .entry))) ⌝ }
+{
+    let judged = judge_log(sheet, log);
+    let reply = judged.reply;
+    pack_reply(reply, judged.instants)
+}
+
+// Returns the same result. The front of `out` then holds the answers to the instants taken, those before a refusal too, three bytes each: answer, live, clear.
+// Later bytes stay. Where `out` is shorter than that: returns 10, no answer and the count of instants taken, and `out` stays as it was.
+#[no_mangle]
+pub extern "C" fn lift_watch(sheet: &[u8], log: &[u8], out: &mut [u8]) -> u64
+    ensures { λ r. ⌜ watchedAs r (now (out .exit)) ≡ watched (now (sheet .entry)) (now (log .entry)) (now (out .entry)) ⌝ }
+{
+    let opened = open(sheet);
+    let reply = opened.reply;
+    match reply {
+        Reply::Refused(_) => pack_reply(reply, 0),
+        Reply::Answered(_) => {
+            let monitor = opened.monitor;
+            let value = monitor.sheet;
+            let clocks = value.clocks;
+            let count = count_instants(log, clocks);
+            if out.len() < ENTRY_LENGTH * count {
+                return pack(number::SHORT_BUFFER, 0, 0, 0, count);
+            }
+            let judged = write_answers(opened, log, out);
+            let last = judged.reply;
+            pack_reply(last, judged.instants)
+        }
+    }
+}
+
+// Returns the number and the count of that result, and in the place of live how many of the live remainders owe the clock a tick after the log.
+// After a refusal, broken or exhausted that is 0. The answer and clear are 0.
+#[no_mangle]
+pub extern "C" fn lift_panel(sheet: &[u8], log: &[u8], clock: u8) -> u64
+    ensures { λ r. ⌜ r ≡ shownCode (now (sheet .entry)) (now (log .entry)) clock ⌝ }
+{
+    let last = follow_log(sheet, log);
+    let owing = owing_after(last, clock);
+    let reply = last.reply;
+    pack(reply_number(reply), 0, owing, 0, last.instants)
+}
+
+// Returns the number of a sheet's refusal; 0 where it is taken.
+#[no_mangle]
+pub extern "C" fn lift_sheet_number(sheet: &[u8]) -> u8
+    ensures { λ r. ⌜ r ≡ numberOf (readSheet (now (sheet .entry))) ⌝ }
+{
+    let read = read_sheet(sheet);
+    let answer = read.answer;
+    reading_number(answer)
+}
+
+// Returns the number of an instant's refusal for a clock count; 0 where it is taken.
+#[no_mangle]
+pub extern "C" fn lift_instant_number(instant: &[u8], clocks: u8) -> u8
+    ensures { λ r. ⌜ r ≡ numberOf (readInstant clocks (now (instant .entry))) ⌝ }
+{
+    let read = read_instant(instant, clocks);
+    let answer = read.answer;
+    reading_number(answer)
+}

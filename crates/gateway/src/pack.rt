@@ -1,0 +1,83 @@
+// Answers and results as numbers.
+use judge::answer::Answer;
+use judge::answer::Reply;
+use records::record::Answer as Reading;
+ghost use mathlib.Core.Path.{_≡_};
+ghost use Prim.Native.Nat.{_≤_};
+ghost use Rattle.judge.specs.Answer.{answerOf, replyOf};
+ghost use Rattle.gateway.specs.Result.{numberOf, answerCode, liveCode, clearCode, packed, judgedCode};
+ghost use Rattle.gateway.specs.Inner.{readingNumber, Small};
+
+// The number of what reading refuses.
+pub(crate) fn reading_number(answer: Reading) -> u8
+    ensures { λ r. ⌜ r ≡ readingNumber answer ⌝ }
+{
+    match answer {
+        Reading::Done => 0,
+        Reading::Refused(n) => n,
+    }
+}
+
+// The number of a reply that refuses.
+pub(crate) fn reply_number(reply: Reply) -> u8
+    ensures { λ r. ⌜ r ≡ numberOf (replyOf reply) ⌝ }
+{
+    match reply {
+        Reply::Answered(_) => 0,
+        Reply::Refused(n) => n,
+    }
+}
+
+pub(crate) fn answer_code(a: Answer) -> u8
+    ensures { λ r. ⌜ r ≡ answerCode (answerOf a) ⌝ }
+{
+    match a {
+        Answer::Exhausted => 1,
+        Answer::Broken => 2,
+        Answer::Holding { live: _, clear: _ } => 3,
+    }
+}
+
+pub(crate) fn live_code(a: Answer) -> u8
+    requires { ⌜ liveCode (answerOf a) ≤ 32 ⌝ }
+    ensures { λ r. ⌜ r ≡ liveCode (answerOf a) ⌝ }
+{
+    match a {
+        Answer::Exhausted => 0,
+        Answer::Broken => 0,
+        Answer::Holding { live, clear: _ } => live as u8,
+    }
+}
+
+pub(crate) fn clear_code(a: Answer) -> u8
+    ensures { λ r. ⌜ r ≡ clearCode (answerOf a) ⌝ }
+{
+    match a {
+        Answer::Exhausted => 0,
+        Answer::Broken => 0,
+        Answer::Holding { live: _, clear } => { if clear { 1 } else { 0 } }
+    }
+}
+
+// A result: four bytes from the lowest up, then the count.
+pub(crate) fn pack(number: u8, answer: u8, live: u8, clear: u8, count: usize) -> u64
+    requires { ⌜ count ≤ 4000 ⌝ }
+    ensures { λ r. ⌜ r ≡ packed number answer live clear count ⌝ }
+{
+    (number as u64)
+        + 256 * (answer as u64)
+        + 65536 * (live as u64)
+        + 16777216 * (clear as u64)
+        + 4294967296 * (count as u64)
+}
+
+// The result of a reply and the count of instants taken.
+pub(crate) fn pack_reply(reply: Reply, count: usize) -> u64
+    requires { ⌜ Small (record { outcome = replyOf reply; instants = count }) ⌝ }
+    ensures { λ r. ⌜ r ≡ judgedCode (record { outcome = replyOf reply; instants = count }) ⌝ }
+{
+    match reply {
+        Reply::Refused(n) => pack(n, 0, 0, 0, count),
+        Reply::Answered(a) => pack(0, answer_code(a), live_code(a), clear_code(a), count),
+    }
+}

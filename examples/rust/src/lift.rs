@@ -1,0 +1,137 @@
+//! The calls of the library `gateway` with Rust's types. include/lift.h says
+//! what each returns.
+
+mod raw {
+    extern "C" {
+        pub fn lift_judge(
+            sheet: *const u8,
+            sheet_len: usize,
+            log: *const u8,
+            log_len: usize,
+        ) -> u64;
+        pub fn lift_watch(
+            sheet: *const u8,
+            sheet_len: usize,
+            log: *const u8,
+            log_len: usize,
+            out: *mut u8,
+            out_len: usize,
+        ) -> u64;
+        pub fn lift_panel(
+            sheet: *const u8,
+            sheet_len: usize,
+            log: *const u8,
+            log_len: usize,
+            clock: u8,
+        ) -> u64;
+        pub fn lift_sheet_number(sheet: *const u8, sheet_len: usize) -> u8;
+        pub fn lift_instant_number(record: *const u8, record_len: usize, clocks: u8) -> u8;
+    }
+}
+
+/// Bytes of an answer in `watch`'s buffer.
+pub const ENTRY: usize = 3;
+
+/// Instants of the longest log that is taken.
+pub const INSTANTS: usize = 4000;
+
+/// The refusal number of a buffer that is too short.
+pub const SHORT_BUFFER: u8 = 10;
+
+#[derive(Clone, Copy, Debug, PartialEq, Eq)]
+pub enum Answer {
+    Exhausted,
+    Broken,
+    Holding { live: u8, clear: bool },
+}
+
+/// A value after a whole log, and the instants taken.
+#[derive(Clone, Copy, Debug, PartialEq, Eq)]
+pub struct Taken<T> {
+    pub value: T,
+    pub count: u32,
+}
+
+/// A refusal: document 01's number, and the instants taken before it; with
+/// `SHORT_BUFFER` the instants to make room for.
+#[derive(Clone, Copy, Debug, PartialEq, Eq)]
+pub struct Refused {
+    pub number: u8,
+    pub count: u32,
+}
+
+pub type Result<T> = std::result::Result<Taken<T>, Refused>;
+
+/// The parts of a packed result: number, answer, live, clear.
+fn unpack<T>(result: u64, value: impl FnOnce([u8; ENTRY]) -> T) -> Result<T> {
+    let [number, answer, live, clear, ..] = result.to_le_bytes();
+    let count = (result >> 32) as u32;
+    match number {
+        0 => Ok(Taken {
+            value: value([answer, live, clear]),
+            count,
+        }),
+        _ => Err(Refused { number, count }),
+    }
+}
+
+fn answer(entry: [u8; ENTRY]) -> Answer {
+    match entry {
+        [1, ..] => Answer::Exhausted,
+        [2, ..] => Answer::Broken,
+        [_, live, clear] => Answer::Holding {
+            live,
+            clear: clear == 1,
+        },
+    }
+}
+
+/// The last answer of a whole log; for an empty log that of opening.
+pub fn judge(sheet: &[u8], log: &[u8]) -> Result<Answer> {
+    // A slice's pointer is valid for its length and never null; so below.
+    let result = unsafe { raw::lift_judge(sheet.as_ptr(), sheet.len(), log.as_ptr(), log.len()) };
+    unpack(result, answer)
+}
+
+/// As `judge`, with the answer of every instant taken at the front of `out`,
+/// to be read by `answers`; later bytes stay.
+pub fn watch(sheet: &[u8], log: &[u8], out: &mut [u8]) -> Result<Answer> {
+    let result = unsafe {
+        raw::lift_watch(
+            sheet.as_ptr(),
+            sheet.len(),
+            log.as_ptr(),
+            log.len(),
+            out.as_mut_ptr(),
+            out.len(),
+        )
+    };
+    unpack(result, answer)
+}
+
+/// The first `count` answers that `watch` wrote.
+pub fn answers(out: &[u8], count: u32) -> impl Iterator<Item = Answer> + '_ {
+    out.chunks_exact(ENTRY)
+        .take(count as usize)
+        .map(|e| answer([e[0], e[1], e[2]]))
+}
+
+/// How many of the live remainders owe this clock a tick after a whole log.
+pub fn panel(sheet: &[u8], log: &[u8], clock: u8) -> Result<u8> {
+    let result =
+        unsafe { raw::lift_panel(sheet.as_ptr(), sheet.len(), log.as_ptr(), log.len(), clock) };
+    unpack(result, |[_, owing, _]| owing)
+}
+
+/// The refusal number of a sheet, if it has one.
+pub fn sheet_number(sheet: &[u8]) -> Option<u8> {
+    let number = unsafe { raw::lift_sheet_number(sheet.as_ptr(), sheet.len()) };
+    (number != 0).then_some(number)
+}
+
+/// The refusal number of an instant's record for a count of clocks, if it has
+/// one.
+pub fn instant_number(record: &[u8], clocks: u8) -> Option<u8> {
+    let number = unsafe { raw::lift_instant_number(record.as_ptr(), record.len(), clocks) };
+    (number != 0).then_some(number)
+}
