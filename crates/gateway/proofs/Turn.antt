@@ -5,7 +5,7 @@ use Prim.Native.Nat.{ℕ, _+_, _≤_}
 use native.Mathlib.Omega.{arith}
 use lib.ListN.{length, drop, length-append, drop-of-length-le}
 use Rattle.records.specs.Outcome.{Outcome, taken, refused}
-use Rattle.records.specs.Record.{Piece, whole, torn, front, pieces, recordBytes}
+use Rattle.records.specs.Record.{Piece, whole, torn, front, pieces, TheRecord, recordBytes}
 use Rattle.records.specs.Sheet.{SheetValue}
 use Rattle.records.specs.Instant.{readInstant}
 use Rattle.records.proofs.Lists.{map-append}
@@ -22,7 +22,7 @@ use Rattle.judge.specs.Promises.{Follows, Observed}
 use Rattle.judge.specs.Log.{Concludes}
 use Rattle.judge.proofs.Demands.{observing-follows}
 use Rattle.gateway.specs.Result.{callsOf, answersTaken}
-use Rattle.gateway.specs.Inner.{TheRecord, answersFrom}
+use Rattle.gateway.specs.Inner.{answersFrom}
 use Rattle.gateway.proofs.Machine.{lastSaid, last-snoc, concluded-said, answers-said}
 
 -- ---- a call

@@ -1,12 +1,11 @@
 -- What the contracts of the inner functions cite.
-use mathlib.Core.List.{List, [], _∷_}
+use mathlib.Core.List.{List, []}
 use mathlib.Core.Path.{_≡_}
-use Prim.Native.Nat.{ℕ, _+_, _≤_, _<_}
-use lib.ListN.{length, drop}
+use Prim.Native.Nat.{ℕ, _≤_}
+use lib.ListN.{length}
 use Rattle.records.specs.declared.record.Answer as reading
 use Rattle.records.specs.declared.record.Answer.the-variants.{Done, Refused}
 use Rattle.records.specs.Outcome.{taken, refused}
-use Rattle.records.specs.Record.{front, pieces}
 use Rattle.records.specs.Sheet.{SheetValue, readSheet}
 use Rattle.records.specs.Store.{puts}
 use Rattle.tesl.specs.Lists.{flatMap}
@@ -30,16 +29,6 @@ readingNumber (Refused n) = n
 pub record Small (r : LogResult) : Type 0 where
   pub live : unlessRefused liveCode (r .outcome) ≤ 32
   pub count : r .instants ≤ 4000
-
--- ---- a record
-
--- p is the record at a place of a log, whole or torn, and nothing else; the log's next record begins behind it
--- p is not empty and lies within the log, so whoever goes on behind it comes to the end
-pub record TheRecord (log : List ℕ) (at : ℕ) (p : List ℕ) : Type 0 where
-  pub one : pieces p ≡ front (drop at log) ∷ []
-  pub others : pieces (drop at log) ≡ front (drop at log) ∷ pieces (drop (at + length p) log)
-  pub some : 0 < length p
-  pub within : at + length p ≤ length log
 
 -- ---- the instants of a log
 

@@ -1,8 +1,8 @@
 // How many instants of a log are taken, by reading alone.
-use crate::log::record_bytes;
 use records::instant::read_instant;
 use records::number;
 use records::record::Answer;
+use records::record::record_bytes;
 ghost use Rattle.gateway.specs.Inner.{Counted};
 
 // The records before the first that is refused, 4,000 at most.

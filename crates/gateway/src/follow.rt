@@ -1,5 +1,4 @@
 // The monitor after a whole log, and what its panel shows.
-use crate::log::record_bytes;
 use judge::answer::Reply;
 use judge::monitor::Given;
 use judge::monitor::Monitor;
@@ -7,6 +6,7 @@ use judge::monitor::observe;
 use judge::monitor::open;
 use panel::Panel;
 use panel::panel_count;
+use records::record::record_bytes;
 ghost use Rattle.gateway.specs.Inner.{FollowsAll, FollowsLog, Kept, OwingAfter};
 
 // What a log came to, and the last monitor.

@@ -3,7 +3,6 @@
 // live, 0 unless holding; 1 if clear, else 0; and in the upper 32 bits the count of instants taken.
 mod count;
 mod follow;
-mod log;
 mod pack;
 mod write;
 

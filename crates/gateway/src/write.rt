@@ -1,5 +1,4 @@
 // The answers to the instants of a log, written as bytes.
-use crate::log::record_bytes;
 use crate::pack::answer_code;
 use crate::pack::clear_code;
 use crate::pack::live_code;
@@ -8,6 +7,7 @@ use judge::answer::Reply;
 use judge::log::Judged;
 use judge::monitor::Given;
 use judge::monitor::observe;
+use records::record::record_bytes;
 ghost use mathlib.Core.Path.{_≡_};
 ghost use Prim.Native.Nat.{_+_, _≤_, _<_};
 ghost use lib.ListN.{length};

@@ -2,12 +2,12 @@
 use crate::file::LOG_ROOM;
 use crate::file::SHEET_ROOM;
 use crate::file::read_file;
-use crate::log::record_bytes;
 use crate::print::print;
 use crate::print::print_refusal;
 use records::instant::read_instant;
 use records::number;
 use records::record::Answer;
+use records::record::record_bytes;
 use records::sheet::read_sheet;
 use text::line::column_line;
 ghost use Prim.Native.Nat.{_≤_};

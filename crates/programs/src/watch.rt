@@ -2,13 +2,13 @@
 use crate::file::LOG_ROOM;
 use crate::file::SHEET_ROOM;
 use crate::file::read_file;
-use crate::log::record_bytes;
 use crate::print::print;
 use crate::print::print_refusal;
 use judge::answer::Reply;
 use judge::monitor::Monitor;
 use judge::monitor::observe;
 use judge::monitor::open;
+use records::record::record_bytes;
 use text::line::answer_line;
 
 // The instants of a log, up to the first that is refused.

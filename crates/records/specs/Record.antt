@@ -1,5 +1,6 @@
 -- A record is: length of the body (2 bytes), kind (2 bytes), body.
-use Prim.Native.Nat.{ℕ, zero, suc, _+_, _-_}
+use Prim.Native.Nat.{ℕ, zero, suc, _+_, _-_, _<_, _≤_}
+use mathlib.Core.Path.{_≡_}
 use mathlib.Core.Bool.{Bool, cond, _||_}
 use mathlib.Core.List.{List, [], _∷_, _++_}
 use lib.ListN.{length, take, drop}
@@ -45,6 +46,23 @@ recordOf torn = Torn
 -- the record at place i of a longer byte string, for every place
 unfoldable pub recordAt : List ℕ → ℕ → Record
 recordAt b i = recordOf (front (drop i b))
+
+-- the bytes of the record at the front of some bytes: its 4 and its body; of a torn one all that remain
+abbrev pub spanOf : List ℕ → Record → List ℕ
+spanOf b (Whole kind n) = take (4 + n) b
+spanOf b Torn = b
+
+-- the bytes of the record at place i, for every place; at the end and past it none remain
+unfoldable pub recordSpan : List ℕ → ℕ → List ℕ
+recordSpan b i = spanOf (drop i b) (recordAt b i)
+
+-- p is the record at a place of a byte string, whole or torn, and nothing else; the next record begins behind it
+-- p is not empty and lies within the byte string, so whoever goes on behind it comes to the end
+pub record TheRecord (b : List ℕ) (i : ℕ) (p : List ℕ) : Type 0 where
+  pub one : pieces p ≡ front (drop i b) ∷ []
+  pub others : pieces (drop i b) ≡ front (drop i b) ∷ pieces (drop (i + length p) b)
+  pub some : 0 < length p
+  pub within : i + length p ≤ length b
 
 -- a record's bytes
 abbrev pub recordBytes : ℕ → List ℕ → List ℕ

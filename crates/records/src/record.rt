@@ -8,7 +8,7 @@ ghost use mathlib.Core.List.{_++_};
 ghost use Prim.Native.Nat.{_+_, _≤_};
 ghost use lib.ListN.{length};
 ghost use Rattle.records.specs.Word.{wordBytes};
-ghost use Rattle.records.specs.Record.{recordAt};
+ghost use Rattle.records.specs.Record.{recordAt, recordSpan};
 ghost use Rattle.records.specs.Store.{puts};
 
 // The record at a place of a byte string.
@@ -54,6 +54,19 @@ pub fn record_at(bytes: &[u8], at: usize) -> Record
         return Record::Torn;
     }
     first_record(&bytes[at..])
+}
+
+// The bytes of the record at a place of a byte string, for every place: length, kind and body; of a torn one what remains, which is refused when it is read. At the end and past it that is nothing.
+pub fn record_bytes(bytes: &[u8], at: usize) -> &[u8]
+    ensures { λ r. ⌜ now r ≡ recordSpan (now (bytes .entry)) at ⌝ }
+{
+    if bytes.len() < at {
+        return &bytes[bytes.len()..];
+    }
+    match record_at(bytes, at) {
+        Record::Torn => &bytes[at..],
+        Record::Whole { kind, len } => &bytes[at..at + number::HEAD_LENGTH + len],
+    }
 }
 
 // A record's length and kind, where they have room.

@@ -10,13 +10,14 @@ use borrow.Author.Tests.{lt-leb}
 use Rattle.records.specs.declared.record.Answer.the-variants.{Done, Refused}
 use Rattle.records.specs.declared.instant.InstantRead.{InstantRead}
 use Rattle.records.specs.Outcome.{Outcome, taken, refused}
+use Rattle.records.specs.Record.{TheRecord}
 use Rattle.records.specs.Sheet.{SheetValue}
 use Rattle.records.specs.Instant.{readInstant, instantRead}
 use Rattle.records.proofs.record.Cut.{no-pieces}
 use Rattle.tesl.specs.Run.{Instant}
 use Rattle.tesl.specs.Machine.{accepts, machine}
 use Rattle.gateway.specs.Result.{callsOf}
-use Rattle.gateway.specs.Inner.{TheRecord, answersFrom, Counted}
+use Rattle.gateway.specs.Inner.{answersFrom, Counted}
 use Rattle.gateway.proofs.Machine.{answers-few}
 use Rattle.gateway.proofs.Turn.{next-replies}
 

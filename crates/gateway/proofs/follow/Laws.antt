@@ -7,6 +7,7 @@ use Prim.Native.Nat.{ℕ, suc, _≤_}
 use native.Mathlib.Omega.{arith}
 use lib.ListN.{length}
 use Rattle.records.specs.Outcome.{Outcome, taken, refused}
+use Rattle.records.specs.Record.{TheRecord}
 use Rattle.records.specs.Sheet.{SheetValue, readSheet}
 use Rattle.records.proofs.Lists.{refused-taken}
 use Rattle.tesl.specs.Lists.{count}
@@ -27,7 +28,7 @@ use Rattle.panel.specs.Panel.{owesClock, panelOf, panelCount}
 use Rattle.panel.proofs.Run.{panel-of-run}
 use Rattle.gateway.specs.declared.follow.Last.{Last}
 use Rattle.gateway.specs.Result.{numberOf, packed, callsOf, unlessRefused, unlessExhausted, owingIn, owingOf, shownCode}
-use Rattle.gateway.specs.Inner.{TheRecord, judgedLast, FollowsAll, FollowsLog, Kept, OwingAfter}
+use Rattle.gateway.specs.Inner.{judgedLast, FollowsAll, FollowsLog, Kept, OwingAfter}
 use Rattle.gateway.proofs.Machine.{few-remainders, judged-small}
 use Rattle.gateway.proofs.Turn.{Watching, ended, ended-follows, stopped}
 

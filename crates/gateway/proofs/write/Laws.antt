@@ -6,6 +6,7 @@ use native.Mathlib.Omega.{arith}
 use lib.ListN.{length, set, drop, length-append}
 use borrow.Author.Tests.{lt-ltb, le-ltb}
 use Rattle.records.specs.Outcome.{Outcome, taken, refused}
+use Rattle.records.specs.Record.{TheRecord}
 use Rattle.records.specs.Sheet.{SheetValue, readSheet}
 use Rattle.records.specs.Store.{puts}
 use Rattle.records.specs.Types.{All}
@@ -25,7 +26,7 @@ use Rattle.judge.specs.Promises.{Opened, Observed}
 use Rattle.judge.specs.Log.{judgedOf}
 use Rattle.judge.proofs.log.Laws.{judged-refused, judged-opened}
 use Rattle.gateway.specs.Result.{answerCode, liveCode, clearCode, packed, judgedCode, callsOf, entry, entries, watchedAs, watched}
-use Rattle.gateway.specs.Inner.{TheRecord, Small, answersFrom, Counted, Room, Writes}
+use Rattle.gateway.specs.Inner.{Small, answersFrom, Counted, Room, Writes}
 use Rattle.gateway.proofs.Machine.{answers-small, concluded-count, judged-small, length-entries, entries-snoc}
 use Rattle.gateway.proofs.Turn.{Watching, watching-start, watching-more, more-answers, ended, ended-answers, stopped, stopped-answers}
 

@@ -2,8 +2,11 @@
 use mathlib.Core.Path.{ap}
 use mathlib.Core.List.{List}
 use Prim.Native.Nat.{_-_}
+use native.Mathlib.Omega.{arith}
 use lib.ListN.{length}
 use borrow.Author.Needs.{needs}
+use Rattle.records.specs.Record.{TheRecord}
+use Rattle.records.proofs.record.Span.{the-record}
 use Rattle.tesl.specs.Answer.{Answer}
 use Rattle.judge.specs.Answer.{replyOf}
 use Rattle.gateway.proofs.Turn.{Watching, watching-start, watching-more}
@@ -23,6 +26,10 @@ loop-holds c = (_, watching-start _ _ _)
 record-bytes-requires : tie.Need-record-bytes-requires Inv-loop μ-loop
 record-bytes-requires c κs = search needs
 
+-- the record at this place of the log
+here : (c : tie.After-record-bytes Inv-loop μ-loop) → TheRecord (c .before .before .before .before .before .args .log .now) (c .before .before .loop .at) (c .record-bytes .result .now)
+here c = the-record _ _ (c .record-bytes .ensures) (c .before .loop-test .taken)
+
 observe-requires : tie.Need-observe-requires Inv-loop μ-loop
 observe-requires c κs = search needs
 
@@ -32,7 +39,7 @@ enum-told c = search needs
 returns : tie.Need-returns Inv-loop μ-loop
 returns c =
     let at = c .before .before .before .before in
-    followed-refused (at .before .before .loop .inv .1) (at .record-bytes .ensures) (c .before .before .before .observe .ensures) (c .enum-told .given .1)
+    followed-refused (at .before .before .loop .inv .1) (here at) (c .before .before .before .observe .ensures) (c .enum-told .given .1)
 
 enum-told-2 : tie.Need-enum-told-2 Inv-loop μ-loop
 enum-told-2 c = search needs
@@ -41,16 +48,16 @@ add-instants : tie.Need-add-instants Inv-loop μ-loop
 add-instants c = search needs
 
 add-at : tie.Need-add-at Inv-loop μ-loop
-add-at c = search needs
+add-at c = omega (arith, here (c .before .before .before .before) .within)
 
 loop-less : tie.Need-loop-less Inv-loop μ-loop
-loop-less c = search needs
+loop-less c = omega (arith, here (c .before .before .before .before) .some)
 
 loop-again : tie.Need-loop-again Inv-loop μ-loop
 loop-again c =
     let at = c .before .before .before .before in
     let e = ap replyOf (c .enum-told2 .given .1) in
-    (_, watching-more (at .before .before .loop .inv .1) (at .record-bytes .ensures) (c .before .before .before .observe .ensures) e _ e)
+    (_, watching-more (at .before .before .loop .inv .1) (here at) (c .before .before .before .observe .ensures) e _ e)
 
 returns-2 : tie.Need-returns-2 Inv-loop μ-loop
 returns-2 c = followed-end (c .before .loop .inv .1) (c .loop-test .left)

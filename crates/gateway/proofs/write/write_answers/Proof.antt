@@ -3,6 +3,8 @@ use Prim.Native.Nat.{_-_}
 use native.Mathlib.Omega.{arith}
 use lib.ListN.{length}
 use borrow.Author.Needs.{needs}
+use Rattle.records.specs.Record.{TheRecord}
+use Rattle.records.proofs.record.Span.{the-record}
 use Rattle.gateway.proofs.write.Laws.{Writing, writing-start, writing-more, entry-room, same-size, written-end, written-refused}
 use Rattle.gateway.proofs.write.write_answers.Statement.{statement}
 use Rattle.gateway.proofs.write.write_answers.Tie as tie
@@ -19,6 +21,10 @@ loop-holds c = writing-start _ _ _ _
 record-bytes-requires : tie.Need-record-bytes-requires Inv-loop μ-loop
 record-bytes-requires c κs = search needs
 
+-- the record at this place of the log
+here : (c : tie.After-record-bytes Inv-loop μ-loop) → TheRecord (c .before .before .before .before .before .before .args .log .now) (c .before .before .loop .at) (c .record-bytes .result .now)
+here c = the-record _ _ (c .record-bytes .ensures) (c .before .loop-test .taken)
+
 observe-requires : tie.Need-observe-requires Inv-loop μ-loop
 observe-requires c κs = search needs
 
@@ -31,7 +37,7 @@ same-length c = same-size (c .before .before .before .before .before .before .lo
 returns : tie.Need-returns Inv-loop μ-loop
 returns c =
     let at = c .before .before .before .before in
-    written-refused (at .before .before .loop .inv) (at .record-bytes .ensures) (c .before .before .before .observe .ensures) (c .enum-told .given .1)
+    written-refused (at .before .before .loop .inv) (here at) (c .before .before .before .observe .ensures) (c .enum-told .given .1)
 
 enum-known-reply : tie.Need-enum-known-reply Inv-loop μ-loop
 enum-known-reply c = search needs
@@ -42,7 +48,7 @@ mul-put-entry c =
     let at = told .before .before .before .before in
     let head = at .before .before in
     let start = head .before .before .before .before in
-    let room = entry-room (head .loop .inv) (at .record-bytes .ensures) (told .before .before .before .observe .ensures) (told .reply .given .1) (start .pre) in
+    let room = entry-room (head .loop .inv) (here at) (told .before .before .before .observe .ensures) (told .reply .given .1) (start .pre) in
     omega (arith, room .0, same-size (head .loop .inv), start .good)
 
 put-entry-requires : tie.Need-put-entry-requires Inv-loop μ-loop
@@ -51,23 +57,23 @@ put-entry-requires c κs =
     let at = told .before .before .before .before in
     let head = at .before .before in
     let start = head .before .before .before .before in
-    entry-room (head .loop .inv) (at .record-bytes .ensures) (told .before .before .before .observe .ensures) (told .reply .given .1) (start .pre)
+    entry-room (head .loop .inv) (here at) (told .before .before .before .observe .ensures) (told .reply .given .1) (start .pre)
 
 add-instants : tie.Need-add-instants Inv-loop μ-loop
 add-instants c = search needs
 
 add-at : tie.Need-add-at Inv-loop μ-loop
-add-at c = search needs
+add-at c = omega (arith, here (c .before .before .before .before .before .before .before .before .before) .within)
 
 loop-less : tie.Need-loop-less Inv-loop μ-loop
-loop-less c = search needs
+loop-less c = omega (arith, here (c .before .before .before .before .before .before .before .before .before) .some)
 
 loop-again : tie.Need-loop-again Inv-loop μ-loop
 loop-again c =
     let told = c .before .before .before .before .before in
     let at = told .before .before .before .before in
     let head = at .before .before in
-    writing-more (head .loop .inv) (at .record-bytes .ensures) (told .before .before .before .observe .ensures) (told .reply .given .1) (c .before .before .put-entry .ensures)
+    writing-more (head .loop .inv) (here at) (told .before .before .before .observe .ensures) (told .reply .given .1) (c .before .before .put-entry .ensures)
 
 same-length-2 : tie.Need-same-length-2 Inv-loop μ-loop
 same-length-2 c = same-size (c .before .loop .inv)

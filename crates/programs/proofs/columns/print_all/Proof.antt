@@ -1,7 +1,10 @@
 -- `print_all` is safe and ends: each turn takes a record of the log, which has at least a byte and lies within it; an instant that was read has at most eight clocks. Assumes nothing.
 use Prim.Native.Nat.{_-_}
+use native.Mathlib.Omega.{arith}
 use lib.ListN.{length}
 use borrow.Author.Needs.{needs}
+use Rattle.records.specs.Record.{TheRecord}
+use Rattle.records.proofs.record.Span.{the-record}
 use Rattle.programs.proofs.columns.Laws.{clocks-at-most-eight}
 use Rattle.programs.proofs.columns.print_all.Statement.{statement}
 use Rattle.programs.proofs.columns.print_all.Tie as tie
@@ -17,6 +20,10 @@ loop-holds c = search needs
 
 record-bytes-requires : tie.Need-record-bytes-requires Inv-loop μ-loop
 record-bytes-requires c κs = search needs
+
+-- the record at this place of the log
+here : (c : tie.After-record-bytes Inv-loop μ-loop) → TheRecord (c .before .before .before .before .args .log .now) (c .before .before .loop .at) (c .record-bytes .result .now)
+here c = the-record _ _ (c .record-bytes .ensures) (c .before .loop-test .taken)
 
 read-instant-requires : tie.Need-read-instant-requires Inv-loop μ-loop
 read-instant-requires c κs = search needs
@@ -46,10 +53,10 @@ add-taken : tie.Need-add-taken Inv-loop μ-loop
 add-taken c = search needs
 
 add-at : tie.Need-add-at Inv-loop μ-loop
-add-at c = search needs
+add-at c = omega (arith, here (c .before .before .before .before .before .before .before) .within)
 
 loop-less : tie.Need-loop-less Inv-loop μ-loop
-loop-less c = search needs
+loop-less c = omega (arith, here (c .before .before .before .before .before .before .before) .some)
 
 loop-again : tie.Need-loop-again Inv-loop μ-loop
 loop-again c = search needs
