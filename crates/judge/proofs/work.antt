@@ -6,3 +6,6 @@ pub mod Counted
 pub mod Gather
 pub mod Settle
 pub mod Found
+pub mod Listed
+pub mod Carried
+pub mod Heed

@@ -12,7 +12,7 @@ use Rattle.records.specs.declared.instant.Instant.{Instant}
 use Rattle.records.specs.Outcome.{taken}
 use Rattle.records.specs.Sheet.{SheetValue, sheetValue}
 use Rattle.tesl.specs.Lists.{all, flatMap}
-use Rattle.tesl.specs.Fits.{owedAtStart}
+use Rattle.tesl.specs.Fits.{Obligation, owedAtStart}
 use Rattle.tesl.specs.Remainder.{Remainder}
 use Rattle.theory.specs.Step.{wellFormed}
 use Rattle.judge.specs.declared.answer.Reply.the-variants as reply
@@ -22,7 +22,7 @@ use Rattle.judge.specs.declared.monitor.Given.{Given}
 use Rattle.judge.specs.View.{cut, heldOf, liveOf, seenOf, tagsBefore, sized}
 use Rattle.judge.specs.Lines.{smallLeads}
 use Rattle.judge.specs.Work.{addedAll, worked}
-use Rattle.judge.specs.Start.{blankRemainder}
+use Rattle.judge.specs.Start.{firstOwing}
 use Rattle.judge.specs.Answer.{replyOf, saidBy}
 
 -- the sheet's value, the remainders held, and what they say: the last answer
@@ -53,8 +53,8 @@ pub record Workable (m : Monitor) : Type 0 where
 pub record Begins (s : Sheet) (m : Monitor) : Type 0 where
   pub sheet : m .sheet ≡ s
   pub instants : m .instants ≡ 0
-  pub held : (q : Remainder) → addedAll (flatMap owedAtStart (sheetValue s .lines)) blankRemainder ≡ some q
-      → heldBy m ≡ some (cut (sheetValue s) q ∷ [])
+  pub held : (os : List Obligation) → addedAll (flatMap owedAtStart (sheetValue s .lines)) [] ≡ some os
+      → heldBy m ≡ some (cut (sheetValue s) (firstOwing os) ∷ [])
   pub fits : T (sized (m .held))
 
 -- a monitor after an accepted instant, and its answer

@@ -1,8 +1,9 @@
--- The remainder of no instant and no line, in arrays: nothing is owed, no clock leads, none is stopped.
+-- A remainder of no instant, in arrays: it owes these obligations, no clock leads, none is stopped.
 use mathlib.Core.Bool.{false}
-use mathlib.Core.List.{[]}
+use mathlib.Core.List.{List}
 use lib.ListN.{replicate}
+use Rattle.tesl.specs.Fits.{Obligation}
 use Rattle.tesl.specs.Remainder.{Remainder}
 
-abbrev pub blankRemainder : Remainder
-blankRemainder = record { owed = []; leads = replicate 16 0; stopped = replicate 8 false }
+abbrev pub firstOwing : List Obligation → Remainder
+firstOwing os = record { owed = os; leads = replicate 16 0; stopped = replicate 8 false }

@@ -19,9 +19,10 @@ use Rattle.theory.specs.Step.{nextLeads}
 use Rattle.judge.specs.declared.obligation.Obligation as code
 use Rattle.judge.specs.declared.line.Begun.{Begun}
 use Rattle.judge.specs.declared.line.Begun.the-variants.{Nothing, Owed}
+use Rattle.judge.specs.declared.owed.Owed as apart
+use Rattle.judge.specs.declared.owed.Added.{Added}
+use Rattle.judge.specs.declared.owed.Kept.{Kept}
 use Rattle.judge.specs.declared.remainder.Remainder as arrays
-use Rattle.judge.specs.declared.remainder.Added.{Added}
-use Rattle.judge.specs.declared.remainder.Kept.{Kept}
 use Rattle.judge.specs.declared.started.Started.{Started}
 use Rattle.judge.specs.declared.advance.Step.{Step}
 use Rattle.judge.specs.declared.advance.Step.the-variants as step
@@ -56,11 +57,15 @@ owedOf r = firstOf (r .owed) (r .obligations)
 abbrev pub remainderOf : arrays.Remainder → Remainder
 remainderOf r = record { owed = owedOf r; leads = r .leads; stopped = r .stopped }
 
-abbrev pub addedOf : Added → Option Remainder
-addedOf s = cond (s .over) none (some (remainderOf (s .next)))
+-- what is owed, apart from the rest
+abbrev pub owedIn : apart.Owed → List Obligation
+owedIn r = firstOf (r .count) (r .obligations)
 
-abbrev pub keptOf : Kept → Option Remainder
-keptOf s = cond (s .late) none (some (remainderOf (s .next)))
+abbrev pub addedOf : Added → Option (List Obligation)
+addedOf s = cond (s .over) none (some (owedIn (s .owed)))
+
+abbrev pub keptOf : Kept → Option (List Obligation)
+keptOf s = cond (s .late) none (some (owedIn (s .owed)))
 
 -- ---- the places in use
 

@@ -18,7 +18,7 @@ use Rattle.judge.specs.Advanced.{Advanced, fails, over, onto}
 use Rattle.judge.specs.View.{filledOf}
 use Rattle.judge.specs.Questions.{tagsHold, ticksHold, carriedHolds, leadAfter}
 use Rattle.judge.specs.Lines.{allStopped}
-use Rattle.judge.specs.Owed.{added, kept}
+use Rattle.judge.specs.Owed.{owing, added, kept}
 
 -- ---- one remainder
 
@@ -27,26 +27,27 @@ onward go none = none
 onward go (some x) = go x
 
 -- one obligation after the other
-abbrev pub addedAll : List Obligation → Remainder → Option Remainder
-addedAll [] r = some r
-addedAll (o ∷ os) r = onward (addedAll os) (added r o)
+abbrev pub addedAll : List Obligation → List Obligation → Option (List Obligation)
+addedAll [] os = some os
+addedAll (o ∷ begun) os = onward (addedAll begun) (added os o)
 
 -- the leads and stopped clocks after an instant
 abbrev pub carried : SheetValue → List Bool → Remainder → Remainder
 carried v ticks r = record { owed = r .owed; leads = nextLeads (leadAfter ticks) (v .lines) (r .leads); stopped = allStopped ticks (v .lines) (r .stopped) }
 
-abbrev pub withBegun : SheetValue → List Bool → Option Remainder → Advanced
-withBegun v ticks none = over
-withBegun v ticks (some r) = onto (carried v ticks r)
+-- r owes os after it
+abbrev pub withBegun : SheetValue → List Bool → Remainder → Option (List Obligation) → Advanced
+withBegun v ticks r none = over
+withBegun v ticks r (some os) = onto (carried v ticks (owing os r))
 
-abbrev pub withKept : SheetValue → List Bool → List Obligation → Option Remainder → Advanced
-withKept v ticks begun none = fails
-withKept v ticks begun (some r) = withBegun v ticks (addedAll begun r)
+abbrev pub withKept : SheetValue → List Bool → List Obligation → Remainder → Option (List Obligation) → Advanced
+withKept v ticks begun r none = fails
+withKept v ticks begun r (some os) = withBegun v ticks r (addedAll begun os)
 
 -- by what is carried, what is met or late, and what is begun
 unfoldable pub advanced : SheetValue → Filled → List Obligation → Remainder → Advanced
 advanced v f begun r =
-    cond (linesOk (carriedHolds (f .ticks) (r .stopped)) (v .lines) (r .leads)) (withKept v (f .ticks) begun (kept f r)) fails
+    cond (linesOk (carriedHolds (f .ticks) (r .stopped)) (v .lines) (r .leads)) (withKept v (f .ticks) begun r (kept f (r .owed))) fails
 
 -- ---- those held
 

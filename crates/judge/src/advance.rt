@@ -2,10 +2,14 @@
 use crate::lines::all_carried_hold;
 use crate::lines::all_leads_after;
 use crate::lines::all_stopped_after;
-use crate::remainder::Added;
+use crate::obligation::is_late;
+use crate::obligation::is_met;
+use crate::owed::Kept;
+use crate::owed::Owed;
+use crate::owed::add_all;
+use crate::owed::push;
 use crate::remainder::Remainder;
-use crate::remainder::add;
-use crate::remainder::keep;
+use crate::remainder::owed_count;
 use crate::started::Started;
 use records::sheet::Sheet;
 ghost use mathlib.Core.Path.{_≡_};
@@ -13,9 +17,10 @@ ghost use Prim.Native.Nat.{_≤_};
 ghost use lib.Dec.{T};
 ghost use Rattle.records.specs.Sheet.{sheetValue};
 ghost use Rattle.theory.specs.Step.{wellFormed};
-ghost use Rattle.judge.specs.View.{filledOf, remainderOf, viewOf, startedOf, addedOf, advancedOf, stepSized};
+ghost use Rattle.judge.specs.View.{filledOf, owedOf, owedIn, viewOf, startedOf, keptOf, advancedOf, stepSized};
 ghost use Rattle.judge.specs.Lines.{smallLeads};
-ghost use Rattle.judge.specs.Work.{addedAll, carried, advanced};
+ghost use Rattle.judge.specs.Owed.{owing, kept};
+ghost use Rattle.judge.specs.Work.{carried, advanced};
 
 // Whether a remainder goes on. Fails: a line or a late obligation forbids it; over: it would owe a ninth obligation.
 pub enum Step {
@@ -30,33 +35,38 @@ pub struct Advanced {
     pub next: Remainder,
 }
 
-// A remainder with the obligations that the lines begin.
-fn add_all(r: Remainder, started: Started) -> Added
-    requires { ⌜ started .count ≤ 16 ⌝ }
-    ensures { λ s. ⌜ (addedOf s ≡ addedAll (startedOf started) (remainderOf r)) × (r .owed ≤ 8 → s .next .owed ≤ 8) ⌝ }
+// What r owes that a filled instant doesn't meet.
+fn keep(r: Remainder, ticks: [bool; 8], tags: [i16; 8]) -> Kept
+    ensures { λ s. ⌜ (keptOf s ≡ kept (filledOf ticks tags) (owedOf r)) × (s .owed .count ≤ 8) ⌝ }
 {
-    let n = started.count;
-    let mut next = r;
+    let n = owed_count(r);
+    let obligations = r.obligations;
+    let mut owed = Owed {
+        count: 0,
+        obligations,
+    };
     let mut i = 0;
     while i < n {
-        let o = started.obligations[i];
-        let step = add(next, o);
-        if step.over {
-            return step;
-        }
-        next = step.next;
+        let o = r.obligations[i];
         i += 1;
+        if is_met(o, ticks, tags) {
+            continue;
+        }
+        if is_late(o, tags) {
+            return Kept { late: true, owed };
+        }
+        owed = push(owed, o);
     }
-    Added { over: false, next }
+    Kept { late: false, owed }
 }
 
-// What a remainder owes after an instant beside what it carries on.
-fn carry(s: Sheet, ticks: [bool; 8], r: Remainder) -> Remainder
+// What is owed after an instant beside what r carries on.
+fn carry(s: Sheet, ticks: [bool; 8], r: Remainder, o: Owed) -> Remainder
     requires { ⌜ (s .count ≤ 16) × T (smallLeads (viewOf (sheetValue s) r)) ⌝ }
-    ensures { λ q. ⌜ (viewOf (sheetValue s) q ≡ carried (sheetValue s) ticks (viewOf (sheetValue s) r)) × (q .owed ≡ r .owed) ⌝ }
+    ensures { λ q. ⌜ (viewOf (sheetValue s) q ≡ carried (sheetValue s) ticks (owing (owedIn o) (viewOf (sheetValue s) r))) × (q .owed ≡ o .count) ⌝ }
 {
-    let owed = r.owed;
-    let obligations = r.obligations;
+    let owed = o.count;
+    let obligations = o.obligations;
     let before = r.leads;
     let leads = all_leads_after(s, ticks, before);
     let ended = r.stopped;
@@ -94,7 +104,7 @@ pub(crate) fn advance(
             next: r,
         };
     }
-    let left = kept.next;
+    let left = kept.owed;
     let added = add_all(left, started);
     if added.over {
         return Advanced {
@@ -102,8 +112,8 @@ pub(crate) fn advance(
             next: r,
         };
     }
-    let owing = added.next;
-    let next = carry(s, ticks, owing);
+    let owed = added.owed;
+    let next = carry(s, ticks, r, owed);
     Advanced {
         step: Step::Fits,
         next,

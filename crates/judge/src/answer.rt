@@ -4,12 +4,18 @@ use crate::held::Held;
 use crate::remainder::owed_count;
 use crate::settle::live_count;
 ghost use mathlib.Core.Path.{_≡_};
+ghost use mathlib.Core.Bool.{Bool};
+ghost use mathlib.Core.List.{List};
+ghost use Prim.Native.Nat.{ℕ, _≤_};
 ghost use lib.Dec.{T, eqb};
+ghost use lib.IntN.{ℤ};
+ghost use lib.ListN.{length};
 ghost use Rattle.records.specs.Sheet.{SheetValue};
 ghost use Rattle.tesl.specs.Lists.{any};
 ghost use Rattle.tesl.specs.Remainder.{Remainder, owes};
 ghost use Rattle.judge.specs.View.{heldOf, liveOf, sized};
 ghost use Rattle.judge.specs.Answer.{answerOf, saidBy};
+ghost use Rattle.judge.specs.Rows.{rows, rowsOf, foundIn, SmallIn};
 
 // live: how many distinct remainders; clear: one of them has no obligation.
 pub enum Answer {
@@ -56,6 +62,40 @@ pub(crate) fn say(h: Held) -> Answer
             Answer::Holding {
                 live: n,
                 clear: is_clear(h),
+            }
+        }
+    }
+}
+
+// One of the first n rows has no obligation.
+fn is_clear_in(n: usize, marks: &[u8]) -> bool
+    requires { ⌜ (length (now marks) ≡ 544) × (n ≤ 32) ⌝ }
+    ensures { λ r. ⌜ ((v : SheetValue) (dues : List ℤ) (leads : List ℕ) (stopped : List Bool) → r ≡ any (λ (q : Remainder). eqb (owes q) 0) (rowsOf v n (rows (now (marks .entry)) dues leads stopped))) ⌝ }
+{
+    let mut i = 0;
+    while i < n {
+        if marks[17 * i] == 0 {
+            return true;
+        }
+        i += 1;
+    }
+    false
+}
+
+// What those in rows say.
+pub(crate) fn say_rows(count: Count, marks: &[u8]) -> Answer
+    requires { ⌜ (length (now marks) ≡ 544) × SmallIn count 32 (now marks) ⌝ }
+    ensures { λ r. ⌜ ((v : SheetValue) (dues : List ℤ) (leads : List ℕ) (stopped : List Bool) → answerOf r ≡ saidBy (foundIn v count (rows (now (marks .entry)) dues leads stopped))) ⌝ }
+{
+    match count {
+        Count::Exhausted => Answer::Exhausted,
+        Count::Live(n) => {
+            if n == 0 {
+                return Answer::Broken;
+            }
+            Answer::Holding {
+                live: n,
+                clear: is_clear_in(n, marks),
             }
         }
     }

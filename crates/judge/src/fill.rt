@@ -1,52 +1,42 @@
 // The fillings of an instant, and what the remainders held become by them.
+use crate::heed::heed;
 use crate::held::Count;
 use crate::held::Held;
 use crate::held::clocks_of;
+use crate::held::leading_of;
+use crate::held::reach_of;
 use crate::lines::all_tags_hold;
-use crate::lines::all_ticks_hold;
 use crate::lines::none_falls;
-use crate::settle::settle;
-use crate::started::start_all;
+use crate::rules::Rules;
+use crate::rules::all_hold;
+use crate::rules::is_cut;
+use crate::rules::rules_of;
+use crate::settle::from_rows;
+use crate::settle::settle_all;
+use crate::settle::to_rows;
 use records::instant::Instant;
 use records::instant::Tick;
 use records::instant::TickSlot;
 use records::sheet::Sheet;
 ghost use mathlib.Core.Path.{_≡_};
 ghost use mathlib.Core.Bool.{true, _&&_};
-ghost use mathlib.Core.List.{[]};
+ghost use mathlib.Core.List.{_∷_, [], _++_};
 ghost use mathlib.Core.Option.{some};
-ghost use Prim.Native.Nat.{_≤_, _<_};
+ghost use Prim.Native.Nat.{_+_, _≤_, _<_};
 ghost use lib.Dec.{T};
-ghost use lib.ListN.{drop, set};
+ghost use lib.ListN.{drop, length, set};
 ghost use Rattle.records.specs.Sheet.{SheetValue, sheetValue};
 ghost use Rattle.records.specs.Instant.{tickAt};
-ghost use Rattle.tesl.specs.Lists.{all};
+ghost use Rattle.tesl.specs.Lists.{all, filter};
 ghost use Rattle.tesl.specs.Fits.{noneFalls};
 ghost use Rattle.theory.specs.Step.{wellFormed};
-ghost use Rattle.judge.specs.View.{heldOf, liveOf, isNone, seenOf, sized, tagsBefore};
+ghost use Rattle.judge.specs.View.{heldOf, liveOf, seenOf, sized, tagsBefore};
 ghost use Rattle.judge.specs.Questions.{tagsHold};
 ghost use Rattle.judge.specs.Lines.{smallLeads};
-ghost use Rattle.judge.specs.Work.{filling, fillFrom, worked};
-
-// A filling of all clocks, unless a line forbids its ticks.
-fn end_filling(
-    room: usize,
-    s: Sheet,
-    ticks: [bool; 8],
-    tags: [i16; 8],
-    h: Held,
-    found: Held,
-) -> Held
-    requires { ⌜ (room ≤ 32) × ((s .count ≤ 16) × ((s .clocks ≤ 8) × (T (all smallLeads (liveOf (sheetValue s) h)) × (T (sized h) × (T (sized found) × T (wellFormed (sheetValue s))))))) ⌝ }
-    ensures { λ r. ⌜ (heldOf (sheetValue s) r ≡ filling room (sheetValue s) tags (liveOf (sheetValue s) h) (heldOf (sheetValue s) found) ticks) × T (sized r) ⌝ }
-{
-    if all_ticks_hold(s, ticks) {
-        let started = start_all(s, ticks, tags);
-        settle(room, s, ticks, tags, started, h, found)
-    } else {
-        found
-    }
-}
+ghost use Rattle.judge.specs.Rules.{isRule, rulesIn, allowed};
+ghost use Rattle.judge.specs.Fillings.{fillingsFrom, fillingIn, fillingsIn};
+ghost use Rattle.judge.specs.Rows.{rows, Roomy, rowsOf, foundIn, Small, SmallIn, Leading};
+ghost use Rattle.judge.specs.Work.{worked};
 
 fn seen_at(seen: [TickSlot; 8], k: usize) -> Tick
     requires { ⌜ k < 8 ⌝ }
@@ -66,47 +56,52 @@ fn with_tick(ticks: [bool; 8], k: usize) -> [bool; 8]
     next
 }
 
-fn is_exhausted(h: Held) -> bool
-    ensures { λ r. ⌜ ((v : SheetValue) → r ≡ isNone (heldOf v h)) ⌝ }
+// Lists a filling after the first n.
+fn put_filling(list: &mut [bool], n: usize, ticks: [bool; 8])
+    requires { ⌜ (length (now list) ≡ 2048) × (n < 256) ⌝ }
+    ensures { λ _. ⌜ (length (now (list .exit)) ≡ 2048) × (fillingsIn (now (list .exit)) (n + 1) ≡ fillingsIn (now (list .entry)) n ++ (ticks ∷ [])) ⌝ }
 {
-    let count = h.count;
-    match count {
-        Count::Exhausted => true,
-        Count::Live(_) => false,
+    let mut k = 0;
+    while k < 8 {
+        let ticks_here = ticks[k];
+        list[8 * n + k] = ticks_here;
+        k += 1;
     }
 }
 
-// The fillings of the clocks from k on: settles clock k, then those from k + 1; an unseen tick branches into idle and tick.
+// Lists the fillings of the clocks from k on that the rules allow, after the first n: settles clock k, then those from k + 1; an unseen tick branches into idle and tick.
 fn fill(
-    room: usize,
-    s: Sheet,
+    rules: Rules,
     clocks: usize,
     k: usize,
     seen: [TickSlot; 8],
     ticks: [bool; 8],
-    tags: [i16; 8],
-    h: Held,
-    found: Held,
-) -> Held
-    requires { ⌜ (room ≤ 32) × ((s .count ≤ 16) × ((s .clocks ≤ 8) × ((clocks ≤ 8) × ((k ≤ clocks) × (T (all smallLeads (liveOf (sheetValue s) h)) × (T (sized h) × (T (sized found) × T (wellFormed (sheetValue s))))))))) ⌝ }
-    ensures { λ r. ⌜ (heldOf (sheetValue s) r ≡ fillFrom (filling room (sheetValue s) tags (liveOf (sheetValue s) h)) k (drop k (seenOf clocks seen)) ticks (heldOf (sheetValue s) found)) × T (sized r) ⌝ }
+    list: &mut [bool],
+    n: usize,
+) -> usize
+    requires { ⌜ (rules .count ≤ 16) × ((clocks ≤ 8) × ((k ≤ clocks) × ((length (now list) ≡ 2048) × (n + length (fillingsFrom k (drop k (seenOf clocks seen)) ticks) ≤ 256)))) ⌝ }
+    ensures { λ r. ⌜ (length (now (list .exit)) ≡ 2048) × ((r ≤ n + length (fillingsFrom k (drop k (seenOf clocks seen)) ticks)) × (fillingsIn (now (list .exit)) r ≡ fillingsIn (now (list .entry)) n ++ filter (allowed (rulesIn rules)) (fillingsFrom k (drop k (seenOf clocks seen)) ticks))) ⌝ }
 {
-    if is_exhausted(found) {
-        return found;
-    }
     if k == clocks {
-        return end_filling(room, s, ticks, tags, h, found);
+        if all_hold(rules, ticks) {
+            put_filling(list, n, ticks);
+            return n + 1;
+        }
+        return n;
     }
     match seen_at(seen, k) {
-        Tick::Idle => fill(room, s, clocks, k + 1, seen, ticks, tags, h, found),
+        Tick::Idle => fill(rules, clocks, k + 1, seen, ticks, list, n),
         Tick::Ticks => {
             let set = with_tick(ticks, k);
-            fill(room, s, clocks, k + 1, seen, set, tags, h, found)
+            fill(rules, clocks, k + 1, seen, set, list, n)
         }
         Tick::Unseen => {
-            let idle = fill(room, s, clocks, k + 1, seen, ticks, tags, h, found);
+            if is_cut(rules, k, ticks) {
+                return n;
+            }
+            let idle = fill(rules, clocks, k + 1, seen, ticks, list, n);
             let set = with_tick(ticks, k);
-            fill(room, s, clocks, k + 1, seen, set, tags, h, idle)
+            fill(rules, clocks, k + 1, seen, set, list, idle)
         }
     }
 }
@@ -127,15 +122,60 @@ fn tags_fit(s: Sheet, first: bool, was: [i16; 8], tags: [i16; 8]) -> bool
     }
 }
 
-// No remainder is held.
-fn broken(h: Held) -> Held
-    ensures { λ r. ⌜ ((v : SheetValue) → heldOf v r ≡ some []) × T (sized r) ⌝ }
+// What the remainders held become by an instant; the list of fillings is room to work in.
+pub(crate) fn work_rows(
+    room: usize,
+    s: Sheet,
+    rules: Rules,
+    reach: usize,
+    precede: [bool; 16],
+    first: bool,
+    was: [i16; 8],
+    instant: Instant,
+    n: usize,
+    marks: &[u8],
+    dues: &[i32],
+    leads: &[u16],
+    stopped: &[bool],
+    outmarks: &mut [u8],
+    outdues: &mut [i32],
+    outleads: &mut [u16],
+    outstopped: &mut [bool],
+    list: &mut [bool],
+) -> Count
+    requires { ⌜ (room ≤ 32) × ((s .count ≤ 16) × ((s .clocks ≤ 8) × ((n ≤ 32) × ((rules .count ≤ 16) × ((rulesIn rules ≡ filter isRule (sheetValue s .lines)) × ((reach ≤ s .count) × (Leading (sheetValue s) reach precede × (Roomy (rows (now marks) (now dues) (now leads) (now stopped)) × (Small n (now marks) × (T (all smallLeads (rowsOf (sheetValue s) n (rows (now marks) (now dues) (now leads) (now stopped)))) × (Roomy (rows (now outmarks) (now outdues) (now outleads) (now outstopped)) × ((length (now list) ≡ 2048) × T (wellFormed (sheetValue s)))))))))))))) ⌝ }
+    ensures { λ r. ⌜ (foundIn (sheetValue s) r (rows (now (outmarks .exit)) (now (outdues .exit)) (now (outleads .exit)) (now (outstopped .exit))) ≡ worked room (sheetValue s) (tagsBefore first was) (seenOf (s .clocks) (instant .ticks)) (instant .tags) (some (rowsOf (sheetValue s) n (rows (now (marks .entry)) (now (dues .entry)) (now (leads .entry)) (now (stopped .entry)))))) × (Roomy (rows (now (outmarks .exit)) (now (outdues .exit)) (now (outleads .exit)) (now (outstopped .exit))) × ((length (now (list .exit)) ≡ 2048) × SmallIn r room (now (outmarks .exit)))) ⌝ }
 {
-    let remainders = h.remainders;
-    Held {
-        count: Count::Live(0),
-        remainders,
+    if n == 0 {
+        return Count::Live(0);
     }
+    let tags = instant.tags;
+    if !tags_fit(s, first, was, tags) {
+        return Count::Live(0);
+    }
+    let all = instant.ticks;
+    let seen = heed(s, n, marks, all);
+    let ticks = [false; 8];
+    let m = fill(rules, clocks_of(s), 0, seen, ticks, list, 0);
+    settle_all(
+        room,
+        s,
+        rules,
+        reach,
+        precede,
+        tags,
+        m,
+        list,
+        n,
+        marks,
+        dues,
+        leads,
+        stopped,
+        outmarks,
+        outdues,
+        outleads,
+        outstopped,
+    )
 }
 
 // What the remainders held become by an instant.
@@ -154,18 +194,58 @@ pub(crate) fn work(
     match count {
         Count::Exhausted => h,
         Count::Live(n) => {
-            if n == 0 {
-                return h;
-            }
-            let tags = instant.tags;
-            let none = broken(h);
-            if tags_fit(s, first, was, tags) {
-                let seen = instant.ticks;
-                let ticks = [false; 8];
-                let clocks = clocks_of(s);
-                fill(room, s, clocks, 0, seen, ticks, tags, h, none)
-            } else {
-                none
+            let remainders = h.remainders;
+            let mut marks = [0u8; 544];
+            let mut dues = [0i32; 256];
+            let mut leads = [0u16; 512];
+            let mut stopped = [false; 256];
+            let mut outmarks = [0u8; 544];
+            let mut outdues = [0i32; 256];
+            let mut outleads = [0u16; 512];
+            let mut outstopped = [false; 256];
+            let mut list = [false; 2048];
+            to_rows(
+                n,
+                remainders,
+                &mut marks,
+                &mut dues,
+                &mut leads,
+                &mut stopped,
+            );
+            let rules = rules_of(s);
+            let reach = reach_of(s);
+            let precede = leading_of(s);
+            let next = work_rows(
+                room,
+                s,
+                rules,
+                reach,
+                precede,
+                first,
+                was,
+                instant,
+                n,
+                &marks,
+                &dues,
+                &leads,
+                &stopped,
+                &mut outmarks,
+                &mut outdues,
+                &mut outleads,
+                &mut outstopped,
+                &mut list,
+            );
+            let after = from_rows(
+                next,
+                remainders,
+                &outmarks,
+                &outdues,
+                &outleads,
+                &outstopped,
+            );
+            Held {
+                count: next,
+                remainders: after,
             }
         }
     }

@@ -9,7 +9,6 @@ use records::number;
 use records::record::Answer;
 use records::sheet::Sheet;
 use records::sheet::check_sheet;
-use records::sheet::line_at;
 ghost use mathlib.Core.Path.{_≡_};
 ghost use mathlib.Core.Bool.{_&&_};
 ghost use Prim.Native.Nat.{ℕ, _≤_};
@@ -80,7 +79,9 @@ fn leads_within(s: Sheet, leads: [u16; 16], instants: usize) -> bool
     let mut i = 0;
     while i < n {
         let lead = leads[i];
-        if lead_within(line_at(s, i), lead, instants) {
+        let slot = s.lines[i];
+        let l = slot.line;
+        if lead_within(l, lead, instants) {
             i += 1;
         } else {
             return false;

@@ -30,7 +30,9 @@ pub(crate) fn all_tags_hold(s: Sheet, tags: [i16; 8]) -> bool
     let n = s.count;
     let mut i = 0;
     while i < n {
-        if tags_hold(line_at(s, i), tags) {
+        let slot = s.lines[i];
+        let l = slot.line;
+        if tags_hold(l, tags) {
             i += 1;
         } else {
             return false;

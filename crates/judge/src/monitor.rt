@@ -44,8 +44,7 @@ fn begin(sheet: Sheet) -> Monitor
     ensures { λ m. ⌜ Begins sheet m ⌝ }
 {
     let first = first_remainder(sheet);
-    let next = first.next;
-    let remainders = [next; 32];
+    let remainders = [first; 32];
     let held = Held {
         count: Count::Live(1),
         remainders,

@@ -1,24 +1,38 @@
-// The remainders held, one filled instant on.
-use crate::advance::Advanced;
-use crate::advance::Step;
-use crate::advance::advance;
+// The remainders held, filling by filling of an instant, in lent arrays.
 use crate::held::Count;
 use crate::held::Held;
-use crate::held::exhaust;
-use crate::held::insert;
-use crate::started::Started;
+use crate::held::clocks_of;
+use crate::leads::all_leads;
+use crate::owed::add_all;
+use crate::remainder::Remainder;
+use crate::rows::is_among;
+use crate::rows::is_barred;
+use crate::rows::keep_row;
+use crate::rows::leads_hold;
+use crate::rows::leads_on;
+use crate::rows::put_row;
+use crate::rows::row_at;
+use crate::rows::stopped_on;
+use crate::rules::Rules;
+use crate::rules::all_barred;
+use crate::rules::all_stops;
+use crate::started::start_all;
 use records::sheet::Sheet;
 ghost use mathlib.Core.Path.{_≡_};
-ghost use mathlib.Core.List.{map};
-ghost use Prim.Native.Nat.{ℕ, _≤_};
-ghost use lib.Dec.{T};
+ghost use mathlib.Core.List.{[], map};
+ghost use mathlib.Core.Option.{some};
+ghost use Prim.Native.Nat.{ℕ, _≤_, _<_};
+ghost use lib.Dec.{T, leb};
 ghost use lib.ListN.{length, take};
 ghost use Rattle.records.specs.Sheet.{SheetValue, sheetValue};
-ghost use Rattle.tesl.specs.Lists.{all};
+ghost use Rattle.tesl.specs.Lists.{all, filter};
 ghost use Rattle.theory.specs.Step.{wellFormed};
-ghost use Rattle.judge.specs.View.{filledOf, viewOf, startedOf, advancedOf, stepSized, heldOf, liveOf, sized};
+ghost use Rattle.judge.specs.declared.remainder.Remainder as arrays;
+ghost use Rattle.judge.specs.View.{viewOf, heldIn, liveOf, sized, sizedIn};
 ghost use Rattle.judge.specs.Lines.{smallLeads};
-ghost use Rattle.judge.specs.Work.{took, settledAll};
+ghost use Rattle.judge.specs.Rules.{isRule, rulesIn};
+ghost use Rattle.judge.specs.Fillings.{fillingIn, fillingsIn, takenBy, settling};
+ghost use Rattle.judge.specs.Rows.{rows, Roomy, rowsOf, foundIn, Small, SmallIn, Leading};
 
 // How many are held.
 pub(crate) fn live_count(h: Held) -> usize
@@ -32,44 +46,218 @@ pub(crate) fn live_count(h: Held) -> usize
     }
 }
 
-// What was found, with what one remainder becomes.
-fn take_in(room: usize, s: Sheet, found: Held, a: Advanced) -> Held
-    requires { ⌜ (room ≤ 32) × ((s .count ≤ 16) × ((s .clocks ≤ 8) × (T (stepSized (a .step) (a .next .owed)) × T (sized found)))) ⌝ }
-    ensures { λ r. ⌜ (heldOf (sheetValue s) r ≡ took room (heldOf (sheetValue s) found) (advancedOf (sheetValue s) a)) × T (sized r) ⌝ }
+// Those found, with what each of n rows becomes by a filling that the rules allow. What depends on the filling alone comes first; a row that it doesn't fit is left at once.
+fn settle(
+    room: usize,
+    s: Sheet,
+    rules: Rules,
+    reach: usize,
+    precede: [bool; 16],
+    ticks: [bool; 8],
+    tags: [i16; 8],
+    n: usize,
+    marks: &[u8],
+    dues: &[i32],
+    leads: &[u16],
+    stopped: &[bool],
+    found: usize,
+    outmarks: &mut [u8],
+    outdues: &mut [i32],
+    outleads: &mut [u16],
+    outstopped: &mut [bool],
+) -> Count
+    requires { ⌜ (room ≤ 32) × ((s .count ≤ 16) × ((s .clocks ≤ 8) × ((rules .count ≤ 16) × ((rulesIn rules ≡ filter isRule (sheetValue s .lines)) × ((n ≤ 32) × ((found ≤ room) × ((reach ≤ s .count) × (Leading (sheetValue s) reach precede × (Roomy (rows (now marks) (now dues) (now leads) (now stopped)) × (Small n (now marks) × (T (all smallLeads (rowsOf (sheetValue s) n (rows (now marks) (now dues) (now leads) (now stopped)))) × (Roomy (rows (now outmarks) (now outdues) (now outleads) (now outstopped)) × (Small found (now outmarks) × T (wellFormed (sheetValue s))))))))))))))) ⌝ }
+    ensures { λ r. ⌜ (foundIn (sheetValue s) r (rows (now (outmarks .exit)) (now (outdues .exit)) (now (outleads .exit)) (now (outstopped .exit))) ≡ settling room (sheetValue s) tags (rowsOf (sheetValue s) n (rows (now (marks .entry)) (now (dues .entry)) (now (leads .entry)) (now (stopped .entry)))) (some (rowsOf (sheetValue s) found (rows (now (outmarks .entry)) (now (outdues .entry)) (now (outleads .entry)) (now (outstopped .entry))))) ticks) × (Roomy (rows (now (outmarks .exit)) (now (outdues .exit)) (now (outleads .exit)) (now (outstopped .exit))) × SmallIn r room (now (outmarks .exit))) ⌝ }
 {
-    let step = a.step;
-    match step {
-        Step::Fails => found,
-        Step::Over => exhaust(found),
-        Step::Fits => {
-            let next = a.next;
-            insert(room, s, found, next)
+    let clocks = clocks_of(s);
+    let started = start_all(s, ticks, tags);
+    let barred = all_barred(rules, ticks);
+    let stops = all_stops(rules, ticks);
+    let asked = all_leads(s, reach, ticks);
+    let needs = asked.needs;
+    let gains = asked.gains;
+    let losses = asked.losses;
+    let mut live = found;
+    let mut i = 0;
+    while i < n {
+        let at = i;
+        i += 1;
+        if is_barred(stopped, at, barred) {
+            continue;
         }
+        if !leads_hold(reach, needs, leads, at) {
+            continue;
+        }
+        let kept = keep_row(marks, dues, at, ticks, tags);
+        if kept.late {
+            continue;
+        }
+        let left = kept.owed;
+        let added = add_all(left, started);
+        if added.over {
+            return Count::Exhausted;
+        }
+        let owing = added.owed;
+        let owed = owing.count;
+        let obligations = owing.obligations;
+        let leads_after = leads_on(reach, gains, losses, leads, at);
+        let stopped_after = stopped_on(stopped, at, stops);
+        let x = Remainder {
+            owed,
+            obligations,
+            leads: leads_after,
+            stopped: stopped_after,
+        };
+        if is_among(
+            clocks,
+            reach,
+            precede,
+            outmarks,
+            outdues,
+            outleads,
+            outstopped,
+            live,
+            x,
+        ) {
+            continue;
+        }
+        if room <= live {
+            return Count::Exhausted;
+        }
+        put_row(outmarks, outdues, outleads, outstopped, live, x);
+        live += 1;
+    }
+    Count::Live(live)
+}
+
+// Filling f of a list of fillings.
+fn filling_at(list: &[bool], f: usize) -> [bool; 8]
+    requires { ⌜ (length (now list) ≡ 2048) × (f < 256) ⌝ }
+    ensures { λ r. ⌜ r ≡ fillingIn (now (list .entry)) f ⌝ }
+{
+    let mut ticks = [false; 8];
+    let mut k = 0;
+    while k < 8 {
+        let ticks_here = list[8 * f + k];
+        ticks[k] = ticks_here;
+        k += 1;
+    }
+    ticks
+}
+
+// What n rows become by m listed fillings.
+pub(crate) fn settle_all(
+    room: usize,
+    s: Sheet,
+    rules: Rules,
+    reach: usize,
+    precede: [bool; 16],
+    tags: [i16; 8],
+    m: usize,
+    list: &[bool],
+    n: usize,
+    marks: &[u8],
+    dues: &[i32],
+    leads: &[u16],
+    stopped: &[bool],
+    outmarks: &mut [u8],
+    outdues: &mut [i32],
+    outleads: &mut [u16],
+    outstopped: &mut [bool],
+) -> Count
+    requires { ⌜ (room ≤ 32) × ((s .count ≤ 16) × ((s .clocks ≤ 8) × ((rules .count ≤ 16) × ((rulesIn rules ≡ filter isRule (sheetValue s .lines)) × ((reach ≤ s .count) × ((n ≤ 32) × ((m ≤ 256) × (Leading (sheetValue s) reach precede × ((length (now list) ≡ 2048) × (Roomy (rows (now marks) (now dues) (now leads) (now stopped)) × (Small n (now marks) × (T (all smallLeads (rowsOf (sheetValue s) n (rows (now marks) (now dues) (now leads) (now stopped)))) × (Roomy (rows (now outmarks) (now outdues) (now outleads) (now outstopped)) × T (wellFormed (sheetValue s))))))))))))))) ⌝ }
+    ensures { λ r. ⌜ (foundIn (sheetValue s) r (rows (now (outmarks .exit)) (now (outdues .exit)) (now (outleads .exit)) (now (outstopped .exit))) ≡ takenBy (settling room (sheetValue s) tags (rowsOf (sheetValue s) n (rows (now (marks .entry)) (now (dues .entry)) (now (leads .entry)) (now (stopped .entry))))) (fillingsIn (now (list .entry)) m) (some [])) × (Roomy (rows (now (outmarks .exit)) (now (outdues .exit)) (now (outleads .exit)) (now (outstopped .exit))) × SmallIn r room (now (outmarks .exit))) ⌝ }
+{
+    let mut live = 0;
+    let mut f = 0;
+    while f < m {
+        let ticks = filling_at(list, f);
+        f += 1;
+        match settle(
+            room,
+            s,
+            rules,
+            reach,
+            precede,
+            ticks,
+            tags,
+            n,
+            marks,
+            dues,
+            leads,
+            stopped,
+            live,
+            outmarks,
+            outdues,
+            outleads,
+            outstopped,
+        ) {
+            Count::Exhausted => {
+                return Count::Exhausted;
+            }
+            Count::Live(more) => {
+                live = more;
+            }
+        }
+    }
+    Count::Live(live)
+}
+
+// Stores the first n remainders in rows.
+pub(crate) fn to_rows(
+    n: usize,
+    remainders: [Remainder; 32],
+    marks: &mut [u8],
+    dues: &mut [i32],
+    leads: &mut [u16],
+    stopped: &mut [bool],
+)
+    requires { ⌜ (n ≤ 32) × (T (all (λ (r : arrays.Remainder). leb (r .owed) 8) (take n remainders)) × Roomy (rows (now marks) (now dues) (now leads) (now stopped))) ⌝ }
+    ensures { λ _. ⌜ Roomy (rows (now (marks .exit)) (now (dues .exit)) (now (leads .exit)) (now (stopped .exit))) × (Small n (now (marks .exit)) × ((v : SheetValue) → rowsOf v n (rows (now (marks .exit)) (now (dues .exit)) (now (leads .exit)) (now (stopped .exit))) ≡ map (viewOf v) (take n remainders))) ⌝ }
+{
+    let mut i = 0;
+    while i < n {
+        let r = remainders[i];
+        put_row(marks, dues, leads, stopped, i, r);
+        i += 1;
     }
 }
 
-// What was found, with what each remainder held becomes by a filled instant.
-pub(crate) fn settle(
-    room: usize,
-    s: Sheet,
-    ticks: [bool; 8],
-    tags: [i16; 8],
-    started: Started,
-    h: Held,
-    found: Held,
-) -> Held
-    requires { ⌜ (room ≤ 32) × ((s .count ≤ 16) × ((s .clocks ≤ 8) × ((started .count ≤ 16) × (T (all smallLeads (liveOf (sheetValue s) h)) × (T (sized h) × (T (sized found) × T (wellFormed (sheetValue s)))))))) ⌝ }
-    ensures { λ r. ⌜ (heldOf (sheetValue s) r ≡ settledAll room (sheetValue s) (filledOf ticks tags) (startedOf started) (liveOf (sheetValue s) h) (heldOf (sheetValue s) found)) × T (sized r) ⌝ }
+// The remainders of the rows found, at the front of an array.
+pub(crate) fn from_rows(
+    count: Count,
+    blank: [Remainder; 32],
+    marks: &[u8],
+    dues: &[i32],
+    leads: &[u16],
+    stopped: &[bool],
+) -> [Remainder; 32]
+    requires { ⌜ Roomy (rows (now marks) (now dues) (now leads) (now stopped)) × SmallIn count 32 (now marks) ⌝ }
+    ensures { λ r. ⌜ ((v : SheetValue) → heldIn v count r ≡ foundIn v count (rows (now (marks .entry)) (now (dues .entry)) (now (leads .entry)) (now (stopped .entry)))) × T (sizedIn count r) ⌝ }
 {
-    let n = live_count(h);
-    let mut next = found;
+    match count {
+        Count::Exhausted => blank,
+        Count::Live(n) => copy_rows(n, blank, marks, dues, leads, stopped),
+    }
+}
+
+fn copy_rows(
+    n: usize,
+    blank: [Remainder; 32],
+    marks: &[u8],
+    dues: &[i32],
+    leads: &[u16],
+    stopped: &[bool],
+) -> [Remainder; 32]
+    requires { ⌜ Roomy (rows (now marks) (now dues) (now leads) (now stopped)) × ((n ≤ 32) × Small n (now marks)) ⌝ }
+    ensures { λ r. ⌜ ((v : SheetValue) → map (viewOf v) (take n r) ≡ rowsOf v n (rows (now (marks .entry)) (now (dues .entry)) (now (leads .entry)) (now (stopped .entry)))) × T (all (λ (q : arrays.Remainder). leb (q .owed) 8) (take n r)) ⌝ }
+{
+    let mut all = blank;
     let mut i = 0;
     while i < n {
-        let r = h.remainders[i];
-        let a = advance(s, ticks, tags, started, r);
-        let more = take_in(room, s, next, a);
-        next = more;
+        let r = row_at(marks, dues, leads, stopped, i);
+        all[i] = r;
         i += 1;
     }
-    next
+    all
 }

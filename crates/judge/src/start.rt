@@ -2,20 +2,24 @@
 use crate::line::Begun;
 use crate::obligation::Obligation;
 use crate::obligation::as_due;
-use crate::remainder::Added;
+use crate::owed::Added;
+use crate::owed::Owed;
+use crate::owed::add;
 use crate::remainder::Remainder;
-use crate::remainder::add;
 use records::line::Line;
 use records::sheet::Sheet;
 use records::sheet::line_at;
 ghost use mathlib.Core.Path.{_≡_};
+ghost use mathlib.Core.List.{List, []};
+ghost use mathlib.Core.Option.{some};
 ghost use Prim.Native.Nat.{_≤_};
 ghost use Rattle.records.specs.Sheet.{sheetValue};
 ghost use Rattle.tesl.specs.Lists.{flatMap};
+ghost use Rattle.tesl.specs.Fits as tesl;
 ghost use Rattle.tesl.specs.Fits.{owedAtStart};
-ghost use Rattle.judge.specs.View.{begunOf, remainderOf, addedOf};
+ghost use Rattle.judge.specs.View.{begunOf, owedIn, addedOf, remainderOf};
 ghost use Rattle.judge.specs.Work.{addedAll};
-ghost use Rattle.judge.specs.Start.{blankRemainder};
+ghost use Rattle.judge.specs.Start.{firstOwing};
 
 // The obligation that a line is from the start.
 fn owed_at_start(l: Line) -> Begun
@@ -31,9 +35,8 @@ fn owed_at_start(l: Line) -> Begun
     }
 }
 
-// Nothing is owed, no clock leads, none is stopped.
-fn blank_remainder() -> Remainder
-    ensures { λ r. ⌜ (remainderOf r ≡ blankRemainder) × (r .owed ≡ 0) ⌝ }
+fn nothing() -> Owed
+    ensures { λ r. ⌜ (owedIn r ≡ []) × (r .count ≡ 0) ⌝ }
 {
     let none = Obligation {
         clock: 0,
@@ -41,23 +44,19 @@ fn blank_remainder() -> Remainder
         due: 0,
     };
     let obligations = [none; 8];
-    let leads = [0u16; 16];
-    let stopped = [false; 8];
-    Remainder {
-        owed: 0,
+    Owed {
+        count: 0,
         obligations,
-        leads,
-        stopped,
     }
 }
 
-// The remainder of no instant.
-pub(crate) fn first_remainder(s: Sheet) -> Added
+// What all lines owe from the start.
+fn first_owed(s: Sheet) -> Added
     requires { ⌜ s .count ≤ 16 ⌝ }
-    ensures { λ r. ⌜ (addedOf r ≡ addedAll (flatMap owedAtStart (sheetValue s .lines)) blankRemainder) × (r .next .owed ≤ 8) ⌝ }
+    ensures { λ r. ⌜ (addedOf r ≡ addedAll (flatMap owedAtStart (sheetValue s .lines)) []) × (r .owed .count ≤ 8) ⌝ }
 {
     let n = s.count;
-    let mut next = blank_remainder();
+    let mut owed = nothing();
     let mut i = 0;
     while i < n {
         let l = line_at(s, i);
@@ -67,13 +66,32 @@ pub(crate) fn first_remainder(s: Sheet) -> Added
                 continue;
             }
             Begun::Owed(o) => {
-                let step = add(next, o);
+                let step = add(owed, o);
                 if step.over {
                     return step;
                 }
-                next = step.next;
+                owed = step.owed;
             }
         }
     }
-    Added { over: false, next }
+    Added { over: false, owed }
+}
+
+// The remainder of no instant: no clock leads, none is stopped.
+pub(crate) fn first_remainder(s: Sheet) -> Remainder
+    requires { ⌜ s .count ≤ 16 ⌝ }
+    ensures { λ r. ⌜ ((os : List tesl.Obligation) → addedAll (flatMap owedAtStart (sheetValue s .lines)) [] ≡ some os → remainderOf r ≡ firstOwing os) × (r .owed ≤ 8) ⌝ }
+{
+    let first = first_owed(s);
+    let all = first.owed;
+    let owed = all.count;
+    let obligations = all.obligations;
+    let leads = [0u16; 16];
+    let stopped = [false; 8];
+    Remainder {
+        owed,
+        obligations,
+        leads,
+        stopped,
+    }
 }

@@ -4,7 +4,6 @@ use crate::line::begins;
 use crate::obligation::Obligation;
 use crate::obligation::same_obligation;
 use records::sheet::Sheet;
-use records::sheet::line_at;
 ghost use mathlib.Core.Path.{_≡_};
 ghost use Prim.Native.Nat.{_≤_};
 ghost use Rattle.records.specs.Sheet.{sheetValue};
@@ -49,7 +48,8 @@ pub(crate) fn start_all(s: Sheet, ticks: [bool; 8], tags: [i16; 8]) -> Started
     let mut count = 0;
     let mut i = 0;
     while i < n {
-        let l = line_at(s, i);
+        let slot = s.lines[i];
+        let l = slot.line;
         i += 1;
         match begins(l, ticks, tags) {
             Begun::Nothing => {

@@ -1,23 +1,29 @@
 -- What an answer says of those held: one of them is clear where the code counts no obligation, and as many are live as the code holds. Assumes nothing.
-use mathlib.Core.Bool.{Bool, true, false, cond}
+use mathlib.Core.Bool.{Bool, true, false, cond, or-true}
 use mathlib.Core.List.{List, [], _∷_, map}
 use mathlib.Core.Path.{_≡_, refl, sym, ap, _∙_}
-use Prim.Native.Nat.{ℕ, _≤_}
+use Prim.Native.Nat.{ℕ, zero, suc, _+_, _≤_, _<_}
+use native.Mathlib.Nat.{zero-add}
 use native.Mathlib.Omega.{arith}
 use lib.Dec.{T, eqb, leb, leb→le}
 use lib.ListN.{length, length-map, take}
 use lib.Seq.{length-take-le}
-use borrow.Author.Tests.{ne-eqb}
+use borrow.Author.Tests.{eq-eqb, ne-eqb}
+use Rattle.records.specs.Lists.{listedFrom}
 use Rattle.records.specs.Sheet.{SheetValue}
+use Rattle.records.proofs.Lists.{length-listed, listed-snoc}
 use Rattle.tesl.specs.Lists.{all, any, distinct}
 use Rattle.tesl.specs.Remainder.{Remainder, sameObligation, owes}
-use Rattle.tesl.specs.Answer.{holding, clear, owed, standing, judged}
+use Rattle.tesl.specs.Answer.{broken, holding, clear, owed, standing, judged}
 use Rattle.tesl.proofs.Tests.{and-l}
+use Rattle.theory.proofs.Lists.{any-snoc}
 use Rattle.judge.specs.declared.remainder.Remainder as arrays
+use Rattle.judge.specs.declared.held.Count.{Count}
 use Rattle.judge.specs.declared.held.Count.the-variants.{Live}
 use Rattle.judge.specs.declared.held.Held.{Held}
-use Rattle.judge.specs.View.{obligationOf, firstOf, owedOf, viewOf, heldOf, liveOf, sizedIn, sized}
+use Rattle.judge.specs.View.{obligationOf, firstOf, owedOf, cut, viewOf, heldOf, liveOf, sizedIn, sized}
 use Rattle.judge.specs.Answer.{saidBy}
+use Rattle.judge.specs.Rows.{Rows, rowCount, rowObligation, rowOwed, rowOf, rowsOf, foundIn}
 
 abbrev pub isClear : Remainder → Bool
 isClear q = eqb (owes q) 0
@@ -56,3 +62,36 @@ said-some v h n e t l k b f =
     let s : T (sizedIn (Live n) (h .remainders)) = rw e at t in
     let m : length (map (viewOf v) rs) ≡ n = length-map rs (viewOf v) ∙ length-take-le n (h .remainders) (omega (arith, leb→le n 32 (and-l (leb n 32) (all (λ (r : arrays.Remainder). leb (r .owed) 8) rs) s), l)) in
     rw (f, e) (sym (judged-some (map (viewOf v) rs) (λ z. k (sym m ∙ z)) ∙ rw m))
+
+-- ---- in rows
+
+hit-from : {A : Type 0} (p : A → Bool) (f : ℕ → A) (i n k : ℕ) → k < n → p (f (i + k)) ≡ true → any p (listedFrom f i n) ≡ true
+unfolding listedFrom
+hit-from p f i zero k h e = absurd (omega arith)
+hit-from p f i (suc n) zero h e = let g : i + 0 ≡ i = omega arith in simp (rw g at e)
+hit-from p f i (suc n) (suc k) h e =
+    let g : i + suc k ≡ i + 1 + k = omega arith in
+    simp (hit-from p f (i + 1) n k (omega arith) (rw g at e), or-true)
+
+module _ (v : SheetValue) (r : Rows) where
+  clear-row : (i : ℕ) → isClear (cut v (rowOf r i)) ≡ eqb (rowCount (r .marks) i) 0
+  unfolding owes
+  clear-row i = distinct-none sameObligation (rowOwed (r .marks) (r .dues) i) ∙ ap (λ k. eqb k 0) (length-listed (rowObligation (r .marks) (r .dues) i) (rowCount (r .marks) i))
+
+  pub row-owes : (i : ℕ) → any isClear (rowsOf v i r) ≡ false → (rowCount (r .marks) i ≡ 0 → ⊥) → any isClear (rowsOf v (i + 1) r) ≡ false
+  row-owes i a k =
+      let b : isClear (cut v (rowOf r i)) ≡ false = clear-row i ∙ ne-eqb (rowCount (r .marks) i) 0 k in
+      ap (any isClear) (listed-snoc (λ j. cut v (rowOf r j)) i) ∙ any-snoc isClear (rowsOf v i r) (cut v (rowOf r i)) ∙ simp (a, b)
+
+  pub row-clear : (n i : ℕ) → i < n → rowCount (r .marks) i ≡ 0 → any isClear (rowsOf v n r) ≡ true
+  row-clear n i h e = hit-from isClear (λ j. cut v (rowOf r j)) 0 n i h (rw zero-add (clear-row i ∙ eq-eqb (rowCount (r .marks) i) 0 e))
+
+  module _ (count : Count) (n : ℕ) (e : count ≡ Live n) where
+    pub rows-none : n ≡ 0 → broken ≡ saidBy (foundIn v count r)
+    unfolding judged listedFrom
+    rows-none z = rw (e, z)
+
+    pub rows-some : (n ≡ 0 → ⊥) → (b : Bool) → b ≡ any isClear (rowsOf v n r) → holding n (cond b clear owed) ≡ saidBy (foundIn v count r)
+    rows-some k b f =
+        let m : length (rowsOf v n r) ≡ n = length-listed (λ j. cut v (rowOf r j)) n in
+        rw (f, e) (sym (judged-some (rowsOf v n r) (λ z. k (sym m ∙ z)) ∙ rw m))

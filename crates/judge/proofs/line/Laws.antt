@@ -87,7 +87,7 @@ unused (Delayed A B D d) lead h = refl
 unused (Kills A B) lead h = refl
 
 -- all but kills
-abbrev stopped-keys : List ℕ
+abbrev pub stopped-keys : List ℕ
 stopped-keys = 0 ∷ 1 ∷ 2 ∷ 3 ∷ 4 ∷ 5 ∷ 6 ∷ []
 
 pub rest-stopped : (ticks : List Bool) (l : Line) (stopped : List Bool) → OneOf stopped-keys (tagOf the-type l) → stopped ≡ stoppedAfter ticks l stopped

@@ -34,9 +34,8 @@ use Rattle.judge.specs.declared.answer.Answer as code
 use Rattle.judge.specs.declared.answer.Reply.the-variants as reply
 use Rattle.judge.specs.declared.monitor.Monitor.{Monitor}
 use Rattle.judge.specs.View.{inUse, cut, live}
-use Rattle.judge.specs.Owed.{owing}
 use Rattle.judge.specs.Work.{addedAll}
-use Rattle.judge.specs.Start.{blankRemainder}
+use Rattle.judge.specs.Start.{firstOwing}
 use Rattle.judge.specs.Answer.{answerOf, saidBy}
 use Rattle.judge.specs.Limits.{isTaken, sheetWithin, within}
 use Rattle.judge.specs.Monitor.{sheetBy, heldBy, refusal, Begins}
@@ -91,11 +90,11 @@ module _ (s : SheetValue) (l : SheetLimits s) where
 
   record First : Type 0 where
     pub owed : List Obligation
-    pub found : addedAll start blankRemainder ≡ some (owing owed blankRemainder)
+    pub found : addedAll start [] ≡ some owed
     pub these : SameSet sameObligation owed start
     pub once : T (apart sameObligation owed)
 
-  first-of : {x : Option Remainder} → Adding blankRemainder [] start x → addedAll start blankRemainder ≡ x → First
+  first-of : {x : Option (List Obligation)} → Adding [] start x → addedAll start [] ≡ x → First
   unfolding remainder
   first-of (room {xs = xs} h) e = record { owed = xs; found = e; these = h .set; once = h .once tt }
   first-of (full h) e =
@@ -103,11 +102,11 @@ module _ (s : SheetValue) (l : SheetLimits s) where
       absurd (omega (arith, opening-owes s l))
 
   first : First
-  first = first-of (added-all blankRemainder start []) refl
+  first = first-of (added-all start []) refl
 
   -- as the monitor holds it
   held : Remainder
-  held = cut s (owing (first .owed) blankRemainder)
+  held = cut s (firstOwing (first .owed))
 
   held-same : T (sameRemainder held (remainder s []))
   unfolding remainder held
@@ -130,8 +129,8 @@ module _ (b : List ℕ) (bytes : IsBytes b) (s : SheetValue) (e : readSheet b �
     holds : heldBy m ≡ some (held s l ∷ [])
     unfolding held
     holds =
-        subst (λ (v : SheetValue). (q : Remainder) → addedAll (flatMap owedAtStart (v .lines)) blankRemainder ≡ some q → heldBy m ≡ some (cut v q ∷ []))
-        (sheetOf-value s) (begins .held) (owing (first s l .owed) blankRemainder) (first s l .found)
+        subst (λ (v : SheetValue). (os : List Obligation) → addedAll (flatMap owedAtStart (v .lines)) [] ≡ some os → heldBy m ≡ some (cut v (firstOwing os) ∷ []))
+        (sheetOf-value s) (begins .held) (first s l .owed) (first s l .found)
 
     said : saidBy (heldBy m) ≡ answer s []
     said = rw holds (sym (opening-answer s l (held s l) (held-same s l)))

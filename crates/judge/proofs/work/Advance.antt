@@ -40,13 +40,13 @@ pub record Nine (before these : List Obligation) : Type 0 where
   pub many : 8 < length among
   pub once : T (apart sameObligation before) → T (apart sameObligation among)
 
-pub data Adding (r : Remainder) (before these : List Obligation) : Option Remainder → Type 0 where
-  room : {xs : List Obligation} → Tidied before these xs → Adding r before these (some (owing xs r))
-  full : Nine before these → Adding r before these none
+pub data Adding (before these : List Obligation) : Option (List Obligation) → Type 0 where
+  room : {xs : List Obligation} → Tidied before these xs → Adding before these (some xs)
+  full : Nine before these → Adding before these none
 
 -- the same from an earlier list of them
-earlier : {r : Remainder} {before these later those : List Obligation} {q : Option Remainder} → SameSet sameObligation those these → (length before ≤ 8 → length later ≤ 8)
-    → (T (apart sameObligation before) → T (apart sameObligation later)) → Adding r later those q → Adding r before these q
+earlier : {before these later those : List Obligation} {q : Option (List Obligation)} → SameSet sameObligation those these → (length before ≤ 8 → length later ≤ 8)
+    → (T (apart sameObligation before) → T (apart sameObligation later)) → Adding later those q → Adding before these q
 earlier e l a (room h) = room (record { set = λ o. h .set o ∙ e o; room = λ k. h .room (l k); once = λ k. h .once (a k) })
 earlier e l a (full h) = full (record { among = h .among; covered = λ o t. subst T (e o) (h .covered o t); many = h .many; once = λ k. h .once (a k) })
 
@@ -62,15 +62,15 @@ there-already o os begun t z =
     (λ w. or-e (sameObligation z o) rest w (λ x. or-l here rest (any-same sameObligation owed-equivalence z o os x t)) (λ x. or-r here rest x)))
     ∙ sym (any-append (sameObligation z) os (o ∷ begun))
 
-pub added-all : (r : Remainder) (begun os : List Obligation) → Adding r os (os ++ begun) (addedAll begun (owing os r))
+pub added-all : (begun os : List Obligation) → Adding os (os ++ begun) (addedAll begun os)
 unfolding added
-added-all r [] os = room (record { set = λ o. ap (any (sameObligation o)) (sym (append-nil os)); room = λ k. k; once = λ k. k })
-added-all r (o ∷ begun) os = one (any (sameObligation o) os) (ltb (length os) 8) (λ t. t) (λ t. t) (λ t. t) (λ t. t) (added-all r begun os) (added-all r begun (os ++ (o ∷ [])))
+added-all [] os = room (record { set = λ o. ap (any (sameObligation o)) (sym (append-nil os)); room = λ k. k; once = λ k. k })
+added-all (o ∷ begun) os = one (any (sameObligation o) os) (ltb (length os) 8) (λ t. t) (λ t. t) (λ t. t) (λ t. t) (added-all begun os) (added-all begun (os ++ (o ∷ [])))
   where
     one : (a b : Bool) → (T a → T (any (sameObligation o) os)) → (T (not a) → T (not (any (sameObligation o) os))) → (T b → T (ltb (length os) 8))
-        → (T (not b) → T (not (ltb (length os) 8))) → Adding r os (os ++ begun) (addedAll begun (owing os r))
-        → Adding r (os ++ (o ∷ [])) ((os ++ (o ∷ [])) ++ begun) (addedAll begun (owing (os ++ (o ∷ [])) r))
-        → Adding r os (os ++ (o ∷ begun)) (onward (addedAll begun) (cond a (some (owing os r)) (cond b (some (owing (os ++ (o ∷ [])) r)) none)))
+        → (T (not b) → T (not (ltb (length os) 8))) → Adding os (os ++ begun) (addedAll begun os)
+        → Adding (os ++ (o ∷ [])) ((os ++ (o ∷ [])) ++ begun) (addedAll begun (os ++ (o ∷ [])))
+        → Adding os (os ++ (o ∷ begun)) (onward (addedAll begun) (cond a (some os) (cond b (some (os ++ (o ∷ []))) none)))
     one true b t n l g h k = earlier (there-already o os begun (t tt)) (λ w. w) (λ w. w) h
     one false true t n l g h k =
         earlier (λ z. ap (any (sameObligation z)) (append-assoc os (o ∷ []) begun)) (λ w. let lt = ltb→lt (length os) 8 (l tt) in omega (arith, length-append os (o ∷ [])))
@@ -108,8 +108,8 @@ left-once f os a =
     filter-once sameObligation owed-equivalence (λ (o : Obligation). not (meets f o)) (λ x y e t. subst (λ (o : Obligation). T (not (meets f o))) (sameObligation→eq x y e) t)
     {xs = os} {ys = os} (record { each-once = a; these = λ o. refl }) .each-once
 
-with-begun : {v : SheetValue} {f : Filled} {r : Remainder} {q : Option Remainder} → Adding r (r .owed) (left f (r .owed) ++ flatMap (owedFrom f) (v .lines)) q
-    → Moves v f r true (withBegun v (f .ticks) q)
+with-begun : {v : SheetValue} {f : Filled} {r : Remainder} {q : Option (List Obligation)} → Adding (r .owed) (left f (r .owed) ++ flatMap (owedFrom f) (v .lines)) q
+    → Moves v f r true (withBegun v (f .ticks) r q)
 with-begun (room h) = moves h
 with-begun (full h) = nine h
 
@@ -121,10 +121,10 @@ advance-moves v f r =
     begun : List Obligation
     begun = flatMap (owedFrom f) (v .lines)
 
-    by-tests : (a b : Bool) → Moves v f r (a && b) (cond a (withKept v (f .ticks) begun (cond b (some (owing (left f (r .owed)) r)) none)) fails)
+    by-tests : (a b : Bool) → Moves v f r (a && b) (cond a (withKept v (f .ticks) begun r (cond b (some (left f (r .owed))) none)) fails)
     by-tests false b = stays
     by-tests true false = stays
-    by-tests true true = with-begun (earlier (λ o. refl) (left-room f (r .owed)) (left-once f (r .owed)) (added-all r begun (left f (r .owed))))
+    by-tests true true = with-begun (earlier (λ o. refl) (left-room f (r .owed)) (left-once f (r .owed)) (added-all begun (left f (r .owed))))
 
 -- ---- a filled instant of the sheet's clocks, by what comes next
 

@@ -3,7 +3,7 @@ use native.Mathlib.Omega.{arith}
 use lib.Dec.{le→leb}
 use borrow.Author.Needs.{needs}
 use Rattle.judge.specs.View.{startedOf}
-use Rattle.judge.proofs.advance.Laws.{still-small, forbidden, one-late, one-over, goes-on}
+use Rattle.judge.proofs.advance.Laws.{forbidden, one-late, one-over, goes-on}
 use Rattle.judge.proofs.advance.advance.Statement.{statement}
 use Rattle.judge.proofs.advance.advance.Tie as tie
 
@@ -43,10 +43,7 @@ returns-3 c =
 carry-requires : tie.Need-carry-requires
 carry-requires c κs =
     let s = c .before .before .before .before .before .before .before .before .before .before in
-    let a = s .args in
-    let k = c .before .before .before .before .before .keep in
-    let o = c .before .before .add-all in
-    (s .pre .0, still-small (a .s) (a .ticks) (a .tags) (startedOf (a .started)) (a .r) (k .result) (k .ensures .0) (c .before .before .before .before .if2 .left) (o .result) (o .ensures .0) (c .before .if3 .left) (s .pre .1 .1 .0))
+    (s .pre .0, s .pre .1 .1 .0)
 
 returns-4 : tie.Need-returns-4
 returns-4 c =
@@ -56,7 +53,7 @@ returns-4 c =
     let k = c .before .before .before .before .before .before .keep in
     let o = c .before .before .before .add-all in
     let q = c .carry in
-    let e = o .ensures .1 (k .ensures .1) in (
+    let e = o .ensures .1 in (
       goes-on (a .s) (a .ticks) (a .tags) (startedOf (a .started)) (a .r) (s .pre .1 .1 .1) (l .result) (l .ensures) (c .before .before .before .before .before .before .before .if1 .left) (k .result) (k .ensures .0) (c .before .before .before .before .before .if2 .left) (o .result) (o .ensures .0) (c .before .before .if3 .left) (q .result) (q .ensures .0),
       le→leb (q .result .owed) 8 (omega (arith, q .ensures .1, e)),
     )

@@ -1,5 +1,5 @@
 -- `leads_within` meets its contract. The invariant: whether all leads are within is whether those from i on are. Assumes nothing.
-use mathlib.Core.Path.{_≡_}
+use mathlib.Core.Path.{_≡_, refl}
 use Prim.Native.Nat.{ℕ, _≤_, _-_}
 use native.Mathlib.Omega.{arith}
 use lib.Dec.{leb}
@@ -14,17 +14,17 @@ use Rattle.judge.proofs.limits.leads_within.Statement.{statement}
 use Rattle.judge.proofs.limits.leads_within.Tie as tie
 
 abbrev Inv-loop : tie.InvT-loop
-Inv-loop s instants leads n i₀ i =
+Inv-loop instants s leads n i₀ i =
     (i ≤ n) × (all (λ (m : ℕ). leb m instants) (nextLeads inUse (sheetValue s .lines) leads) ≡ okFrom (leadOk instants) s leads n i)
 
 abbrev μ-loop : tie.MeasureT-loop
-μ-loop s instants leads n i₀ i = n - i
+μ-loop instants s leads n i₀ i = n - i
 
 loop-holds : tie.Need-loop-holds Inv-loop μ-loop
 loop-holds c =
     let a = c .args in
     let k = c .good .1 .0 .1 .0 .1 in
-    (omega arith, leads-start (a .instants) (a .s) (a .t2) (omega arith))
+    (omega arith, leads-start (a .instants) (a .t1) (a .t2) (omega arith))
 
 mul-lead : tie.Need-mul-lead Inv-loop μ-loop
 mul-lead c = search needs
@@ -32,8 +32,11 @@ mul-lead c = search needs
 array-read-lead : tie.Need-array-read-lead Inv-loop μ-loop
 array-read-lead c = search needs
 
-line-at-requires : tie.Need-line-at-requires Inv-loop μ-loop
-line-at-requires c κs = search needs
+mul-slot : tie.Need-mul-slot Inv-loop μ-loop
+mul-slot c = search needs
+
+element-copy-out-slot : tie.Need-element-copy-out-slot Inv-loop μ-loop
+element-copy-out-slot c = search needs
 
 lead-within-requires : tie.Need-lead-within-requires Inv-loop μ-loop
 lead-within-requires c κs = search needs
@@ -45,10 +48,16 @@ loop-less : tie.Need-loop-less Inv-loop μ-loop
 loop-less c = search needs
 
 loop-again : tie.Need-loop-again Inv-loop μ-loop
-loop-again c = (omega arith, search (needs, ok-more) depth 8)
+loop-again c =
+    let at = c .before .before .before .before in
+    let m = at .loop in
+    (omega arith, ok-more _ (at .before .args .t1) (at .before .args .t2) _ (m .i) (m .inv .1) (omega arith) _ refl _ (c .before .lead-within .ensures) (c .if1 .taken))
 
 returns : tie.Need-returns Inv-loop μ-loop
-returns c = search (needs, ok-no) depth 8
+returns c =
+    let at = c .before .before .before .before in
+    let m = at .loop in
+    ok-no _ (at .before .args .t1) (at .before .args .t2) _ (m .i) (m .inv .1) (omega arith) _ refl _ (c .before .lead-within .ensures) (c .if1 .left)
 
 returns-2 : tie.Need-returns-2 Inv-loop μ-loop
 returns-2 c = search (needs, ok-end) depth 8
@@ -62,7 +71,8 @@ leads-within-spec =
     loop-holds
     mul-lead
     array-read-lead
-    line-at-requires
+    mul-slot
+    element-copy-out-slot
     lead-within-requires
     add-i
     loop-less

@@ -1,5 +1,5 @@
 -- `all_tags_hold` meets its contract. The invariant: whether all lines hold is whether those from i on do. Assumes nothing.
-use mathlib.Core.Path.{_≡_}
+use mathlib.Core.Path.{_≡_, refl}
 use Prim.Native.Nat.{_≤_, _-_}
 use native.Mathlib.Omega.{arith}
 use Rattle.records.specs.Sheet.{sheetValue}
@@ -11,16 +11,19 @@ use Rattle.judge.proofs.lines.all_tags_hold.Statement.{statement}
 use Rattle.judge.proofs.lines.all_tags_hold.Tie as tie
 
 abbrev Inv-loop : tie.InvT-loop
-Inv-loop s tags n i₀ i = (i ≤ n) × (all (tagsHold tags) (sheetValue s .lines) ≡ allFrom (tagsHold tags) s n i)
+Inv-loop tags s n i₀ i = (i ≤ n) × (all (tagsHold tags) (sheetValue s .lines) ≡ allFrom (tagsHold tags) s n i)
 
 abbrev μ-loop : tie.MeasureT-loop
-μ-loop s tags n i₀ i = n - i
+μ-loop tags s n i₀ i = n - i
 
 loop-holds : tie.Need-loop-holds Inv-loop μ-loop
-loop-holds c = (omega arith, all-start (tagsHold (c .args .tags)) (c .args .s))
+loop-holds c = (omega arith, all-start (tagsHold (c .args .tags)) (c .args .t1))
 
-line-at-requires : tie.Need-line-at-requires Inv-loop μ-loop
-line-at-requires c κs = search needs
+mul-slot : tie.Need-mul-slot Inv-loop μ-loop
+mul-slot c = search needs
+
+element-copy-out-slot : tie.Need-element-copy-out-slot Inv-loop μ-loop
+element-copy-out-slot c = search needs
 
 tags-hold-requires : tie.Need-tags-hold-requires Inv-loop μ-loop
 tags-hold-requires c κs = search needs
@@ -32,10 +35,16 @@ loop-less : tie.Need-loop-less Inv-loop μ-loop
 loop-less c = search needs
 
 loop-again : tie.Need-loop-again Inv-loop μ-loop
-loop-again c = (omega arith, search (needs, all-more) depth 8)
+loop-again c =
+    let at = c .before .before .before .before in
+    let m = at .loop in
+    (omega arith, all-more _ (at .before .args .t1) _ (m .i) (m .inv .1) (omega arith) _ refl _ (c .before .tags-hold .ensures) (c .if1 .taken))
 
 returns : tie.Need-returns Inv-loop μ-loop
-returns c = search (needs, all-no) depth 8
+returns c =
+    let at = c .before .before .before .before in
+    let m = at .loop in
+    all-no _ (at .before .args .t1) _ (m .i) (m .inv .1) (omega arith) _ refl _ (c .before .tags-hold .ensures) (c .if1 .left)
 
 returns-2 : tie.Need-returns-2 Inv-loop μ-loop
 returns-2 c = search (needs, all-end) depth 8
@@ -47,7 +56,8 @@ all-tags-hold-spec =
     Inv-loop
     μ-loop
     loop-holds
-    line-at-requires
+    mul-slot
+    element-copy-out-slot
     tags-hold-requires
     add-i
     loop-less

@@ -1,102 +1,110 @@
--- `observe_all` meets its contract. The invariant: what is left to conclude of the log is what was to conclude at the start. Assumes nothing.
-use Prim.Native.Nat.{_+_, _-_, _≤_}
-use native.Mathlib.Omega.{arith}
-use lib.ListN.{length}
+-- `observe_all` meets its contract: those held are stored in rows, and observed from there. Assumes nothing.
+use mathlib.Core.Bool.{false}
+use mathlib.Core.Path.{refl, sym}
+use lib.ListN.{length-replicate}
+use Rattle.judge.specs.declared.answer.Reply.the-variants.{Refused}
+use Rattle.judge.specs.Monitor.{sheetBy}
+use Rattle.judge.proofs.kept.Laws.{within-stored, follows-stored, inside, few-lines, has-room}
+use Rattle.judge.proofs.log.Turns.{concludes-outside}
+use Rattle.judge.proofs.work.Listed.{leading, blank-rows}
 use borrow.Author.Needs.{needs}
-use Rattle.records.specs.Types.{IsBytes}
-use Rattle.judge.proofs.log.Laws.{Going, going-start, going-end, going-torn, going-fits, going-refused, going-more}
-use Rattle.judge.proofs.monitor.Bytes.{all-bytes}
 use Rattle.judge.proofs.log.observe_all.Statement.{statement}
 use Rattle.judge.proofs.log.observe_all.Tie as tie
 
-abbrev Inv-loop : tie.InvT-loop
-Inv-loop log monitor₀ reply₀ instants₀ at₀ monitor reply instants at = Going log monitor₀ reply₀ monitor reply instants at
+is-within-requires : tie.Need-is-within-requires
+is-within-requires c κs = search needs
 
-abbrev μ-loop : tie.MeasureT-loop
-μ-loop log monitor₀ reply₀ instants₀ at₀ monitor reply instants at = length log - at
+returns : tie.Need-returns
+returns c = concludes-outside (c .before .before .before .before .args .opened) _ (record { reply = Refused 11; instants = 0 }) (c .before .is-within .ensures) (c .if1 .taken)
 
-loop-holds : tie.Need-loop-holds Inv-loop μ-loop
-loop-holds c = going-start _ _ _
+rules-of-requires : tie.Need-rules-of-requires
+rules-of-requires c κs = few-lines (c .before .before .before .before .before .args .opened .monitor) (inside (c .before .before .is-within .ensures) (c .before .if1 .left))
 
-record-at-requires : tie.Need-record-at-requires Inv-loop μ-loop
-record-at-requires c κs = search needs
+reach-of-requires : tie.Need-reach-of-requires
+reach-of-requires c κs = few-lines (c .before .before .before .before .before .before .args .opened .monitor) (inside (c .before .before .before .is-within .ensures) (c .before .before .if1 .left))
 
-enum-told : tie.Need-enum-told Inv-loop μ-loop
-enum-told c = search needs
+leading-of-requires : tie.Need-leading-of-requires
+leading-of-requires c κs = few-lines (c .before .before .before .before .before .before .before .args .opened .monitor) (inside (c .before .before .before .before .is-within .ensures) (c .before .before .before .if1 .left))
 
-returns : tie.Need-returns Inv-loop μ-loop
-returns c = going-torn (c .before .before .before .before .loop .inv) (c .before .before .before .loop-test .taken) (c .before .before .record-at .ensures) (c .enum-told .given .1)
+slice-aggregate-keep-held : tie.Need-slice-aggregate-keep-held
+slice-aggregate-keep-held c = search needs
 
-enum-known-len : tie.Need-enum-known-len Inv-loop μ-loop
-enum-known-len c = search needs
+slice-aggregate-keep-held-2 : tie.Need-slice-aggregate-keep-held-2
+slice-aggregate-keep-held-2 c = search needs
 
-log-bytes : (c : tie.After-shared-slice-known Inv-loop μ-loop) → IsBytes (c .before .args .log .now)
-log-bytes c = all-bytes (c .before .args .log .now) (λ i. c .shared-slice-known .given i .fits)
+slice-aggregate-keep-held-3 : tie.Need-slice-aggregate-keep-held-3
+slice-aggregate-keep-held-3 c = search needs
 
--- a whole record is within the log
-fits : (c : tie.After-known-told Inv-loop μ-loop) → c .before .before .before .before .before .loop .at + 4 + c .before .len .given .0 .1 .0 ≤ length (c .before .before .before .before .before .before .before .before .args .log .now)
-fits c = going-fits (c .before .before .before .before .before .loop .inv) (c .before .before .before .before .loop-test .taken) (c .before .before .before .record-at .ensures) (c .before .len .given .1)
+slice-aggregate-keep-held-4 : tie.Need-slice-aggregate-keep-held-4
+slice-aggregate-keep-held-4 c = search needs
 
-add-end : tie.Need-add-end Inv-loop μ-loop
-add-end c = omega arith
+keep-held-requires : tie.Need-keep-held-requires
+keep-held-requires c κs = (has-room (c .before .before .before .before .before .before .before .before .before .before .before .before .before .before .args .opened .monitor) (inside (c .before .before .before .before .before .before .before .before .before .before .before .is-within .ensures) (c .before .before .before .before .before .before .before .before .before .before .if1 .left)), blank-rows)
 
-add-end-2 : tie.Need-add-end-2 Inv-loop μ-loop
-add-end-2 c = omega (arith, fits c)
+slice-aggregate-observe-records : tie.Need-slice-aggregate-observe-records
+slice-aggregate-observe-records c = search needs
 
-sub-observe : tie.Need-sub-observe Inv-loop μ-loop
-sub-observe c = search needs
+slice-aggregate-observe-records-2 : tie.Need-slice-aggregate-observe-records-2
+slice-aggregate-observe-records-2 c = search needs
 
-part-observe-start : tie.Need-part-observe-start Inv-loop μ-loop
-part-observe-start c = search needs
+slice-aggregate-observe-records-3 : tie.Need-slice-aggregate-observe-records-3
+slice-aggregate-observe-records-3 c = search needs
 
-part-observe-end : tie.Need-part-observe-end Inv-loop μ-loop
-part-observe-end c = fits c
+slice-aggregate-observe-records-4 : tie.Need-slice-aggregate-observe-records-4
+slice-aggregate-observe-records-4 c = search needs
 
-observe-requires : tie.Need-observe-requires Inv-loop μ-loop
-observe-requires c κs = search needs
+slice-aggregate-observe-records-5 : tie.Need-slice-aggregate-observe-records-5
+slice-aggregate-observe-records-5 c = search needs
 
-enum-told-2 : tie.Need-enum-told-2 Inv-loop μ-loop
-enum-told-2 c = search needs
+slice-aggregate-observe-records-6 : tie.Need-slice-aggregate-observe-records-6
+slice-aggregate-observe-records-6 c = search needs
 
-returns-2 : tie.Need-returns-2 Inv-loop μ-loop
-returns-2 c = going-refused (c .before .before .before .before .before .before .before .before .before .loop .inv) (c .before .before .before .before .before .before .before .before .loop-test .taken) (c .before .before .before .before .before .before .before .record-at .ensures) (c .before .before .before .before .before .len .given .1) (log-bytes (c .before .before .before .before .before .before .before .before .before .before .before)) (c .before .before .observe .ensures) (c .enum-told2 .given .1)
+slice-aggregate-observe-records-7 : tie.Need-slice-aggregate-observe-records-7
+slice-aggregate-observe-records-7 c = search needs
 
-enum-told-3 : tie.Need-enum-told-3 Inv-loop μ-loop
-enum-told-3 c = search needs
+slice-aggregate-observe-records-8 : tie.Need-slice-aggregate-observe-records-8
+slice-aggregate-observe-records-8 c = search needs
 
-add-instants : tie.Need-add-instants Inv-loop μ-loop
-add-instants c = omega (arith, c .before .before .before .before .before .before .before .before .before .before .loop .inv .few)
+slice-aggregate-observe-records-9 : tie.Need-slice-aggregate-observe-records-9
+slice-aggregate-observe-records-9 c = search needs
 
-loop-less : tie.Need-loop-less Inv-loop μ-loop
-loop-less c = search needs
+observe-records-requires : tie.Need-observe-records-requires
+observe-records-requires c κs =
+    let m = c .before .before .before .before .before .before .before .before .before .before .before .before .before .before .before .before .before .before .before .before .before .before .before .before .before .before .before .before .before .args .opened .monitor in
+    let l = inside (c .before .before .before .before .before .before .before .before .before .before .before .before .before .before .before .before .before .before .before .before .before .before .before .before .before .before .is-within .ensures) (c .before .before .before .before .before .before .before .before .before .before .before .before .before .before .before .before .before .before .before .before .before .before .before .before .before .if1 .left) in
+    let r = c .before .before .before .before .before .before .before .before .before .before .before .before .before .before .before .before .before .before .before .before .before .before .before .rules-of .ensures in
+    let q = c .before .before .before .before .before .before .before .before .before .before .before .before .before .before .before .before .before .before .before .before .before .before .reach-of in
+    let g = c .before .before .before .before .before .before .before .before .before .before .before .before .before .before .before .before .before .before .before .before .before .leading-of in
+    let k = c .before .before .before .before .before .before .before .before .before .before .before .before .before .before .keep-held .ensures in
+    (record { value = l .value refl; few = r .0; lines = r .1; far = q .ensures .0; leading = leading (sheetBy m) (q .result) (m .sheet .count) (g .result) (few-lines m l) (q .ensures .0) (q .ensures .1) (g .ensures) }, (within-stored m _ (k .1 .0) (k .1 .1) (sym (l .answer)), (k .0, (blank-rows, length-replicate 2048 false))))
 
-loop-again : tie.Need-loop-again Inv-loop μ-loop
-loop-again c = going-more (c .before .before .before .before .before .before .before .before .before .before .loop .inv) (c .before .before .before .before .before .before .before .before .before .loop-test .taken) (c .before .before .before .before .before .before .before .before .record-at .ensures) (c .before .before .before .before .before .before .len .given .1) (log-bytes (c .before .before .before .before .before .before .before .before .before .before .before .before)) (c .before .before .before .observe .ensures) (c .before .enum-told3 .given .1)
-
-returns-3 : tie.Need-returns-3 Inv-loop μ-loop
-returns-3 c = going-end (c .before .loop .inv) (c .loop-test .left)
+returns-2 : tie.Need-returns-2
+returns-2 c =
+    let k = c .before .before .before .before .before .before .before .before .before .before .before .before .before .before .before .before .before .before .before .before .before .before .before .before .keep-held .ensures in
+    λ s run f. c .before .before .before .before .before .before .before .before .before .observe-records .ensures s run (follows-stored (c .before .before .before .before .before .before .before .before .before .before .before .before .before .before .before .before .before .before .before .before .before .before .before .before .before .before .before .before .before .before .before .before .before .before .before .before .before .before .before .args .opened .monitor) _ (k .1 .0) (k .1 .1) f)
 
 pub observe-all-spec : {M : Type 1} → statement M
 observe-all-spec =
     tie.close
     (tie.spec
-    Inv-loop
-    μ-loop
-    loop-holds
-    record-at-requires
-    enum-told
+    is-within-requires
     returns
-    enum-known-len
-    add-end
-    add-end-2
-    sub-observe
-    part-observe-start
-    part-observe-end
-    observe-requires
-    enum-told-2
-    returns-2
-    enum-told-3
-    add-instants
-    loop-less
-    loop-again
-    returns-3)
+    rules-of-requires
+    reach-of-requires
+    leading-of-requires
+    slice-aggregate-keep-held
+    slice-aggregate-keep-held-2
+    slice-aggregate-keep-held-3
+    slice-aggregate-keep-held-4
+    keep-held-requires
+    slice-aggregate-observe-records
+    slice-aggregate-observe-records-2
+    slice-aggregate-observe-records-3
+    slice-aggregate-observe-records-4
+    slice-aggregate-observe-records-5
+    slice-aggregate-observe-records-6
+    slice-aggregate-observe-records-7
+    slice-aggregate-observe-records-8
+    slice-aggregate-observe-records-9
+    observe-records-requires
+    returns-2)

@@ -14,20 +14,23 @@ use Rattle.judge.proofs.started.start_all.Statement.{statement}
 use Rattle.judge.proofs.started.start_all.Tie as tie
 
 abbrev Inv-loop : tie.InvT-loop
-Inv-loop s ticks tags n obligations₀ count₀ i₀ obligations count i =
+Inv-loop ticks tags s n obligations₀ count₀ i₀ obligations count i =
     let begins = owedFrom (filledOf ticks tags) in
     (i ≤ n) × ((count ≤ i) × ((length obligations ≡ 16) × (onceEach (flatMap begins (sheetValue s .lines)) ≡ joinedAll (firstOf count obligations) (begunFrom begins s n i))))
 
 abbrev μ-loop : tie.MeasureT-loop
-μ-loop s ticks tags n obligations₀ count₀ i₀ obligations count i = n - i
+μ-loop ticks tags s n obligations₀ count₀ i₀ obligations count i = n - i
 
 loop-holds : tie.Need-loop-holds Inv-loop μ-loop
 loop-holds c =
     let a = c .args in
-    (omega arith, (omega arith, (refl, ap onceEach (begun-start (owedFrom (filledOf (a .ticks) (a .tags))) (a .s)))))
+    (omega arith, (omega arith, (refl, ap onceEach (begun-start (owedFrom (filledOf (a .ticks) (a .tags))) (a .t1)))))
 
-line-at-requires : tie.Need-line-at-requires Inv-loop μ-loop
-line-at-requires c κs = search needs
+mul-slot : tie.Need-mul-slot Inv-loop μ-loop
+mul-slot c = search needs
+
+element-copy-out-slot : tie.Need-element-copy-out-slot Inv-loop μ-loop
+element-copy-out-slot c = search needs
 
 add-i : tie.Need-add-i Inv-loop μ-loop
 add-i c = search needs
@@ -45,10 +48,9 @@ loop-again : tie.Need-loop-again Inv-loop μ-loop
 loop-again c =
     let at = c .before .before .before .before .before in
     let a = at .before .args in
-    let l = c .before .before .before .line-at in
     let b = c .before .before .begins in
     let begins = owedFrom (filledOf (a .ticks) (a .tags)) in
-    let none = begun-none begins (a .s) (a .s .count) (at .loop .i) (at .loop .count) (at .loop .obligations) (at .loop .inv .1 .1 .1) (omega arith) (l .result) (l .ensures) (b .result) (b .ensures) in
+    let none = begun-none begins (a .t1) (a .t1 .count) (at .loop .i) (at .loop .count) (at .loop .obligations) (at .loop .inv .1 .1 .1) (omega arith) _ refl (b .result) (b .ensures) in
     (omega arith, (omega arith, (at .loop .inv .1 .1 .0, none (c .enum-told .given .1))))
 
 enum-known-o : tie.Need-enum-known-o Inv-loop μ-loop
@@ -64,12 +66,11 @@ loop-again-2 : tie.Need-loop-again-2 Inv-loop μ-loop
 loop-again-2 c =
     let at = c .before .before .before .before .before .before .before .before in
     let a = at .before .args in
-    let l = c .before .before .before .before .before .before .line-at in
     let b = c .before .before .before .before .before .begins in
     let o = c .before .before .before .o .given in
     let t = c .before .has-begun in
     let begins = owedFrom (filledOf (a .ticks) (a .tags)) in
-    let again = begun-again begins (a .s) (a .s .count) (at .loop .i) (at .loop .count) (at .loop .obligations) (at .loop .inv .1 .1 .1) (omega arith) (l .result) (l .ensures) (b .result) (b .ensures) in
+    let again = begun-again begins (a .t1) (a .t1 .count) (at .loop .i) (at .loop .count) (at .loop .obligations) (at .loop .inv .1 .1 .1) (omega arith) _ refl (b .result) (b .ensures) in
     (omega arith, (omega arith, (at .loop .inv .1 .1 .0, again (o .0 .0) (o .1) (t .result) (t .ensures) (c .if1 .taken))))
 
 mul-obligations : tie.Need-mul-obligations Inv-loop μ-loop
@@ -88,19 +89,18 @@ loop-again-3 : tie.Need-loop-again-3 Inv-loop μ-loop
 loop-again-3 c =
     let at = c .before .before .before .before .before .before .before .before in
     let a = at .before .args in
-    let l = c .before .before .before .before .before .before .line-at in
     let b = c .before .before .before .before .before .begins in
     let o = c .before .before .before .o .given in
     let t = c .before .has-begun in
     let begins = owedFrom (filledOf (a .ticks) (a .tags)) in
-    let more = begun-more begins (a .s) (a .s .count) (at .loop .i) (at .loop .count) (at .loop .obligations) (at .loop .inv .1 .1 .1) (omega arith) (l .result) (l .ensures) (b .result) (b .ensures) in
+    let more = begun-more begins (a .t1) (a .t1 .count) (at .loop .i) (at .loop .count) (at .loop .obligations) (at .loop .inv .1 .1 .1) (omega arith) _ refl (b .result) (b .ensures) in
     (omega arith, (omega arith, (simp length-set (at .loop .inv .1 .1 .0), more (o .0 .0) (o .1) (t .result) (t .ensures) (c .if1 .left) (omega arith))))
 
 returns : tie.Need-returns Inv-loop μ-loop
 returns c =
     let at = c .before in
     let a = at .before .args in
-    (omega arith, begun-end (owedFrom (filledOf (a .ticks) (a .tags))) (a .s) (a .s .count) (at .loop .i) (at .loop .count) (at .loop .obligations) (at .loop .inv .1 .1 .1) (omega arith))
+    (omega arith, begun-end (owedFrom (filledOf (a .ticks) (a .tags))) (a .t1) (a .t1 .count) (at .loop .i) (at .loop .count) (at .loop .obligations) (at .loop .inv .1 .1 .1) (omega arith))
 
 pub start-all-spec : {M : Type 1} → statement M
 start-all-spec =
@@ -109,7 +109,8 @@ start-all-spec =
     Inv-loop
     μ-loop
     loop-holds
-    line-at-requires
+    mul-slot
+    element-copy-out-slot
     add-i
     begins-requires
     enum-told

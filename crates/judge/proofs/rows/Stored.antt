@@ -1,0 +1,188 @@
+-- Rows stored place by place: the row that is stored, and the rows before it, which stay. Assumes nothing.
+use mathlib.Core.Bool.{Bool, true}
+use mathlib.Core.List.{List, [], _∷_, _++_, map}
+use mathlib.Core.Logic.{⊎-elim}
+use mathlib.Core.Option.{some}
+use mathlib.Core.Path.{_≡_, refl, sym, ap, subst, _∙_}
+use Prim.Native.Nat.{ℕ, zero, suc, _+_, _*_, _≤_, _<_}
+use native.Mathlib.Nat.{eq-or-lt-of-le}
+use native.Mathlib.Numerals.{add-one}
+use native.Mathlib.Omega.{arith}
+use lib.Dec.{T, leb, le→leb}
+use lib.IntN.{ℤ, pos}
+use lib.ListN.{length, getD, set, take, length-set}
+use lib.Seq.{getD-set-same, getD-set-other, take-suc, take-suc-set, take-all}
+use Rattle.records.specs.Lists.{listedFrom, listed}
+use Rattle.records.specs.Sheet.{SheetValue}
+use Rattle.records.proofs.Lists.{listed-snoc}
+use Rattle.tesl.specs.Fits.{Obligation}
+use Rattle.tesl.specs.Lists.{all}
+use Rattle.tesl.specs.Remainder.{Remainder}
+use Rattle.tesl.proofs.FormulaLists.{all-append}
+use Rattle.tesl.proofs.Tests.{and-i}
+use Rattle.judge.specs.declared.obligation.Obligation as code
+use Rattle.judge.specs.declared.remainder.Remainder as arrays
+use Rattle.judge.specs.declared.held.Count.{Count}
+use Rattle.judge.specs.declared.held.Count.the-variants.{Exhausted, Live}
+use Rattle.judge.specs.View.{obligationOf, firstOf, owedOf, remainderOf, cut, viewOf, heldIn, sizedIn}
+use Rattle.judge.specs.Rows.{Rows, rows, rowCount, rowObligation, rowOwed, rowLeads, rowStopped, rowOf, rowsOf, foundIn, Small, SmallIn}
+use Rattle.judge.proofs.Places.{first-more, first-set, pastEnd}
+use Rattle.judge.proofs.remainder.Laws.{blank}
+
+-- ---- places listed
+module _ {A : Type 0} {f g : ℕ → A} where
+  from-same : (i n : ℕ) → ((j : ℕ) → j < i + n → g j ≡ f j) → listedFrom g i n ≡ listedFrom f i n
+  unfolding listedFrom
+  from-same i zero h = refl
+  from-same i (suc n) h = rw (h i (omega arith), from-same (i + 1) n (λ j l. h j (omega arith)))
+
+  -- places that agree give one list
+  pub listed-same : (n : ℕ) → ((j : ℕ) → j < n → g j ≡ f j) → listed g n ≡ listed f n
+  listed-same n h = from-same 0 n (λ j l. h j (omega arith))
+
+  -- and one place more is one element more
+  pub listed-next : (n : ℕ) {xs : List A} {a : A} → ((j : ℕ) → j < n → g j ≡ f j) → g n ≡ a → listed f n ≡ xs → listed g (n + 1) ≡ xs ++ (a ∷ [])
+  listed-next n h e w = listed-snoc g n ∙ rw (listed-same n h, w, e)
+
+-- ---- stores in a list that reads d past its end
+module _ {A : Type 0} (d : A) where
+  -- the places before b are as they were
+  abbrev pub Kept : ℕ → List A → List A → Type 0
+  Kept b was l = (p : ℕ) → p < b → getD l p d ≡ getD was p d
+
+  -- what stands at n places from b on
+  abbrev pub placesFrom : ℕ → ℕ → List A → List A
+  placesFrom b n l = listed (λ k. getD l (b + k) d) n
+
+  pub kept-set : (b p : ℕ) (a : A) (was l : List A) → b ≤ p → Kept b was l → Kept b was (set l p a)
+  kept-set b p a was l h k q m = getD-set-other l p q a d (λ e. omega arith) ∙ k q m
+
+  pub kept-from : (b p : ℕ) (a : A) (was l : List A) → b ≤ p → Kept b (set was p a) l → Kept b was l
+  kept-from b p a was l h k q m = k q m ∙ getD-set-other was p q a d (λ e. omega arith)
+
+  -- places that end before b
+  pub places-kept : (b s n : ℕ) (was l : List A) → s + n ≤ b → Kept b was l → placesFrom s n l ≡ placesFrom s n was
+  places-kept b s n was l h k = listed-same n (λ j m. k (s + j) (omega arith))
+
+  -- ---- the first k elements of x, stored from place b on
+  module _ (b : ℕ) (was x : List A) where
+    abbrev pub Copied : List A → ℕ → Type 0
+    Copied l k = (length l ≡ length was) × (placesFrom b k l ≡ take k x) × Kept b was l
+
+    pub copied-start : Copied was 0
+    unfolding listedFrom
+    copied-start = (refl, refl, λ p h. refl)
+
+    module _ (l : List A) (k : ℕ) (w : Copied l k) where
+      pub copied-more : b + k < length was → k < length x → Copied (set l (b + k) (getD x k d)) (k + 1)
+      copied-more h m =
+          let r : b + k < length l = omega (arith, w .0) in (
+            length-set l (b + k) (getD x k d) ∙ w .0,
+            listed-next k (λ j i. getD-set-other l (b + k) (b + j) (getD x k d) d (λ e. omega arith)) (getD-set-same l (b + k) (getD x k d) d r) (w .1) ∙ rw (add-one, take-suc x k d m),
+            kept-set b (b + k) (getD x k d) was l (omega arith) (w .2),
+          )
+
+      pub copied-all : (n : ℕ) → length x ≡ n → n ≡ k → placesFrom b n l ≡ x
+      copied-all n e f = rw f (w .1 ∙ take-all k x (omega arith))
+
+-- ---- a row's obligations
+
+two-stores : {A : Type 0} (d : A) (l : List A) (p q r : ℕ) (a b : A) → (r ≡ p → ⊥) → (r ≡ q → ⊥) → getD (set (set l p a) q b) r d ≡ getD l r d
+two-stores d l p q r a b f g = getD-set-other (set l p a) q r b d g ∙ getD-set-other l p r a d f
+
+same-obligation : {c c′ o o′ : ℕ} {t t′ : ℤ} → c ≡ c′ → t ≡ t′ → o ≡ o′ → _≡_ {A = Obligation} (record { clock = c; due = t; on = o }) (record { clock = c′; due = t′; on = o′ })
+same-obligation a b c = rw (a, b, c)
+
+-- the marks with those of obligation j of row i
+abbrev pub marked : List ℕ → ℕ → ℕ → code.Obligation → List ℕ
+marked m i j o = set (set m (17 * i + 1 + j) (o .clock)) (17 * i + 9 + j) (o .on)
+
+module _ (m : List ℕ) (ds : List ℤ) (i j : ℕ) (lm : length m ≡ 544) (ld : length ds ≡ 256) (hi : i < 32) (hj : j < 8) where
+  pub length-marked : (o : code.Obligation) → length (marked m i j o) ≡ 544
+  length-marked o = simp length-set lm
+
+  pub count-marked : (o : code.Obligation) → rowCount (marked m i j o) i ≡ rowCount m i
+  count-marked o = two-stores 0 m (17 * i + 1 + j) (17 * i + 9 + j) (17 * i) (o .clock) (o .on) (λ e. omega arith) (λ e. omega arith)
+
+  pub kept-marked : (o : code.Obligation) (was : List ℕ) → Kept 0 (17 * i) was m → Kept 0 (17 * i) was (marked m i j o)
+  kept-marked o was k = kept-set 0 (17 * i) (17 * i + 9 + j) (o .on) was (set m (17 * i + 1 + j) (o .clock)) (omega arith) (kept-set 0 (17 * i) (17 * i + 1 + j) (o .clock) was m (omega arith) k)
+
+  -- one more is stored
+  pub owed-more : (os : List code.Obligation) {t : ℤ} → j < length os → t ≡ getD os j blank .due → listed (rowObligation m ds i) j ≡ firstOf j os
+      → listed (rowObligation (marked m i j (getD os j blank)) (set ds (8 * i + j) t) i) (j + 1) ≡ firstOf (j + 1) os
+  owed-more os {t} l e w =
+      let o = getD os j blank in
+      let p = 17 * i + 1 + j in
+      let q = 17 * i + 9 + j in
+      listed-next j
+      (λ h k. same-obligation
+      (two-stores 0 m p q (17 * i + 1 + h) (o .clock) (o .on) (λ f. omega arith) (λ f. omega arith))
+      (getD-set-other ds (8 * i + j) (8 * i + h) t (pos 0) (λ f. omega arith))
+      (two-stores 0 m p q (17 * i + 9 + h) (o .clock) (o .on) (λ f. omega arith) (λ f. omega arith)))
+      (same-obligation
+      (getD-set-other (set m p (o .clock)) q p (o .on) 0 (λ f. omega arith) ∙ getD-set-same m p (o .clock) 0 (omega arith))
+      (getD-set-same ds (8 * i + j) t (pos 0) (omega arith) ∙ e)
+      (getD-set-same (set m p (o .clock)) q (o .on) 0 (omega (arith, length-set m p (o .clock)))))
+      w
+      ∙ sym (first-more obligationOf os blank j l)
+
+-- the obligations of row h, before row i
+module _ (m m′ : List ℕ) (ds ds′ : List ℤ) (i : ℕ) (km : Kept 0 (17 * i) m m′) (kd : Kept (pos 0) (8 * i) ds ds′) (h : ℕ) (l : h < i) where
+  pub count-kept : rowCount m′ h ≡ rowCount m h
+  count-kept = km (17 * h) (omega arith)
+
+  pub owed-kept : rowCount m h ≤ 8 → rowOwed m′ ds′ h ≡ rowOwed m ds h
+  owed-kept s =
+      ap (λ (n : ℕ). listed (rowObligation m′ ds′ h) n) count-kept
+      ∙ listed-same (rowCount m h) (λ j k. same-obligation (km (17 * h + 1 + j) (omega arith)) (kd (8 * h + j) (omega arith)) (km (17 * h + 9 + j) (omega arith)))
+
+-- ---- a row stored, and the rows before it
+
+same-row : {o o′ : List Obligation} {l l′ : List ℕ} {s s′ : List Bool} → o ≡ o′ → l ≡ l′ → s ≡ s′ → _≡_ {A = Remainder} (record { owed = o; leads = l; stopped = s }) (record { owed = o′; leads = l′; stopped = s′ })
+same-row a b c = rw (a, b, c)
+
+module _ (m m′ : List ℕ) (ds ds′ : List ℤ) (i : ℕ) (r : arrays.Remainder) (small : Small i m) (count : rowCount m′ i ≡ r .owed)
+    (before : (h : ℕ) → h < i → rowCount m h ≤ 8 → (rowCount m′ h ≡ rowCount m h) × (rowOwed m′ ds′ h ≡ rowOwed m ds h)) where
+  pub put-small : r .owed ≤ 8 → Small (i + 1) m′
+  put-small s h l = ⊎-elim (λ (e : h ≡ i). rw (e, count) s) (λ (k : h < i). rw (before h k (small h k) .0) (small h k)) (eq-or-lt-of-le (omega arith))
+
+  pub put-rows : (ls ls′ : List ℕ) (ss ss′ : List Bool) → rowOwed m′ ds′ i ≡ owedOf r
+      → rowLeads ls′ i ≡ r .leads → ((h : ℕ) → h < i → rowLeads ls′ h ≡ rowLeads ls h)
+      → rowStopped ss′ i ≡ r .stopped → ((h : ℕ) → h < i → rowStopped ss′ h ≡ rowStopped ss h)
+      → (v : SheetValue) → rowsOf v (i + 1) (rows m′ ds′ ls′ ss′) ≡ rowsOf v i (rows m ds ls ss) ++ (viewOf v r ∷ [])
+  put-rows ls ls′ ss ss′ o l lb s sb v =
+      listed-next i
+      (λ h k. ap (cut v) (same-row (before h k (small h k) .1) (lb h k) (sb h k)))
+      (ap (cut v) (same-row o l s))
+      refl
+
+-- ---- an array of remainders
+module _ (v : SheetValue) (rs : List arrays.Remainder) (i : ℕ) where
+  -- one more of it is stored in a row
+  pub stored-more : i < length rs → (R R′ : Rows) → rowsOf v i R ≡ map (viewOf v) (take i rs) → rowsOf v (i + 1) R′ ≡ rowsOf v i R ++ (viewOf v (getD rs i pastEnd) ∷ []) → rowsOf v (i + 1) R′ ≡ map (viewOf v) (take (i + 1) rs)
+  stored-more h R R′ w e = e ∙ rw w (sym (first-more (viewOf v) rs pastEnd i h))
+
+  -- one more row is copied to it
+  pub copied-row : (r : arrays.Remainder) → i < length rs → (R : Rows) → map (viewOf v) (take i rs) ≡ rowsOf v i R → remainderOf r ≡ rowOf R i → map (viewOf v) (take (i + 1) (set rs i r)) ≡ rowsOf v (i + 1) R
+  copied-row r h R w e = first-set (viewOf v) rs i r h ∙ sym (listed-next i (λ j k. refl) (ap (cut v) (sym e)) (sym w))
+
+-- a store just past the first i elements of an array
+pub all-set : {A : Type 0} (p : A → Bool) (xs : List A) (i : ℕ) (a : A) → i < length xs → T (all p (take i xs)) → T (p a) → T (all p (take (i + 1) (set xs i a)))
+all-set p xs i a h s t = rw (add-one, take-suc-set xs i a h, all-append) (and-i (all p (take i xs)) (all p (a ∷ [])) s (and-i (p a) true t tt))
+
+-- ---- those found, by the count
+module _ (R : Rows) (rs : List arrays.Remainder) where
+  pub found-none : (v : SheetValue) (count : Count) → count ≡ Exhausted → heldIn v count rs ≡ foundIn v count R
+  found-none v count e = rw e
+
+  pub found-live : (v : SheetValue) (count : Count) (n : ℕ) → count ≡ Live n → map (viewOf v) (take n rs) ≡ rowsOf v n R → heldIn v count rs ≡ foundIn v count R
+  found-live v count n e w = rw e (ap some w)
+
+pub sized-none : (count : Count) (rs : List arrays.Remainder) → count ≡ Exhausted → T (sizedIn count rs)
+sized-none count rs e = rw e tt
+
+pub sized-live : (count : Count) (n : ℕ) (rs : List arrays.Remainder) → count ≡ Live n → n ≤ 32 → T (all (λ (q : arrays.Remainder). leb (q .owed) 8) (take n rs)) → T (sizedIn count rs)
+sized-live count n rs e h t = rw e (and-i (leb n 32) (all (λ (q : arrays.Remainder). leb (q .owed) 8) (take n rs)) (le→leb n 32 h) t)
+
+pub small-live : (count : Count) (n room : ℕ) (m : List ℕ) → count ≡ Live n → SmallIn count room m → (n ≤ room) × Small n m
+small-live count n room m e h = subst (λ (k : Count). SmallIn k room m) e h

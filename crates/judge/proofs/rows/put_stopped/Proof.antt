@@ -1,0 +1,73 @@
+-- `put_stopped` meets its contract. The invariant: the first k of x are stored in row i, and the places before it are as they were. Assumes nothing.
+use mathlib.Core.Bool.{false}
+use mathlib.Core.Path.{_∙_}
+use Prim.Native.Nat.{_*_, _-_, _≤_}
+use native.Mathlib.Omega.{arith}
+use Rattle.judge.proofs.rows.Stored.{Copied, copied-start, copied-more, copied-all, places-kept}
+use borrow.Author.Needs.{needs}
+use Rattle.judge.proofs.rows.put_stopped.Statement.{statement}
+use Rattle.judge.proofs.rows.put_stopped.Tie as tie
+
+abbrev Inv-loop : tie.InvT-loop
+Inv-loop stopped₀ i x k₀ stopped k = (k ≤ 8) × Copied false (8 * i) stopped₀ x stopped k
+
+abbrev μ-loop : tie.MeasureT-loop
+μ-loop stopped₀ i x k₀ stopped k = 8 - k
+
+loop-holds : tie.Need-loop-holds Inv-loop μ-loop
+loop-holds c = (omega arith, copied-start false (8 * c .args .i) (c .args .stopped .now) (c .args .t3))
+
+array-read-is-stopped : tie.Need-array-read-is-stopped Inv-loop μ-loop
+array-read-is-stopped c = search needs
+
+mul-stopped : tie.Need-mul-stopped Inv-loop μ-loop
+mul-stopped c = search needs
+
+add-stopped : tie.Need-add-stopped Inv-loop μ-loop
+add-stopped c = search needs
+
+slice-write-stopped : tie.Need-slice-write-stopped Inv-loop μ-loop
+slice-write-stopped c = search needs
+
+add-k : tie.Need-add-k Inv-loop μ-loop
+add-k c = search needs
+
+loop-less : tie.Need-loop-less Inv-loop μ-loop
+loop-less c = search needs
+
+loop-again : tie.Need-loop-again Inv-loop μ-loop
+loop-again c =
+    let s = c .before .before in
+    let l = s .good .1 .1 .0 .1 .0 .1 in
+    (omega arith, copied-more false (8 * s .args .i) (s .args .stopped .now) (s .args .t3) (c .before .loop .stopped) (c .before .loop .k) (c .before .loop .inv .1) (omega arith) (omega arith))
+
+same-length : tie.Need-same-length Inv-loop μ-loop
+same-length c = search needs
+
+returns : tie.Need-returns Inv-loop μ-loop
+returns c =
+    let s = c .before .before in
+    let w = c .before .loop .inv .1 in (
+      w .0 ∙ s .pre .0,
+      (
+        copied-all false (8 * s .args .i) (s .args .stopped .now) (s .args .t3) (c .before .loop .stopped) (c .before .loop .k) w 8 (s .good .1 .1 .0 .1 .0 .1) (omega arith),
+        λ h l. places-kept false (8 * s .args .i) (8 * h) 8 (s .args .stopped .now) (c .before .loop .stopped) (omega arith) (w .2),
+      ),
+    )
+
+pub put-stopped-spec : {M : Type 1} → statement M
+put-stopped-spec =
+    tie.close
+    (tie.spec
+    Inv-loop
+    μ-loop
+    loop-holds
+    array-read-is-stopped
+    mul-stopped
+    add-stopped
+    slice-write-stopped
+    add-k
+    loop-less
+    loop-again
+    same-length
+    returns)

@@ -1,0 +1,43 @@
+-- What the rules make of the stopped clocks, one after the other. Assumes nothing.
+use mathlib.Core.Bool.{Bool}
+use mathlib.Core.List.{List, [], _∷_, map}
+use mathlib.Core.Path.{_≡_, refl, sym, _∙_}
+use Prim.Native.Nat.{ℕ, _+_, _<_, _≤_}
+use lib.ListN.{length, take, drop, getD}
+use types.Run.{OneOf, miss}
+use denote.Enum.Declared.{tagOf}
+use Rattle.records.proofs.line.Line.{the-type}
+use Rattle.records.specs.declared.line.Line.{Line}
+use Rattle.records.specs.declared.line.Line.the-variants.{Sporadic, Relation, Implies, Excludes, Delayed, Weakly, Strictly, Kills}
+use Rattle.judge.specs.declared.rules.Rule.{Rule}
+use Rattle.judge.specs.Rules.{ruleLine}
+use Rattle.judge.specs.Carried.{barredBy}
+use Rattle.judge.proofs.Places.{rest-end, rest-cons}
+use Rattle.judge.proofs.line.Laws.{stopped-keys}
+
+-- all but kills
+pub rest-barred : (ticks : List Bool) (l : Line) (barred : List Bool) → OneOf stopped-keys (tagOf the-type l) → barred ≡ barredBy ticks l barred
+rest-barred ticks (Kills A B) barred h = absurd (miss stopped-keys 7 tt h)
+rest-barred ticks (Sporadic A B t) barred h = refl
+rest-barred ticks (Relation A B p q) barred h = refl
+rest-barred ticks (Implies A B) barred h = refl
+rest-barred ticks (Excludes A B) barred h = refl
+rest-barred ticks (Delayed A B D d) barred h = refl
+rest-barred ticks (Weakly A B) barred h = refl
+rest-barred ticks (Strictly A B) barred h = refl
+
+-- past the end of the rules
+abbrev pub noRule : Rule
+noRule = record { kind = 0; a = 0; b = 0 }
+
+-- the lines of the first n rules, from place i on
+abbrev pub rulesFrom : List Rule → ℕ → ℕ → List Line
+rulesFrom rules n i = drop i (map ruleLine (take n rules))
+
+-- what all rules make of a value is what those from i on make of x
+module _ {A : Type 0} (step : Line → A → A) (fold : List Line → A → A) (none : (x : A) → fold [] x ≡ x) (more : (l : Line) (ls : List Line) (x : A) → fold (l ∷ ls) x ≡ fold ls (step l x)) (rules : List Rule) (n i : ℕ) (x : A) {whole : A} (w : whole ≡ fold (rulesFrom rules n i) x) where
+  pub fold-end : n ≤ i → x ≡ whole
+  fold-end h = sym (w ∙ rw (rest-end ruleLine rules n i h) (none x))
+
+  pub fold-more : i < n → n ≤ length rules → (l : Line) → l ≡ ruleLine (getD rules i noRule) → (after : A) → after ≡ step l x → whole ≡ fold (rulesFrom rules n (i + 1)) after
+  fold-more h k l e after f = w ∙ rw (rest-cons ruleLine rules n i noRule h k, f, e) (more _ _ x)

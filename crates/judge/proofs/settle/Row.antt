@@ -1,0 +1,119 @@
+-- What a filling makes of a row, by what depends on the filling alone, question by question. Assumes nothing.
+use mathlib.Core.Bool.{Bool, true, false, not, cond, _&&_}
+use mathlib.Core.List.{List}
+use mathlib.Core.Path.{_≡_, sym, ap, ap₂, _∙_}
+use Prim.Native.Nat.{ℕ, _+_, _-_, _<_, _≤_}
+use native.Mathlib.Omega.{arith}
+use lib.Dec.{T, leb}
+use lib.IntN.{ℤ}
+use lib.ListN.{length, getD, replicate, take}
+use borrow.Author.Tests.{not-true, not-false}
+use Rattle.records.specs.Sheet.{SheetValue}
+use Rattle.records.proofs.Lists.{length-listed}
+use Rattle.tesl.specs.Lists.{below, filter, flatMap}
+use Rattle.tesl.specs.Run.{Filled}
+use Rattle.tesl.specs.Fits.{Obligation, owedFrom}
+use Rattle.tesl.specs.Remainder.{Remainder}
+use Rattle.theory.specs.Step.{linesOk, nextLeads, wellFormed}
+use Rattle.judge.specs.declared.owed.Added.{Added}
+use Rattle.judge.specs.declared.owed.Kept.{Kept}
+use Rattle.judge.specs.declared.remainder.Remainder as arrays
+use Rattle.judge.specs.Advanced.{Advanced, fails, over, onto}
+use Rattle.judge.specs.View.{filledOf, inUse, cut, owedOf, owedIn, addedOf, keptOf, viewOf}
+use Rattle.judge.specs.Questions.{carriedHolds, leadAfter}
+use Rattle.judge.specs.Lines.{allStopped, smallLeads}
+use Rattle.judge.specs.Once.{onceEach}
+use Rattle.judge.specs.Owed.{owing, kept}
+use Rattle.judge.specs.Rules.{isRule}
+use Rattle.judge.specs.Carried.{allBarred, overlap, either, needOf, gainOf, lossOf}
+use Rattle.judge.specs.Rows.{Rows, Leading, rowOwed, rowLead, rowLeads, rowStop, rowStopped, rowOf}
+use Rattle.judge.specs.Work.{addedAll, carried, withBegun, withKept, advanced}
+use Rattle.judge.proofs.work.PaddedLaws.{below-ext}
+use Rattle.judge.proofs.work.Carried.{sheetLine, carried-holds, carried-stopped, carried-leads, small-gain}
+use Rattle.judge.proofs.rows.Effects.{listed-at}
+
+-- what was computed of a filling is what the sheet's lines make of it
+pub record Asked (v : SheetValue) (clocks reach : ℕ) (precede ticks : List Bool) (tags : List ℤ) (begun : List Obligation) (barred stops : List Bool) (needs gains losses : List ℕ) : Type 0 where
+  pub as-many : v .clocks ≡ clocks
+  pub few-clocks : v .clocks ≤ 8
+  pub few-lines : length (v .lines) ≤ 16
+  pub well : T (wellFormed v)
+  pub leading : Leading v reach precede
+  pub begins : begun ≡ onceEach (flatMap (owedFrom (filledOf ticks tags)) (v .lines))
+  pub bars : barred ≡ allBarred ticks (filter isRule (v .lines)) (replicate 8 false)
+  pub ends : stops ≡ allStopped ticks (filter isRule (v .lines)) (replicate 8 false)
+  pub moves : (k : ℕ) → k < reach → (getD needs k 0 ≡ needOf ticks (sheetLine v k)) × ((getD gains k 0 ≡ gainOf ticks (sheetLine v k)) × (getD losses k 0 ≡ lossOf ticks (sheetLine v k)))
+
+-- one more tick leaves a row's lead in 16 bits
+pub row-gain : (v : SheetValue) (ticks : List Bool) (R : Rows) (i : ℕ) → T (smallLeads (cut v (rowOf R i))) → (k : ℕ) → k < 16 → rowLead (R .leads) i k < 65536 → {gain : ℕ} → gain ≡ gainOf ticks (sheetLine v k) → rowLead (R .leads) i k + gain < 65536
+row-gain v ticks R i t k h fits {gain} e =
+    let at = listed-at (rowLead (R .leads) i) 0 16 k h in
+    omega (arith, small-gain v ticks (rowOf R i) t k (omega (arith, at, fits)), at, e)
+
+module _ {v : SheetValue} {clocks reach : ℕ} {precede ticks : List Bool} {tags : List ℤ} {begun : List Obligation} {barred stops : List Bool} {needs gains losses : List ℕ}
+    (a : Asked v clocks reach precede ticks tags begun barred stops needs gains losses) (R : Rows) (i : ℕ) where
+  abbrev row : Remainder
+  row = cut v (rowOf R i)
+
+  -- what the row becomes
+  abbrev became : Advanced
+  became = advanced v (filledOf ticks tags) begun row
+
+  abbrev enough : Bool
+  enough = below reach (λ (k : ℕ). leb (getD needs k 0) (rowLead (R .leads) i k))
+
+  lead-at : (k : ℕ) → k < reach → getD (rowLeads (R .leads) i) k 0 ≡ rowLead (R .leads) i k
+  lead-at k h = let r = a .leading .0 in listed-at (rowLead (R .leads) i) 0 16 k (omega arith)
+
+  holds : linesOk (carriedHolds ticks (row .stopped)) (v .lines) (row .leads) ≡ (not (overlap barred (rowStopped (R .stopped) i)) && enough)
+  holds =
+      carried-holds v ticks reach precede (a .leading) (rowLeads (R .leads) i) (a .well) (a .few-clocks) (rowStopped (R .stopped) i)
+      ∙ ap₂ (λ (bs : List Bool) (b : Bool). not (overlap bs (rowStopped (R .stopped) i)) && b) (sym (a .bars)) (below-ext reach _ _ (λ k h. ap₂ leb (sym (a .moves k h .0)) (lead-at k h)))
+
+  -- a stopped clock ticks; a lead is too short
+  module _ {b : Bool} (e : b ≡ overlap barred (rowStopped (R .stopped) i)) where
+    pub row-barred : b ≡ true → became ≡ fails
+    unfolding advanced
+    row-barred t = rw (holds, sym e, t)
+
+    module _ (t : b ≡ false) {h : Bool} (g : h ≡ enough) where
+      by-leads : became ≡ cond h (withKept v ticks begun row (kept (filledOf ticks tags) (row .owed))) fails
+      unfolding advanced
+      by-leads = rw (holds, sym e, t, sym g)
+
+      pub row-short : not h ≡ true → became ≡ fails
+      row-short u = by-leads ∙ rw (not-true h u)
+
+      -- an obligation is late; there is no room for one
+      module _ (u : not h ≡ false) (k : Kept) (m : keptOf k ≡ kept (filledOf ticks tags) (rowOwed (R .marks) (R .dues) i)) where
+        by-kept : became ≡ withKept v ticks begun row (keptOf k)
+        by-kept = by-leads ∙ rw (not-false h u, m)
+
+        pub row-late : k .late ≡ true → became ≡ fails
+        row-late l = by-kept ∙ rw l
+
+        module _ (l : k .late ≡ false) (o : Added) (n : addedOf o ≡ addedAll begun (owedIn (k .owed))) where
+          by-added : became ≡ withBegun v ticks row (addedOf o)
+          by-added = by-kept ∙ rw (l, n)
+
+          pub row-over : o .over ≡ true → became ≡ over
+          row-over q = by-added ∙ rw q
+
+          -- the row goes on
+          pub row-onto : o .over ≡ false → (x : arrays.Remainder) → owedOf x ≡ owedIn (o .owed) → ((k : ℕ) → k < reach → getD (x .leads) k 0 ≡ rowLead (R .leads) i k + getD gains k 0 - getD losses k 0) → x .stopped ≡ either (rowStopped (R .stopped) i) stops
+              → became ≡ onto (viewOf v x)
+          row-onto q x owed leads stopped = goes ∙ ap onto (sym (ap₂ (λ (ns : List ℕ) (bs : List Bool). record { owed = owedOf x; leads = ns; stopped = bs }) on-leads on-stopped ∙ ap (λ (os : List Obligation). carried v ticks (owing os row)) owed))
+            where
+              goes : became ≡ onto (carried v ticks (owing (owedIn (o .owed)) row))
+              goes = by-added ∙ rw q
+
+              moved : (k : ℕ) → k < reach → getD (x .leads) k 0 ≡ getD (rowLeads (R .leads) i) k 0 + gainOf ticks (sheetLine v k) - lossOf ticks (sheetLine v k)
+              moved k h = leads k h ∙ rw (lead-at k h, sym (a .moves k h .1 .0), sym (a .moves k h .1 .1))
+
+              on-leads : nextLeads inUse (v .lines) (x .leads) ≡ nextLeads (leadAfter ticks) (v .lines) (row .leads)
+              on-leads = carried-leads v ticks reach precede (a .leading) (rowLeads (R .leads) i) (x .leads) moved
+
+              on-stopped : take (v .clocks) (x .stopped) ≡ allStopped ticks (v .lines) (row .stopped)
+              on-stopped =
+                  ap (take (v .clocks)) (stopped ∙ ap (either (rowStopped (R .stopped) i)) (a .ends))
+                  ∙ carried-stopped v ticks (rowStopped (R .stopped) i) (length-listed (rowStop (R .stopped) i) 8)

@@ -1,0 +1,139 @@
+-- Rows settled from row i on, and fillings taken from filling f on. Assumes nothing.
+use mathlib.Core.Bool.{Bool, true, false}
+use mathlib.Core.List.{List, [], _∷_, _++_}
+use mathlib.Core.Option.{Option, none, some}
+use mathlib.Core.Path.{_≡_, refl, sym, ap, subst, _∙_}
+use Prim.Native.Nat.{ℕ, zero, suc, _+_, _-_, _<_, _≤_}
+use native.Mathlib.Nat.{add-zero, zero-add}
+use native.Mathlib.Omega.{arith}
+use lib.Dec.{T}
+use lib.IntN.{ℤ}
+use lib.ListN.{length}
+use borrow.Author.Tests.{lt-ltb, le-ltb}
+use Rattle.records.specs.declared.sheet.Sheet.{Sheet}
+use Rattle.records.specs.Lists.{listedFrom}
+use Rattle.records.specs.Sheet.{SheetValue, lineAt, sheetValue}
+use Rattle.records.proofs.Lists.{length-listed, listed-cons, listed-end}
+use Rattle.tesl.specs.Lists.{all, any, flatMap}
+use Rattle.tesl.specs.Run.{Filled}
+use Rattle.tesl.specs.Fits.{Obligation, owedFrom}
+use Rattle.tesl.specs.Remainder.{Remainder}
+use Rattle.tesl.proofs.Tests.{and-l, and-r}
+use Rattle.judge.specs.declared.held.Count.{Count}
+use Rattle.judge.specs.declared.held.Count.the-variants.{Exhausted, Live}
+use Rattle.judge.specs.Advanced.{Advanced, fails, over, onto}
+use Rattle.judge.specs.View.{filledOf, cut}
+use Rattle.judge.specs.Lines.{smallLeads}
+use Rattle.judge.specs.Once.{onceEach}
+use Rattle.judge.specs.Work.{sameCounted, inserted, took, advanced, settledAll}
+use Rattle.judge.specs.Fillings.{fillingIn, fillingsIn, takenBy, settling}
+use Rattle.judge.specs.Rows.{Rows, rowOf, rowsOf, foundIn, Small, SmallIn}
+use Rattle.judge.proofs.work.Once.{settled-once}
+
+-- ---- a row
+all-listed : {A : Type 0} (p : A → Bool) (f : ℕ → A) (i n j : ℕ) → T (all p (listedFrom f i n)) → j < n → T (p (f (i + j)))
+unfolding listedFrom
+all-listed p f i zero j t h = absurd (omega arith)
+all-listed p f i (suc n) zero t h = rw add-zero (and-l (p (f i)) (all p (listedFrom f (i + 1) n)) t)
+all-listed p f i (suc n) (suc j) t h =
+    let k : i + suc j ≡ i + 1 + j = omega arith in
+    rw k (all-listed p f (i + 1) n j (and-r (p (f i)) (all p (listedFrom f (i + 1) n)) t) (omega arith))
+
+pub row-small : (v : SheetValue) (R : Rows) (n i : ℕ) → i < n → T (all smallLeads (rowsOf v n R)) → T (smallLeads (cut v (rowOf R i)))
+row-small v R n i h t = simp zero-add at (all-listed smallLeads (λ k. cut v (rowOf R k)) 0 n i t h)
+
+pub few-lines : (s : Sheet) → s .count ≤ 16 → length (sheetValue s .lines) ≤ 16
+few-lines s h = omega (arith, length-listed (lineAt s) (s .count))
+
+-- ---- once exhausted, it stays so
+took-none : (room : ℕ) (a : Advanced) → took room none a ≡ none
+unfolding inserted
+took-none room fails = refl
+took-none room over = refl
+took-none room (onto x) = refl
+
+pub settled-none : (room : ℕ) (v : SheetValue) (f : Filled) (begun : List Obligation) (rs : List Remainder) → settledAll room v f begun rs none ≡ none
+unfolding settledAll
+settled-none room v f begun [] = refl
+settled-none room v f begun (r ∷ rs) = rw (took-none room (advanced v f begun r)) (settled-none room v f begun rs)
+
+-- ---- a turn of the loop over the rows
+module _ (room : ℕ) (v : SheetValue) (f : Filled) (begun : List Obligation) (R : Rows) (n : ℕ) where
+  abbrev pub settledFrom : ℕ → Option (List Remainder) → Option (List Remainder)
+  settledFrom i = settledAll room v f begun (listedFrom (λ k. cut v (rowOf R k)) i (n - i))
+
+  -- each obligation begun once is all of them
+  pub settled-start : begun ≡ onceEach (flatMap (owedFrom f) (v .lines)) → (found : Option (List Remainder)) → settledAll room v f (flatMap (owedFrom f) (v .lines)) (rowsOf v n R) found ≡ settledFrom 0 found
+  settled-start e found = let z : n - 0 ≡ n = omega arith in rw (z, e) (sym (settled-once v f (flatMap (owedFrom f) (v .lines)) room (rowsOf v n R) found))
+
+  module _ (i : ℕ) (O : Rows) (live : ℕ) {whole : Option (List Remainder)} (w : whole ≡ settledFrom i (some (rowsOf v live O))) where
+    pub settled-end : n ≤ i → some (rowsOf v live O) ≡ whole
+    unfolding settledAll
+    settled-end h = sym (w ∙ rw (listed-end (λ k. cut v (rowOf R k)) n i h))
+
+    -- what became of the row
+    module _ (h : i < n) where
+      turned : (a : Advanced) → advanced v f begun (cut v (rowOf R i)) ≡ a → whole ≡ settledFrom (i + 1) (took room (some (rowsOf v live O)) a)
+      unfolding settledAll
+      turned a g = w ∙ rw (listed-cons (λ k. cut v (rowOf R k)) n i h) (ap (λ (x : Advanced). settledFrom (i + 1) (took room (some (rowsOf v live O)) x)) g)
+
+      gone : whole ≡ settledFrom (i + 1) none → none ≡ whole
+      gone e = sym (e ∙ settled-none room v f begun (listedFrom (λ k. cut v (rowOf R k)) (i + 1) (n - (i + 1))))
+
+      pub settled-fails : advanced v f begun (cut v (rowOf R i)) ≡ fails → whole ≡ settledFrom (i + 1) (some (rowsOf v live O))
+      settled-fails g = turned fails g
+
+      pub settled-over : advanced v f begun (cut v (rowOf R i)) ≡ over → none ≡ whole
+      settled-over g = gone (turned over g)
+
+      module _ {x : Remainder} (g : advanced v f begun (cut v (rowOf R i)) ≡ onto x) {b : Bool} (m : b ≡ any (sameCounted x) (rowsOf v live O)) where
+        pub settled-there : b ≡ true → whole ≡ settledFrom (i + 1) (some (rowsOf v live O))
+        unfolding inserted
+        settled-there t = turned (onto x) g ∙ rw (sym m, t)
+
+        pub settled-full : b ≡ false → room ≤ live → none ≡ whole
+        unfolding inserted
+        settled-full t k = gone (turned (onto x) g ∙ rw (sym m, t, length-listed (λ k. cut v (rowOf O k)) live, le-ltb live room k))
+
+        pub settled-more : b ≡ false → live < room → (next : List Remainder) → next ≡ rowsOf v live O ++ (x ∷ []) → whole ≡ settledFrom (i + 1) (some next)
+        unfolding inserted
+        settled-more t k next p = turned (onto x) g ∙ rw (sym m, t, length-listed (λ k. cut v (rowOf O k)) live, lt-ltb live room k, p)
+
+-- ---- a turn of the loop over the fillings
+module _ (room : ℕ) (v : SheetValue) (tags : List ℤ) (rs : List Remainder) (list : List Bool) (m : ℕ) where
+  abbrev pub takenFrom : ℕ → Option (List Remainder) → Option (List Remainder)
+  takenFrom f = takenBy (settling room v tags rs) (listedFrom (fillingIn list) f (m - f))
+
+  pub taken-start : (O : Rows) → takenBy (settling room v tags rs) (fillingsIn list m) (some []) ≡ takenFrom 0 (some (rowsOf v 0 O))
+  unfolding listedFrom
+  taken-start O = let z : m - 0 ≡ m = omega arith in rw z
+
+  taken-none : (more : List (List Bool)) → takenBy (settling room v tags rs) more none ≡ none
+  taken-none [] = refl
+  taken-none (ticks ∷ more) = rw (settled-none room v (filledOf ticks tags) (flatMap (owedFrom (filledOf ticks tags)) (v .lines)) rs) (taken-none more)
+
+  module _ (f : ℕ) (found : Option (List Remainder)) {whole : Option (List Remainder)} (w : whole ≡ takenFrom f found) where
+    pub taken-end : m ≤ f → found ≡ whole
+    taken-end h = sym (w ∙ rw (listed-end (fillingIn list) m f h))
+
+    pub taken-turn : f < m → (ticks : List Bool) → ticks ≡ fillingIn list f → (next : Option (List Remainder)) → next ≡ settling room v tags rs found ticks → whole ≡ takenFrom (f + 1) next
+    taken-turn h ticks e next g = w ∙ rw (listed-cons (fillingIn list) m f h, sym e) (ap (takenFrom (f + 1)) (sym g))
+
+  -- what the filling made of those found
+  module _ (f : ℕ) (count : Count) (O : Rows) {whole : Option (List Remainder)} (w : whole ≡ takenFrom f (foundIn v count O)) where
+    pub taken-over : count ≡ Exhausted → none ≡ whole
+    taken-over q = sym (w ∙ rw q (taken-none (listedFrom (fillingIn list) f (m - f))))
+
+    pub taken-more : (n : ℕ) → count ≡ Live n → whole ≡ takenFrom f (some (rowsOf v n O))
+    taken-more n q = w ∙ rw q
+
+-- ---- a count of rows that the arrays have room for
+module _ {count : Count} {n : ℕ} (e : count ≡ Live n) (room : ℕ) (marks : List ℕ) (t : SmallIn count room marks) where
+  in-room : (n ≤ room) × Small n marks
+  in-room = subst (λ (c : Count). SmallIn c room marks) e t
+
+  pub live-room : n ≤ room
+  live-room = in-room .0
+
+  pub live-small : Small n marks
+  live-small = in-room .1

@@ -1,0 +1,339 @@
+-- An unseen tick that no line and no obligation held names may count as idle: a filling with it makes of the remainders held what the filling without it does, and what was found once is not found again. Assumes nothing.
+use mathlib.Core.Bool.{Bool, true, false, cond, _&&_, Bool·beq, or-true, true≢false}
+use mathlib.Core.List.{List, [], _∷_, _++_, map}
+use mathlib.Core.Option.{Option, none, some}
+use mathlib.Core.Path.{_≡_, refl, sym, ap, _∙_}
+use Prim.Native.Nat.{ℕ, zero, suc, _+_, _<_}
+use native.Mathlib.Omega.{arith}
+use lib.Dec.{T, eqb, ltb, eqb-refl, eqb→eq}
+use lib.IntN.{ℤ}
+use lib.ListN.{length, getD, set, replicate, length-append}
+use lib.Seq.{getD-set-other, set-comm}
+use borrow.Author.Tests.{eq-eqb}
+use Rattle.records.specs.declared.instant.Tick.{Tick}
+use Rattle.records.specs.declared.instant.Tick.the-variants.{Idle, Ticks, Unseen}
+use Rattle.records.specs.declared.line.Line.{Line}
+use Rattle.records.specs.declared.line.Line.the-variants.{Sporadic, Relation, Implies, Excludes, Delayed, Weakly, Strictly, Kills}
+use Rattle.records.specs.Lists.{listedFrom}
+use Rattle.records.specs.Sheet.{SheetValue}
+use Rattle.records.specs.Types.{All}
+use Rattle.records.proofs.Lists.{neither}
+use Rattle.tesl.specs.Lists.{all, any, flatMap, within, sameList}
+use Rattle.tesl.specs.Run.{Filled}
+use Rattle.tesl.specs.Fits.{Obligation, owedFrom}
+use Rattle.tesl.specs.Remainder.{Remainder, sameObligation, sameRemainder}
+use Rattle.tesl.proofs.Tests.{and-l, and-r, and-i, T→≡, ≡→T}
+use Rattle.theory.specs.Step.{linesOk, nextLeads}
+use Rattle.theory.proofs.Lists.{any-append, any-snoc}
+use Rattle.theory.proofs.Respect.{remainder-equivalence}
+use Rattle.judge.specs.Advanced.{Advanced, fails, over, onto}
+use Rattle.judge.specs.View.{filledOf, cut, live, isNone}
+use Rattle.judge.specs.Questions.{tickIn, ticksHold, carriedHolds, leadAfter, stoppedAfter}
+use Rattle.judge.specs.Lines.{allStopped}
+use Rattle.judge.specs.Owed.{owing, left, kept}
+use Rattle.judge.specs.Rows.{Rows, rowObligation, rowCount, rowOf, rowsOf}
+use Rattle.judge.specs.Heed.{namedBy, rowClocks, rowsClocks, flagged, heeds, tickHeeded, heeded}
+use Rattle.judge.specs.Work.{carried, withBegun, withKept, addedAll, advanced, sameCounted, inserted, took, settledAll, filling, fillFrom}
+
+abbrev Found : Type 0
+Found = Option (List Remainder)
+
+-- ---- fillings, where a tick of clock k changes nothing
+module _ (g : Found → List Bool → Found) where
+  abbrev Ignores : ℕ → Type 0
+  Ignores k = (found : Found) (ticks : List Bool) → g found (set ticks k true) ≡ g found ticks
+
+  fill-ignores : (k j : ℕ) → k < j → Ignores k → (seen : List Tick) (ticks : List Bool) (found : Found) → fillFrom g j seen (set ticks k true) found ≡ fillFrom g j seen ticks found
+  fill-ignores k j h e [] ticks found = e found ticks
+  fill-ignores k j h e (Idle ∷ seen) ticks found = fill-ignores k (j + 1) (omega arith) e seen ticks found
+  fill-ignores k j h e (Ticks ∷ seen) ticks found =
+      ap (λ (t : List Bool). fillFrom g (j + 1) seen t found) (set-comm ticks k j true true (λ z. absurd (omega arith)))
+      ∙ fill-ignores k (j + 1) (omega arith) e seen (set ticks j true) found
+  fill-ignores k j h e (Unseen ∷ seen) ticks found =
+      ap (λ (t : List Bool). fillFrom g (j + 1) seen t (fillFrom g (j + 1) seen (set ticks k true) found)) (set-comm ticks k j true true (λ z. absurd (omega arith)))
+      ∙ fill-ignores k (j + 1) (omega arith) e seen (set ticks j true) (fillFrom g (j + 1) seen (set ticks k true) found)
+      ∙ ap (fillFrom g (j + 1) seen (set ticks j true)) (fill-ignores k (j + 1) (omega arith) e seen ticks found)
+
+-- ---- outcomes found again
+counted-self : (x : Remainder) → T (sameCounted x x)
+unfolding sameCounted sameRemainder
+counted-self x =
+    let t = remainder-equivalence .reflex x in
+    let l = sameList eqb (x .leads) (x .leads) in
+    let s = sameList Bool·beq (x .stopped) (x .stopped) in
+    let w = within sameObligation (x .owed) (x .owed) in
+    let t₁ = and-r l (s && (w && w)) t in
+    and-i (eqb (length (x .owed)) (length (x .owed))) (s && (l && w)) (eqb-refl (length (x .owed)))
+    (and-i s (l && w) (and-l s (w && w) t₁) (and-i l w (and-l l (s && (w && w)) t) (and-l w w (and-r s (w && w) t₁))))
+
+module _ (room : ℕ) where
+  -- those found with one more, by whether it is there and whether there is room
+  abbrev with-one : Bool → Bool → List Remainder → Remainder → Found
+  with-one t u rs x = cond t (some rs) (cond u (some (rs ++ (x ∷ []))) none)
+
+  there : (x : Remainder) (rs : List Remainder) → any (sameCounted x) rs ≡ true → inserted room (some rs) x ≡ some rs
+  unfolding inserted
+  there x rs e = rw e
+
+  found-there : (x : Remainder) (rs : List Remainder) → inserted room (some rs) x ≡ some rs → any (sameCounted x) rs ≡ true
+  unfolding inserted
+  found-there x rs h = by-tests (any (sameCounted x) rs) (ltb (length rs) room) h
+    where
+      by-tests : (t u : Bool) → with-one t u rs x ≡ some rs → t ≡ true
+      by-tests true u h = refl
+      by-tests false true h = absurd (omega (arith, length-append rs (x ∷ []), ap (λ (q : Found). length (live q)) h))
+      by-tests false false h = absurd (true≢false (ap isNone h))
+
+  took-none : (a : Advanced) → took room none a ≡ none
+  unfolding inserted
+  took-none fails = refl
+  took-none over = refl
+  took-none (onto x) = refl
+
+  -- an outcome that leaves p as it is leaves q as it is
+  abbrev Holds : Found → Found → Type 0
+  Holds p q = (a : Advanced) → took room p a ≡ p → took room q a ≡ q
+
+  more-hold : (rs : List Remainder) (x : Remainder) → Holds (some rs) (some (rs ++ (x ∷ [])))
+  more-hold rs x fails h = refl
+  more-hold rs x over h = absurd (true≢false (ap isNone h))
+  more-hold rs x (onto y) h = there y (rs ++ (x ∷ [])) (any-snoc (sameCounted y) rs x ∙ rw (found-there y rs h))
+
+  took-holds : (p : Found) (a : Advanced) → Holds p (took room p a)
+  unfolding inserted
+  took-holds none a b h = ap (λ (q : Found). took room q b) (took-none a) ∙ took-none b ∙ sym (took-none a)
+  took-holds (some rs) fails b h = h
+  took-holds (some rs) over b h = took-none b
+  took-holds (some rs) (onto x) b h = by-tests (any (sameCounted x) rs) (ltb (length rs) room)
+    where
+      by-tests : (t u : Bool) → took room (with-one t u rs x) b ≡ with-one t u rs x
+      by-tests true u = h
+      by-tests false true = more-hold rs x b h
+      by-tests false false = took-none b
+
+  took-again : (p : Found) (a : Advanced) → took room (took room p a) a ≡ took room p a
+  unfolding inserted
+  took-again none a = ap (λ (q : Found). took room q a) (took-none a)
+  took-again (some rs) fails = refl
+  took-again (some rs) over = refl
+  took-again (some rs) (onto x) = by-tests (any (sameCounted x) rs) (ltb (length rs) room) refl
+    where
+      by-tests : (t u : Bool) → any (sameCounted x) rs ≡ t → inserted room (with-one t u rs x) x ≡ with-one t u rs x
+      by-tests true u e = there x rs e
+      by-tests false true e = there x (rs ++ (x ∷ [])) (any-snoc (sameCounted x) rs x ∙ rw (T→≡ (sameCounted x x) (counted-self x)) (or-true (any (sameCounted x) rs)))
+      by-tests false false e = refl
+
+  -- a step that takes outcomes: what it has taken is held, and leaves what holds it as it is
+  record Taking (go : Found → Found) : Type 0 where
+    pub holds : (p : Found) → Holds p (go p)
+    pub again : (p q : Found) → Holds (go p) q → go q ≡ q
+
+  take-nothing : Taking (λ p. p)
+  take-nothing = record { holds = λ p a h. h; again = λ p q h. refl }
+
+  take-one : (a : Advanced) → Taking (λ p. took room p a)
+  take-one a = record { holds = λ p. took-holds p a; again = λ p q h. h a (took-again p a) }
+
+  take-both : (f g : Found → Found) → Taking f → Taking g → Taking (λ p. g (f p))
+  take-both f g a b = record {
+    holds = λ p o h. b .holds (f p) o (a .holds p o h);
+    again = λ p q h. ap g (a .again p q (λ o k. h o (b .holds (f p) o k))) ∙ b .again (f p) q h;
+  }
+
+  module _ (v : SheetValue) where
+    settling-takes : (f : Filled) (begun : List Obligation) (rs : List Remainder) → Taking (settledAll room v f begun rs)
+    unfolding settledAll
+    settling-takes f begun [] = take-nothing
+    settling-takes f begun (r ∷ rs) = take-both (λ p. took room p (advanced v f begun r)) (settledAll room v f begun rs) (take-one (advanced v f begun r)) (settling-takes f begun rs)
+
+    filling-takes : (tags : List ℤ) (rs : List Remainder) (ticks : List Bool) → Taking (λ p. filling room v tags rs p ticks)
+    unfolding filling
+    filling-takes tags rs ticks = by-test (all (ticksHold ticks) (v .lines))
+      where
+        begun : List Obligation
+        begun = flatMap (owedFrom (filledOf ticks tags)) (v .lines)
+
+        by-test : (b : Bool) → Taking (λ p. cond b (settledAll room v (filledOf ticks tags) begun rs p) p)
+        by-test true = settling-takes (filledOf ticks tags) begun rs
+        by-test false = take-nothing
+
+  -- ---- fillings, where those of a clock that p doesn't heed do as one
+  module _ (g : Found → List Bool → Found) (takes : (ticks : List Bool) → Taking (λ p. g p ticks)) where
+    fill-takes : (k : ℕ) (seen : List Tick) (ticks : List Bool) → Taking (fillFrom g k seen ticks)
+    fill-takes k [] ticks = takes ticks
+    fill-takes k (Idle ∷ seen) ticks = fill-takes (k + 1) seen ticks
+    fill-takes k (Ticks ∷ seen) ticks = fill-takes (k + 1) seen (set ticks k true)
+    fill-takes k (Unseen ∷ seen) ticks =
+        take-both (fillFrom g (k + 1) seen ticks) (fillFrom g (k + 1) seen (set ticks k true)) (fill-takes (k + 1) seen ticks) (fill-takes (k + 1) seen (set ticks k true))
+
+    module _ (p : ℕ → Bool) (ignores : (k : ℕ) → p k ≡ false → Ignores g k) where
+      abbrev Alike : ℕ → List Tick → List Tick → Type 0
+      Alike k left seen = (ticks : List Bool) (found : Found) → fillFrom g k seen ticks found ≡ fillFrom g k left ticks found
+
+      by-flag : (b : Bool) (k : ℕ) → p k ≡ b → (t : Tick) (left seen : List Tick) → Alike (k + 1) left seen → Alike k (tickHeeded b t ∷ left) (t ∷ seen)
+      by-flag true k e Idle left seen ih ticks found = ih ticks found
+      by-flag false k e Idle left seen ih ticks found = ih ticks found
+      by-flag true k e Ticks left seen ih ticks found = ih (set ticks k true) found
+      by-flag false k e Ticks left seen ih ticks found = ih (set ticks k true) found
+      by-flag true k e Unseen left seen ih ticks found = ih (set ticks k true) (fillFrom g (k + 1) seen ticks found) ∙ ap (fillFrom g (k + 1) left (set ticks k true)) (ih ticks found)
+      by-flag false k e Unseen left seen ih ticks found =
+          fill-ignores g k (k + 1) (omega arith) (ignores k e) seen ticks (fillFrom g (k + 1) seen ticks found)
+          ∙ fill-takes (k + 1) seen ticks .again found (fillFrom g (k + 1) seen ticks found) (λ a h. h)
+          ∙ ih ticks found
+
+      fill-heeded : (k : ℕ) (seen : List Tick) → Alike k (heeded p k seen) seen
+      fill-heeded k [] ticks found = refl
+      fill-heeded k (t ∷ seen) ticks found = by-flag (p k) k refl t (heeded p (k + 1) seen) seen (fill-heeded (k + 1) seen) ticks found
+
+-- the clocks that a remainder owes a tick of
+abbrev clocksOf : Remainder → List ℕ
+clocksOf r = map (λ (o : Obligation). o .clock) (r .owed)
+
+-- ---- lines and obligations that don't name clock k don't tell ticks t and u apart
+module _ (k : ℕ) (t u : List Bool) (e : (a : ℕ) → eqb k a ≡ false → tickIn u a ≡ tickIn t a) where
+  record Same (l : Line) : Type 0 where
+    pub rule : ticksHold u l ≡ ticksHold t l
+    pub holds : (stopped : List Bool) (lead : ℕ) → carriedHolds u stopped l lead ≡ carriedHolds t stopped l lead
+    pub begun : (tags : List ℤ) → owedFrom (filledOf u tags) l ≡ owedFrom (filledOf t tags) l
+    pub lead : (n : ℕ) → leadAfter u l n ≡ leadAfter t l n
+    pub stop : (stopped : List Bool) → stoppedAfter u l stopped ≡ stoppedAfter t l stopped
+
+  module _ (A B : ℕ) (h : any (eqb k) (A ∷ B ∷ []) ≡ false) where
+    one : tickIn u A ≡ tickIn t A
+    one = e A (neither (eqb k A) h .0)
+
+    two : tickIn u B ≡ tickIn t B
+    two = e B (neither (eqb k B) (neither (eqb k A) h .1) .0)
+
+  same : (l : Line) → any (eqb k) (namedBy l) ≡ false → Same l
+  same (Implies A B) h = record { rule = rw (one A B h, two A B h); holds = λ s n. refl; begun = λ tags. refl; lead = λ n. refl; stop = λ s. refl }
+  same (Excludes A B) h = record { rule = rw (one A B h, two A B h); holds = λ s n. refl; begun = λ tags. refl; lead = λ n. refl; stop = λ s. refl }
+  same (Weakly A B) h = record { rule = refl; holds = λ s n. rw (one A B h, two A B h); begun = λ tags. refl; lead = λ n. rw (one A B h, two A B h); stop = λ s. refl }
+  same (Strictly A B) h = record { rule = refl; holds = λ s n. rw (two A B h); begun = λ tags. refl; lead = λ n. rw (one A B h, two A B h); stop = λ s. refl }
+  same (Kills A B) h = record { rule = rw (one A B h, two A B h); holds = λ s n. rw (two A B h); begun = λ tags. refl; lead = λ n. refl; stop = λ s. rw (one A B h) }
+  same (Delayed A B D d) h = record { rule = refl; holds = λ s n. refl; begun = λ tags. rw (e A (neither (eqb k A) h .0)); lead = λ n. refl; stop = λ s. refl }
+  same (Sporadic A B d) h = record { rule = refl; holds = λ s n. refl; begun = λ tags. refl; lead = λ n. refl; stop = λ s. refl }
+  same (Relation A B p q) h = record { rule = refl; holds = λ s n. refl; begun = λ tags. refl; lead = λ n. refl; stop = λ s. refl }
+
+  same-all : (ls : List Line) → any (eqb k) (flatMap namedBy ls) ≡ false → All Same ls
+  same-all [] h = tt
+  same-all (l ∷ ls) h = let n = neither (any (eqb k) (namedBy l)) (sym (any-append (eqb k) (namedBy l) (flatMap namedBy ls)) ∙ h) in (same l (n .0), same-all ls (n .1))
+
+  rules-same : (ls : List Line) → All Same ls → all (ticksHold u) ls ≡ all (ticksHold t) ls
+  rules-same [] h = refl
+  rules-same (l ∷ ls) h = rw (h .0 .rule, rules-same ls (h .1))
+
+  holds-same : (stopped : List Bool) (ls : List Line) (leads : List ℕ) → All Same ls → linesOk (carriedHolds u stopped) ls leads ≡ linesOk (carriedHolds t stopped) ls leads
+  holds-same stopped [] leads h = refl
+  holds-same stopped (l ∷ ls) [] h = rw (h .0 .holds stopped 0, holds-same stopped ls [] (h .1))
+  holds-same stopped (l ∷ ls) (n ∷ leads) h = rw (h .0 .holds stopped n, holds-same stopped ls leads (h .1))
+
+  begun-same : (tags : List ℤ) (ls : List Line) → All Same ls → flatMap (owedFrom (filledOf u tags)) ls ≡ flatMap (owedFrom (filledOf t tags)) ls
+  begun-same tags [] h = refl
+  begun-same tags (l ∷ ls) h = rw (h .0 .begun tags, begun-same tags ls (h .1))
+
+  leads-same : (ls : List Line) (leads : List ℕ) → All Same ls → nextLeads (leadAfter u) ls leads ≡ nextLeads (leadAfter t) ls leads
+  leads-same [] leads h = refl
+  leads-same (l ∷ ls) [] h = rw (h .0 .lead 0, leads-same ls [] (h .1))
+  leads-same (l ∷ ls) (n ∷ leads) h = rw (h .0 .lead n, leads-same ls leads (h .1))
+
+  stopped-same : (ls : List Line) (stopped : List Bool) → All Same ls → allStopped u ls stopped ≡ allStopped t ls stopped
+  stopped-same [] stopped h = refl
+  stopped-same (l ∷ ls) stopped h = rw (h .0 .stop stopped) (stopped-same ls (stoppedAfter t l stopped) (h .1))
+
+  left-same : (tags : List ℤ) (os : List Obligation) → any (eqb k) (map (λ (o : Obligation). o .clock) os) ≡ false → left (filledOf u tags) os ≡ left (filledOf t tags) os
+  left-same tags [] h = refl
+  left-same tags (o ∷ os) h = let n = neither (eqb k (o .clock)) h in rw (e (o .clock) (n .0), left-same tags os (n .1))
+
+  module _ (v : SheetValue) (h : All Same (v .lines)) (tags : List ℤ) where
+    carried-same : (r : Remainder) → carried v u r ≡ carried v t r
+    carried-same r = rw (leads-same (v .lines) (r .leads) h, stopped-same (v .lines) (r .stopped) h)
+
+    with-begun : (r : Remainder) (q : Option (List Obligation)) → withBegun v u r q ≡ withBegun v t r q
+    with-begun r none = refl
+    with-begun r (some os) = ap onto (carried-same (owing os r))
+
+    with-kept : (begun : List Obligation) (r : Remainder) (q : Option (List Obligation)) → withKept v u begun r q ≡ withKept v t begun r q
+    with-kept begun r none = refl
+    with-kept begun r (some os) = with-begun r (addedAll begun os)
+
+    advanced-same : (begun : List Obligation) (r : Remainder) → any (eqb k) (clocksOf r) ≡ false → advanced v (filledOf u tags) begun r ≡ advanced v (filledOf t tags) begun r
+    unfolding advanced kept
+    advanced-same begun r n = rw (holds-same (r .stopped) (v .lines) (r .leads) h, left-same tags (r .owed) n, with-kept begun r (kept (filledOf t tags) (r .owed)))
+
+    settled-same : (room : ℕ) (begun : List Obligation) (rs : List Remainder) (found : Found) → any (eqb k) (flatMap clocksOf rs) ≡ false
+        → settledAll room v (filledOf u tags) begun rs found ≡ settledAll room v (filledOf t tags) begun rs found
+    unfolding settledAll
+    settled-same room begun [] found n = refl
+    settled-same room begun (r ∷ rs) found n =
+        let m = neither (any (eqb k) (clocksOf r)) (sym (any-append (eqb k) (clocksOf r) (flatMap clocksOf rs)) ∙ n) in
+        rw (advanced-same begun r (m .0)) (settled-same room begun rs (took room found (advanced v (filledOf t tags) begun r)) (m .1))
+
+    filling-same : (room : ℕ) (rs : List Remainder) (found : Found) → any (eqb k) (flatMap clocksOf rs) ≡ false → filling room v tags rs found u ≡ filling room v tags rs found t
+    unfolding filling
+    filling-same room rs found n =
+        rw (rules-same (v .lines) h, begun-same tags (v .lines) h, settled-same room (flatMap (owedFrom (filledOf t tags)) (v .lines)) rs found n)
+
+-- ---- the clocks with a flag
+set-stays : (flags : List Bool) (a k : ℕ) → getD flags k true ≡ true → getD (set flags a true) k true ≡ true
+set-stays [] a k h = h
+set-stays (b ∷ flags) zero zero h = refl
+set-stays (b ∷ flags) zero (suc k) h = h
+set-stays (b ∷ flags) (suc a) zero h = h
+set-stays (b ∷ flags) (suc a) (suc k) h = set-stays flags a k h
+
+set-here : (flags : List Bool) (k : ℕ) → getD (set flags k true) k true ≡ true
+set-here [] k = refl
+set-here (b ∷ flags) zero = refl
+set-here (b ∷ flags) (suc k) = set-here flags k
+
+flags-stay : (ks : List ℕ) (flags : List Bool) (k : ℕ) → getD flags k true ≡ true → getD (flagged ks flags) k true ≡ true
+flags-stay [] flags k h = h
+flags-stay (a ∷ ks) flags k h = flags-stay ks (set flags a true) k (set-stays flags a k h)
+
+-- a clock without a flag is not among those that were given one, and had none before
+unflagged : (ks : List ℕ) (flags : List Bool) (k : ℕ) → getD (flagged ks flags) k true ≡ false → (any (eqb k) ks ≡ false) × (getD flags k true ≡ false)
+unflagged ks flags k h = (none-of ks flags h, by-flag (getD flags k true) (flags-stay ks flags k))
+  where
+    by-flag : (b : Bool) → (b ≡ true → getD (flagged ks flags) k true ≡ true) → b ≡ false
+    by-flag true f = absurd (true≢false (sym (f refl) ∙ h))
+    by-flag false f = refl
+
+    none-of : (ks : List ℕ) (flags : List Bool) → getD (flagged ks flags) k true ≡ false → any (eqb k) ks ≡ false
+    none-of [] flags h = refl
+    none-of (a ∷ ks) flags h = rw (other (eqb k a) (λ t. eqb→eq k a (≡→T t)), none-of ks (set flags a true) h)
+      where
+        other : (b : Bool) → (b ≡ true → k ≡ a) → b ≡ false
+        other true f = absurd (true≢false (sym (flags-stay ks (set flags a true) k (ap (λ (j : ℕ). getD (set flags j true) k true) (sym (f refl)) ∙ set-here flags k)) ∙ h))
+        other false f = refl
+
+-- ---- rows
+flat-listed : {A B : Type 0} (f : A → List B) (g : ℕ → List B) (at : ℕ → A) → ((i : ℕ) → f (at i) ≡ g i) → (i n : ℕ) → flatMap f (listedFrom at i n) ≡ flatMap g (listedFrom (λ j. j) i n)
+unfolding listedFrom
+flat-listed f g at e i zero = refl
+flat-listed f g at e i (suc n) = rw (e i, flat-listed f g at e (i + 1) n)
+
+map-listed : {A B : Type 0} (f : A → B) (at : ℕ → A) (i n : ℕ) → map f (listedFrom at i n) ≡ listedFrom (λ j. f (at j)) i n
+unfolding listedFrom
+map-listed f at i zero = refl
+map-listed f at i (suc n) = rw (map-listed f at (i + 1) n)
+
+rows-clocks : (v : SheetValue) (n : ℕ) (r : Rows) → flatMap clocksOf (rowsOf v n r) ≡ rowsClocks (r .marks) n
+rows-clocks v n r =
+    flat-listed clocksOf (rowClocks (r .marks)) (λ i. cut v (rowOf r i))
+    (λ i. map-listed (λ (o : Obligation). o .clock) (rowObligation (r .marks) (r .dues) i) 0 (rowCount (r .marks) i)) 0 n
+
+-- ---- an instant
+pub heeded-enough : (room : ℕ) (v : SheetValue) (tags : List ℤ) (n : ℕ) (r : Rows) (seen : List Tick) (ticks : List Bool) (found : Found)
+    → fillFrom (filling room v tags (rowsOf v n r)) 0 seen ticks found ≡ fillFrom (filling room v tags (rowsOf v n r)) 0 (heeded (heeds (v .lines) (rowsClocks (r .marks) n)) 0 seen) ticks found
+heeded-enough room v tags n r seen ticks found =
+    fill-heeded room (filling room v tags (rowsOf v n r)) (filling-takes room v tags (rowsOf v n r)) (heeds (v .lines) (rowsClocks (r .marks) n)) ignores 0 seen ticks found
+  where
+    ignores : (k : ℕ) → heeds (v .lines) (rowsClocks (r .marks) n) k ≡ false → Ignores (filling room v tags (rowsOf v n r)) k
+    ignores k h found ticks =
+        let named = flagged (flatMap namedBy (v .lines)) (replicate 8 false) in
+        let owed = unflagged (rowsClocks (r .marks) n) named k h in
+        let lines = unflagged (flatMap namedBy (v .lines)) (replicate 8 false) k (owed .1) in
+        let other : (a : ℕ) → eqb k a ≡ false → tickIn (set ticks k true) a ≡ tickIn ticks a = λ a e. getD-set-other ticks k a true false (λ z. true≢false (sym (eq-eqb k a (sym z)) ∙ e)) in
+        filling-same k ticks (set ticks k true) other v (same-all k ticks (set ticks k true) other (v .lines) (lines .0)) tags room (rowsOf v n r) found
+        (ap (any (eqb k)) (rows-clocks v n r) ∙ owed .0)

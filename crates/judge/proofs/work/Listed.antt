@@ -1,0 +1,186 @@
+-- What an instant makes of the remainders held, by its listed fillings: those that the rules allow, at most 256. Assumes nothing.
+use mathlib.Core.Bool.{Bool, true, false, cond, _&&_}
+use mathlib.Core.List.{List, [], _∷_, _++_, map}
+use mathlib.Core.Option.{Option, some}
+use mathlib.Core.Path.{_≡_, refl, sym, ap, subst, _∙_}
+use Prim.Native.Nat.{ℕ, zero, suc, _+_, _<_, _≤_}
+use native.Mathlib.Nat.{zero-add, le-trans}
+use native.Mathlib.Omega.{arith}
+use lib.Dec.{T, leb, ltb}
+use lib.IntN.{ℤ, pos}
+use lib.ListN.{length, getD, set, replicate, take, length-append, length-map, length-take, length-replicate}
+use borrow.Author.Tests.{ltb-false}
+use Rattle.records.specs.declared.instant.Tick.{Tick}
+use Rattle.records.specs.declared.instant.Tick.the-variants.{Idle, Ticks, Unseen}
+use Rattle.records.specs.declared.instant.TickSlot.{TickSlot}
+use Rattle.records.specs.declared.line.Line.{Line}
+use Rattle.records.specs.declared.line.Line.the-variants.{Sporadic, Relation, Implies, Excludes, Delayed, Weakly, Strictly, Kills}
+use Rattle.records.specs.Line.{blankLine}
+use Rattle.records.specs.Lists.{listedFrom}
+use Rattle.records.specs.Sheet.{SheetValue}
+use Rattle.records.proofs.Lists.{length-listed}
+use Rattle.tesl.specs.Lists.{all, filter}
+use Rattle.tesl.specs.Fits.{noneFalls}
+use Rattle.tesl.specs.Remainder.{Remainder}
+use Rattle.tesl.proofs.Tests.{and-r}
+use Rattle.judge.specs.declared.held.Count.{Count}
+use Rattle.judge.specs.declared.held.Count.the-variants.{Exhausted, Live}
+use Rattle.judge.specs.declared.held.Held.{Held}
+use Rattle.judge.specs.declared.remainder.Remainder as arrays
+use Rattle.judge.specs.View.{cut, viewOf, heldOf, liveOf, live, seenOf, sized, sizedIn}
+use Rattle.judge.specs.Questions.{tagsHold, ticksHold}
+use Rattle.judge.specs.Lines.{smallLeads}
+use Rattle.judge.specs.Rules.{isRule, allowed}
+use Rattle.judge.specs.Fillings.{fillingsFrom, fillingsIn, takenBy, settling}
+use Rattle.judge.specs.Rows.{Rows, rows, Roomy, rowOf, rowsOf, SmallIn, isPrecedes, Leading}
+use Rattle.judge.specs.Heed.{rowsClocks, heeds, heeded}
+use Rattle.judge.specs.Work.{filling, fillFrom, worked}
+use Rattle.judge.proofs.held.Laws.{held-live}
+use Rattle.judge.proofs.work.Heed.{heeded-enough}
+
+-- ---- the fillings, one after the other
+module _ {R : Type 0} (g : R → List Bool → R) where
+  taken-append : (xs ys : List (List Bool)) (r : R) → takenBy g (xs ++ ys) r ≡ takenBy g ys (takenBy g xs r)
+  taken-append [] ys r = refl
+  taken-append (x ∷ xs) ys r = taken-append xs ys (g r x)
+
+  fill-taken : (k : ℕ) (left : List Tick) (ticks : List Bool) (r : R) → fillFrom g k left ticks r ≡ takenBy g (fillingsFrom k left ticks) r
+  fill-taken k [] ticks r = refl
+  fill-taken k (Idle ∷ left) ticks r = fill-taken (k + 1) left ticks r
+  fill-taken k (Ticks ∷ left) ticks r = fill-taken (k + 1) left (set ticks k true) r
+  fill-taken k (Unseen ∷ left) ticks r =
+      let idle = fillingsFrom (k + 1) left ticks in
+      let more = fillingsFrom (k + 1) left (set ticks k true) in
+      fill-taken (k + 1) left (set ticks k true) _ ∙ ap (takenBy g more) (fill-taken (k + 1) left ticks r) ∙ sym (taken-append idle more r)
+
+-- one that p refuses leaves what was found
+module _ {R : Type 0} (g f : R → List Bool → R) (p : List Bool → Bool) (h : (r : R) (t : List Bool) → g r t ≡ cond (p t) (f r t) r) where
+  by-test : (q : Bool) (t : List Bool) (ts : List (List Bool)) (r : R) → ((x : R) → takenBy g ts x ≡ takenBy f (filter p ts) x) → takenBy g ts (cond q (f r t) r) ≡ takenBy f (cond q (t ∷ filter p ts) (filter p ts)) r
+  by-test true t ts r ih = ih (f r t)
+  by-test false t ts r ih = ih r
+
+  taken-filter : (ts : List (List Bool)) (r : R) → takenBy g ts r ≡ takenBy f (filter p ts) r
+  taken-filter [] r = refl
+  taken-filter (t ∷ ts) r = ap (takenBy g ts) (h r t) ∙ by-test (p t) t ts r (taken-filter ts)
+
+-- ---- how many: twice as many for each unseen tick
+abbrev powers : ℕ → ℕ
+powers zero = 1
+powers (suc n) = powers n + powers n
+
+some-power : (n : ℕ) → 1 ≤ powers n
+some-power zero = omega arith
+some-power (suc n) = omega (arith, some-power n)
+
+few : (n k : ℕ) (left : List Tick) (ticks : List Bool) → length left ≤ n → length (fillingsFrom k left ticks) ≤ powers n
+few n k [] ticks h = some-power n
+few zero k (t ∷ left) ticks h = absurd (omega arith)
+few (suc n) k (Idle ∷ left) ticks h = omega (arith, few n (k + 1) left ticks (omega arith))
+few (suc n) k (Ticks ∷ left) ticks h = omega (arith, few n (k + 1) left (set ticks k true) (omega arith))
+few (suc n) k (Unseen ∷ left) ticks h =
+    let idle = few n (k + 1) left ticks (omega arith) in
+    let more = few n (k + 1) left (set ticks k true) (omega arith) in
+    omega (arith, length-append (fillingsFrom (k + 1) left ticks) (fillingsFrom (k + 1) left (set ticks k true)), idle, more)
+
+pub at-most-256 : (c : ℕ) (seen : List TickSlot) (ticks : List Bool) → c ≤ 8 → 0 + length (fillingsFrom 0 (seenOf c seen) ticks) ≤ 256
+at-most-256 c seen ticks h = rw zero-add (few 8 0 (seenOf c seen) ticks (omega (arith, length-map (take c seen) (λ (t : TickSlot). t .tick), length-take c seen)))
+
+pub few-listed : (c : ℕ) (seen : List TickSlot) (ticks : List Bool) (m : ℕ) → c ≤ 8 → m ≤ 0 + length (fillingsFrom 0 (seenOf c seen) ticks) → m ≤ 256
+few-listed c seen ticks m h l = le-trans l (at-most-256 c seen ticks h)
+
+-- ---- the rules of a sheet: its other lines ask nothing of the ticks
+rule-or-holds : (l : Line) (ls : List Line) (ticks : List Bool) → all (ticksHold ticks) (cond (isRule l) (l ∷ ls) ls) ≡ (ticksHold ticks l && all (ticksHold ticks) ls)
+rule-or-holds (Sporadic A B t) ls ticks = refl
+rule-or-holds (Relation A B p q) ls ticks = refl
+rule-or-holds (Implies A B) ls ticks = refl
+rule-or-holds (Excludes A B) ls ticks = refl
+rule-or-holds (Delayed A B D d) ls ticks = refl
+rule-or-holds (Weakly A B) ls ticks = refl
+rule-or-holds (Strictly A B) ls ticks = refl
+rule-or-holds (Kills A B) ls ticks = refl
+
+rules-enough : (ls : List Line) (ticks : List Bool) → allowed (filter isRule ls) ticks ≡ all (ticksHold ticks) ls
+rules-enough [] ticks = refl
+rules-enough (l ∷ ls) ticks = rule-or-holds l (filter isRule ls) ticks ∙ ap (λ (b : Bool). ticksHold ticks l && b) (rules-enough ls ticks)
+
+-- ---- an instant
+module _ (room : ℕ) (v : SheetValue) (tags : List ℤ) (rs : List Remainder) where
+  filling-allowed : (found : Option (List Remainder)) (ticks : List Bool) → filling room v tags rs found ticks ≡ cond (allowed (filter isRule (v .lines)) ticks) (settling room v tags rs found ticks) found
+  unfolding filling
+  filling-allowed found ticks = rw (rules-enough (v .lines) ticks)
+
+  filled-listed : (seen : List Tick) (ticks : List Bool) (found : Option (List Remainder)) → fillFrom (filling room v tags rs) 0 seen ticks found ≡ takenBy (settling room v tags rs) (filter (allowed (filter isRule (v .lines))) (fillingsFrom 0 seen ticks)) found
+  filled-listed seen ticks found = fill-taken (filling room v tags rs) 0 seen ticks found ∙ taken-filter (filling room v tags rs) (settling room v tags rs) (allowed (filter isRule (v .lines))) filling-allowed (fillingsFrom 0 seen ticks) found
+
+module _ (room : ℕ) (v : SheetValue) (last : Option (List ℤ)) (seen : List Tick) (tags : List ℤ) where
+  abbrev fit : Bool
+  fit = noneFalls (v .clocks) last tags && all (tagsHold tags) (v .lines)
+
+  pub work-exhausted : (h : Held) → h .count ≡ Exhausted → heldOf v h ≡ worked room v last seen tags (heldOf v h)
+  unfolding worked
+  work-exhausted h e = rw e
+
+  work-some : (rs : List Remainder) → 0 < length rs → worked room v last seen tags (some rs) ≡ cond fit (fillFrom (filling room v tags rs) 0 seen (replicate 8 false) (some [])) (some [])
+  unfolding worked
+  work-some [] h = absurd (omega arith)
+  work-some (r ∷ rs) h = refl
+
+  module _ (n : ℕ) (r : Rows) where
+    abbrev after : Option (List Remainder)
+    after = worked room v last seen tags (some (rowsOf v n r))
+
+    many : length (rowsOf v n r) ≡ n
+    many = length-listed (λ i. cut v (rowOf r i)) n
+
+    pub work-broken : n ≡ 0 → (out : Rows) → some (rowsOf v 0 out) ≡ after
+    unfolding worked listedFrom
+    work-broken z out = rw z
+
+    module _ (z : n ≡ 0 → ⊥) {q : Bool} (f : q ≡ fit) where
+      pub work-no : q ≡ false → (out : Rows) → some (rowsOf v 0 out) ≡ after
+      unfolding listedFrom
+      work-no g out = sym (work-some (rowsOf v n r) (omega (arith, z, many)) ∙ rw (sym f, g))
+
+      pub work-yes : q ≡ true → {left : List Tick} → left ≡ heeded (heeds (v .lines) (rowsClocks (r .marks) n)) 0 seen → {rules : List Line} → rules ≡ filter isRule (v .lines)
+          → (list : List Bool) {fillings : List (List Bool)} → fillings ≡ fillingsIn list 0 ++ filter (allowed rules) (fillingsFrom 0 left (replicate 8 false))
+          → {found : Option (List Remainder)} → found ≡ takenBy (settling room v tags (rowsOf v n r)) fillings (some []) → found ≡ after
+      unfolding listedFrom
+      work-yes g s e list l p =
+          p
+          ∙ rw (l, s, e)
+          (sym
+          (work-some (rowsOf v n r) (omega (arith, z, many))
+          ∙ rw (sym f, g)
+          (heeded-enough room v tags n r seen (replicate 8 false) (some []) ∙ filled-listed room v tags (rowsOf v n r) (heeded (heeds (v .lines) (rowsClocks (r .marks) n)) 0 seen) (replicate 8 false) (some []))))
+
+-- ---- where the precedes lines of a sheet stand
+pub leading : (v : SheetValue) (reach c : ℕ) (precede : List Bool) → c ≤ 16 → reach ≤ c
+    → ((i : ℕ) → reach ≤ i → isPrecedes (getD (v .lines) i blankLine) ≡ false)
+    → ((i : ℕ) → getD precede i false ≡ isPrecedes (getD (v .lines) i blankLine)) → Leading v reach precede
+leading v reach c precede h k none-after flags = (omega arith, λ i. at i (ltb i reach) refl)
+  where
+    at : (i : ℕ) (t : Bool) → ltb i reach ≡ t → isPrecedes (getD (v .lines) i blankLine) ≡ (t && getD precede i false)
+    at i true e = sym (flags i)
+    at i false e = none-after i (ltb-false i reach e)
+
+-- ---- those held, in rows
+pub blank-rows : Roomy (rows (replicate 544 0) (replicate 256 (pos 0)) (replicate 512 0) (replicate 256 false))
+blank-rows = record { marks = length-replicate {A = ℕ} 544 0; dues = length-replicate 256 (pos 0); leads = length-replicate {A = ℕ} 512 0; stopped = length-replicate 256 false }
+
+pub in-room : (c : Count) (room : ℕ) (marks : List ℕ) → room ≤ 32 → SmallIn c room marks → SmallIn c 32 marks
+in-room Exhausted room marks h s = s
+in-room (Live n) room marks h s = (le-trans (s .0) h, s .1)
+
+module _ (h : Held) (n : ℕ) (e : h .count ≡ Live n) where
+  pub each-small : T (sized h) → T (all (λ (r : arrays.Remainder). leb (r .owed) 8) (take n (h .remainders)))
+  each-small t = and-r (leb n 32) _ (subst (λ (c : Count). T (sizedIn c (h .remainders))) e t)
+
+  module _ (v : SheetValue) {rs : List Remainder} (f : rs ≡ map (viewOf v) (take n (h .remainders))) where
+    held-as : heldOf v h ≡ some rs
+    held-as = held-live h n e v ∙ ap some (sym f)
+
+    pub small-as : T (all smallLeads (liveOf v h)) → T (all smallLeads rs)
+    small-as t = subst (λ (xs : List Remainder). T (all smallLeads xs)) (ap live held-as) t
+
+    pub work-live : (room : ℕ) (last : Option (List ℤ)) (seen : List Tick) (tags : List ℤ) {x y : Option (List Remainder)} → x ≡ y → y ≡ worked room v last seen tags (some rs) → x ≡ worked room v last seen tags (heldOf v h)
+    work-live room last seen tags p q = p ∙ q ∙ ap (worked room v last seen tags) (sym held-as)

@@ -1,0 +1,40 @@
+-- The fillings of an instant, one after the other, and the flags that list them.
+use mathlib.Core.Bool.{Bool, true, false}
+use mathlib.Core.List.{List, [], _∷_, _++_}
+use mathlib.Core.Option.{Option}
+use Prim.Native.Nat.{ℕ, _+_, _*_}
+use lib.IntN.{ℤ}
+use lib.ListN.{getD, set}
+use Rattle.records.specs.declared.instant.Tick.{Tick}
+use Rattle.records.specs.declared.instant.Tick.the-variants.{Idle, Ticks, Unseen}
+use Rattle.records.specs.Lists.{listed}
+use Rattle.records.specs.Sheet.{SheetValue}
+use Rattle.tesl.specs.Lists.{flatMap}
+use Rattle.tesl.specs.Fits.{owedFrom}
+use Rattle.tesl.specs.Remainder.{Remainder}
+use Rattle.judge.specs.View.{filledOf}
+use Rattle.judge.specs.Work.{settledAll}
+
+-- the fillings of the clocks from k on, idle before tick
+abbrev pub fillingsFrom : ℕ → List Tick → List Bool → List (List Bool)
+fillingsFrom k [] ticks = ticks ∷ []
+fillingsFrom k (Idle ∷ left) ticks = fillingsFrom (k + 1) left ticks
+fillingsFrom k (Ticks ∷ left) ticks = fillingsFrom (k + 1) left (set ticks k true)
+fillingsFrom k (Unseen ∷ left) ticks = fillingsFrom (k + 1) left ticks ++ fillingsFrom (k + 1) left (set ticks k true)
+
+-- filling f of a list of flags, eight to a filling
+abbrev pub fillingIn : List Bool → ℕ → List Bool
+fillingIn list f = listed (λ k. getD list (8 * f + k) false) 8
+
+-- the first n of them
+abbrev pub fillingsIn : List Bool → ℕ → List (List Bool)
+fillingsIn list n = listed (fillingIn list) n
+
+-- g takes each
+abbrev pub takenBy : {R : Type 0} → (R → List Bool → R) → List (List Bool) → R → R
+takenBy g [] r = r
+takenBy g (ticks ∷ more) r = takenBy g more (g r ticks)
+
+-- each of rs goes on by a filling that the rules allow
+abbrev pub settling : ℕ → SheetValue → List ℤ → List Remainder → Option (List Remainder) → List Bool → Option (List Remainder)
+settling room v tags rs found ticks = settledAll room v (filledOf ticks tags) (flatMap (owedFrom (filledOf ticks tags)) (v .lines)) rs found
