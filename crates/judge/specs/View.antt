@@ -24,13 +24,9 @@ use Rattle.judge.specs.declared.owed.Added.{Added}
 use Rattle.judge.specs.declared.owed.Kept.{Kept}
 use Rattle.judge.specs.declared.remainder.Remainder as arrays
 use Rattle.judge.specs.declared.started.Started.{Started}
-use Rattle.judge.specs.declared.advance.Step.{Step}
-use Rattle.judge.specs.declared.advance.Step.the-variants as step
-use Rattle.judge.specs.declared.advance.Advanced as moved
 use Rattle.judge.specs.declared.held.Count.{Count}
 use Rattle.judge.specs.declared.held.Count.the-variants.{Exhausted, Live}
 use Rattle.judge.specs.declared.held.Held.{Held}
-use Rattle.judge.specs.Advanced.{Advanced, fails, over, onto}
 
 abbrev pub obligationOf : code.Obligation → Obligation
 obligationOf o = record { clock = o .clock; due = o .due; on = o .on }
@@ -94,14 +90,6 @@ viewOf v r = cut v (remainderOf r)
 abbrev pub startedOf : Started → List Obligation
 startedOf s = firstOf (s .count) (s .obligations)
 
-abbrev pub stepOf : Step → Remainder → Advanced
-stepOf step.Fails r = fails
-stepOf step.Over r = over
-stepOf step.Fits r = onto r
-
-abbrev pub advancedOf : SheetValue → moved.Advanced → Advanced
-advancedOf v a = stepOf (a .step) (viewOf v (a .next))
-
 -- those held; `none` once exhausted, when none is held
 abbrev pub heldIn : SheetValue → Count → List arrays.Remainder → Option (List Remainder)
 heldIn v Exhausted rs = none
@@ -130,11 +118,6 @@ abbrev pub tagsBefore : Bool → List ℤ → Option (List ℤ)
 tagsBefore first was = cond first none (some was)
 
 -- ---- counts that their arrays have room for
-
-abbrev pub stepSized : Step → ℕ → Bool
-stepSized step.Fails n = true
-stepSized step.Over n = true
-stepSized step.Fits n = leb n 8
 
 abbrev pub sizedIn : Count → List arrays.Remainder → Bool
 sizedIn Exhausted rs = true

@@ -25,7 +25,7 @@ ghost use mathlib.Core.Option.{some};
 ghost use Prim.Native.Nat.{_+_, _≤_, _<_};
 ghost use lib.Dec.{T};
 ghost use lib.ListN.{drop, length, set};
-ghost use Rattle.records.specs.Sheet.{SheetValue, sheetValue};
+ghost use Rattle.records.specs.Sheet.{sheetValue};
 ghost use Rattle.records.specs.Instant.{tickAt};
 ghost use Rattle.tesl.specs.Lists.{all, filter};
 ghost use Rattle.tesl.specs.Fits.{noneFalls};
@@ -34,7 +34,7 @@ ghost use Rattle.judge.specs.View.{heldOf, liveOf, seenOf, sized, tagsBe
 ghost use Rattle.judge.specs.Questions.{tagsHold};
 ghost use Rattle.judge.specs.Lines.{smallLeads};
 ghost use Rattle.judge.specs.Rules.{isRule, rulesIn, allowed};
-ghost use Rattle.judge.specs.Fillings.{fillingsFrom, fillingIn, fillingsIn};
+ghost use Rattle.judge.specs.Fillings.{fillingsFrom, fillingsIn};
 ghost use Rattle.judge.specs.Rows.{rows, Roomy, rowsOf, foundIn, Small, SmallIn, Leading};
 ghost use Rattle.judge.specs.Work.{worked};
 

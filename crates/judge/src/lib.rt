@@ -1,5 +1,4 @@
 // The monitor: what clocks, obligations and lines say of a filled instant, what a remainder becomes, the remainders held, and the monitor itself.
-mod advance;
 pub mod answer;
 mod clock;
 mod fill;

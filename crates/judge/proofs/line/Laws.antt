@@ -13,7 +13,7 @@ use Rattle.records.specs.declared.line.Line.the-variants.{Sporadic, Relation, I
 use Rattle.tesl.specs.Fits.{Obligation, owedFrom}
 use Rattle.theory.specs.Step.{bit}
 use Rattle.judge.specs.View.{filledOf, inUse}
-use Rattle.judge.specs.Questions.{tagsHold, ticksHold, carriedHolds, leadAfter, stoppedAfter}
+use Rattle.judge.specs.Questions.{tagsHold, ticksHold, stoppedAfter}
 
 pub bit-le : (b : Bool) → bit b ≤ 1
 bit-le true = omega arith
@@ -47,33 +47,9 @@ rest-ticks ticks (Delayed A B D d) h = refl
 rest-ticks ticks (Weakly A B) h = refl
 rest-ticks ticks (Strictly A B) h = refl
 
--- all but kills and the two precedes
-abbrev carried-keys : List ℕ
-carried-keys = 0 ∷ 1 ∷ 2 ∷ 3 ∷ 4 ∷ []
-
-pub rest-carried : (ticks stopped : List Bool) (l : Line) (lead : ℕ) → OneOf carried-keys (tagOf the-type l) → true ≡ carriedHolds ticks stopped l lead
-rest-carried ticks stopped (Kills A B) lead h = absurd (miss carried-keys 7 tt h)
-rest-carried ticks stopped (Weakly A B) lead h = absurd (miss carried-keys 5 tt h)
-rest-carried ticks stopped (Strictly A B) lead h = absurd (miss carried-keys 6 tt h)
-rest-carried ticks stopped (Sporadic A B t) lead h = refl
-rest-carried ticks stopped (Relation A B p q) lead h = refl
-rest-carried ticks stopped (Implies A B) lead h = refl
-rest-carried ticks stopped (Excludes A B) lead h = refl
-rest-carried ticks stopped (Delayed A B D d) lead h = refl
-
 -- all but the two precedes
 abbrev pub lead-keys : List ℕ
 lead-keys = 0 ∷ 1 ∷ 2 ∷ 3 ∷ 4 ∷ 7 ∷ []
-
-pub rest-lead : (ticks : List Bool) (l : Line) (lead : ℕ) → OneOf lead-keys (tagOf the-type l) → 0 ≡ leadAfter ticks l lead
-rest-lead ticks (Weakly A B) lead h = absurd (miss lead-keys 5 tt h)
-rest-lead ticks (Strictly A B) lead h = absurd (miss lead-keys 6 tt h)
-rest-lead ticks (Sporadic A B t) lead h = refl
-rest-lead ticks (Relation A B p q) lead h = refl
-rest-lead ticks (Implies A B) lead h = refl
-rest-lead ticks (Excludes A B) lead h = refl
-rest-lead ticks (Delayed A B D d) lead h = refl
-rest-lead ticks (Kills A B) lead h = refl
 
 -- a line without a lead
 pub unused : (l : Line) (lead : ℕ) → OneOf lead-keys (tagOf the-type l) → inUse l lead ≡ 0

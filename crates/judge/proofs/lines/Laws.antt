@@ -1,22 +1,18 @@
 -- A turn of each loop over the lines of a sheet, and over the clocks. Assumes nothing.
 use mathlib.Core.Bool.{Bool, true, false, not, _&&_, and-false, and-true}
-use mathlib.Core.List.{List, _∷_, _++_}
-use mathlib.Core.Path.{_≡_, refl, sym, ap, _∙_}
-use Prim.Native.Nat.{ℕ, zero, suc, _+_, _-_, _<_, _≤_}
-use native.Mathlib.Numerals.{add-one}
+use mathlib.Core.List.{List}
+use mathlib.Core.Path.{_≡_, sym, ap, _∙_}
+use Prim.Native.Nat.{ℕ, suc, _+_, _-_, _<_, _≤_}
 use native.Mathlib.Omega.{arith}
-use lib.ListN.{length, drop, set}
-use lib.Seq.{drop-cons, set-append-seam, append-snoc}
 use borrow.Author.Tests.{not-true, not-false}
 use Rattle.records.specs.declared.line.Line.{Line}
 use Rattle.records.specs.declared.sheet.Sheet.{Sheet}
 use Rattle.records.specs.Lists.{listedFrom, listed}
 use Rattle.records.specs.Sheet.{lineAt, sheetValue}
-use Rattle.records.proofs.Lists.{listed-cons, listed-end, listed-snoc, length-listed}
+use Rattle.records.proofs.Lists.{listed-cons, listed-end}
 use Rattle.tesl.specs.Lists.{all, below}
-use Rattle.theory.specs.Step.{linesOk, nextLeads}
-use Rattle.judge.specs.Questions.{leadAfter, stoppedAfter}
-use Rattle.judge.specs.Lines.{leadIn, allStopped}
+use Rattle.theory.specs.Step.{linesOk}
+use Rattle.judge.specs.Lines.{leadIn}
 
 -- ---- a question of each line: whether all answer yes is whether those from i on do
 module _ (p : Line → Bool) (s : Sheet) (n i : ℕ) where
@@ -76,53 +72,3 @@ module _ (p : ℕ → Bool) (k : ℕ) {whole : Bool} (w : whole ≡ below k p) w
 
     pub below-more : not r ≡ false → whole ≡ below (k - 1) p
     below-more g = turn-down ∙ rw (not-false r g) (and-true (below (k - 1) p))
-
--- ---- the stopped clocks, line by line
-module _ (ticks : List Bool) (s : Sheet) (n i : ℕ) (stopped : List Bool) where
-  abbrev pub stoppedFrom : List Bool
-  stoppedFrom = allStopped ticks (listedFrom (lineAt s) i (n - i)) stopped
-
-pub stopped-start : (ticks : List Bool) (s : Sheet) (stopped : List Bool) → allStopped ticks (sheetValue s .lines) stopped ≡ stoppedFrom ticks s (s .count) 0 stopped
-stopped-start ticks s stopped = let k : s .count - 0 ≡ s .count = omega arith in rw k
-
-module _ (ticks : List Bool) (s : Sheet) (n i : ℕ) (stopped : List Bool) {whole : List Bool} (w : whole ≡ stoppedFrom ticks s n i stopped) where
-  pub stopped-end : n ≤ i → stopped ≡ whole
-  stopped-end h = sym (w ∙ rw (listed-end (lineAt s) n i h))
-
-  pub stopped-more : i < n → (l : Line) → l ≡ lineAt s i → (after : List Bool) → after ≡ stoppedAfter ticks l stopped → whole ≡ stoppedFrom ticks s n (i + 1) after
-  stopped-more h l e after f = w ∙ rw (listed-cons (lineAt s) n i h, f, e)
-
--- ---- what each line makes of its lead, place by place
-module _ (after : Line → ℕ → ℕ) (s : Sheet) (leads : List ℕ) where
-  abbrev pub leadAt : ℕ → ℕ
-  leadAt i = after (lineAt s i) (leadIn leads i)
-
-  pub pairs : (i n : ℕ) → listedFrom leadAt i n ≡ nextLeads after (listedFrom (lineAt s) i n) (listedFrom (leadIn leads) i n)
-  unfolding listedFrom
-  pairs i zero = refl
-  pairs i (suc n) = ap (λ (xs : List ℕ). leadAt i ∷ xs) (pairs (i + 1) n)
-
--- ---- the leads: those of the lines below i are next, the rest as before
-module _ (ticks : List Bool) (s : Sheet) (leads : List ℕ) where
-  abbrev next : ℕ → ℕ
-  next i = leadAt (leadAfter ticks) s leads i
-
-  abbrev pub leadsTo : ℕ → List ℕ
-  leadsTo i = listed next i ++ drop i leads
-
-  pub leads-start : leads ≡ leadsTo 0
-  unfolding listedFrom
-  leads-start = refl
-
-  module _ (i : ℕ) (after : List ℕ) (w : after ≡ leadsTo i) where
-    pub leads-end : (n : ℕ) → i ≤ n → n ≤ i → after ≡ nextLeads (leadAfter ticks) (listed (lineAt s) n) (listed (leadIn leads) n) ++ drop n leads
-    leads-end n g h = let k : i ≡ n = omega arith in w ∙ rw (k, pairs (leadAfter ticks) s leads 0 n)
-
-    pub leads-more : i < length leads → (l : Line) → l ≡ lineAt s i → (x : ℕ) → x ≡ leadAfter ticks l (leadIn leads i) → set after i x ≡ leadsTo (i + 1)
-    leads-more h l e x f =
-        ap (λ (xs : List ℕ). set xs i x) (w ∙ ap (λ (ys : List ℕ). listed next i ++ ys) (drop-cons leads i 0 h))
-        ∙ seam (listed next i) (length-listed next i)
-        ∙ rw (listed-snoc next i, add-one i, f, e) (sym (append-snoc (listed next i) (next i) (drop (suc i) leads)))
-      where
-        seam : (xs : List ℕ) → length xs ≡ i → set (xs ++ (leadIn leads i ∷ drop (suc i) leads)) i x ≡ xs ++ (x ∷ drop (suc i) leads)
-        seam xs z = rw (← z) (set-append-seam xs _ _ x)

@@ -11,7 +11,6 @@ use borrow.Author.Tests.{not-true, not-false}
 use Rattle.records.specs.Sheet.{SheetValue}
 use Rattle.records.proofs.Lists.{length-listed}
 use Rattle.tesl.specs.Lists.{below, filter, flatMap}
-use Rattle.tesl.specs.Run.{Filled}
 use Rattle.tesl.specs.Fits.{Obligation, owedFrom}
 use Rattle.tesl.specs.Remainder.{Remainder}
 use Rattle.theory.specs.Step.{linesOk, nextLeads, wellFormed}

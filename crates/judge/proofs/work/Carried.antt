@@ -26,7 +26,6 @@ use Rattle.judge.specs.Rules.{isRule}
 use Rattle.judge.specs.Rows.{isPrecedes, Leading}
 use Rattle.judge.specs.Carried.{barredBy, allBarred, overlap, either, needOf, gainOf, lossOf}
 use Rattle.judge.proofs.lines.Carried.{all-as-many}
-use Rattle.judge.proofs.advance.Carried.{take-all-stopped}
 
 -- ---- places
 
@@ -226,6 +225,32 @@ module _ (ticks : List Bool) where
       ap (either xs) (rule-stops l (filter isRule ls) ys)
       ∙ all-stop-either ls xs (stoppedAfter ticks l ys) (omega (arith, all-as-many ticks (l ∷ []) ys))
       ∙ ap (allStopped ticks ls) (stops-either l xs ys h)
+
+-- ---- the sheet's clocks that are stopped after an instant
+
+take-set : (c : ℕ) (xs : List Bool) (i : ℕ) (x : Bool) → take c (set xs i x) ≡ set (take c xs) i x
+take-set zero xs i x = refl
+take-set (suc c) [] i x = refl
+take-set (suc c) (y ∷ xs) zero x = refl
+take-set (suc c) (y ∷ xs) (suc i) x = ap (λ (zs : List Bool). y ∷ zs) (take-set c xs i x)
+
+take-stopped : (c : ℕ) (ticks : List Bool) (l : Line) (stopped : List Bool) → take c (stoppedAfter ticks l stopped) ≡ stoppedAfter ticks l (take c stopped)
+take-stopped c ticks (Kills A B) stopped = by-test (tickIn ticks A)
+  where
+    by-test : (t : Bool) → take c (cond t (set stopped B true) stopped) ≡ cond t (set (take c stopped) B true) (take c stopped)
+    by-test true = take-set c stopped B true
+    by-test false = refl
+take-stopped c ticks (Sporadic A B t) stopped = refl
+take-stopped c ticks (Relation A B p q) stopped = refl
+take-stopped c ticks (Implies A B) stopped = refl
+take-stopped c ticks (Excludes A B) stopped = refl
+take-stopped c ticks (Delayed A B D d) stopped = refl
+take-stopped c ticks (Weakly A B) stopped = refl
+take-stopped c ticks (Strictly A B) stopped = refl
+
+take-all-stopped : (c : ℕ) (ticks : List Bool) (ls : List Line) (stopped : List Bool) → take c (allStopped ticks ls stopped) ≡ allStopped ticks ls (take c stopped)
+take-all-stopped c ticks [] stopped = refl
+take-all-stopped c ticks (l ∷ ls) stopped = take-all-stopped c ticks ls (stoppedAfter ticks l stopped) ∙ ap (allStopped ticks ls) (take-stopped c ticks l stopped)
 
 -- ---- what a line makes of its lead
 

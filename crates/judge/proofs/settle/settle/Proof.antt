@@ -1,8 +1,7 @@
 -- `settle` meets its contract. The invariant, for each sheet of which these are the clocks, bars and needs: settling all rows from what was found is settling those from i on from what is found so far. Assumes nothing.
-use mathlib.Core.List.{List}
 use mathlib.Core.Option.{some}
 use mathlib.Core.Path.{_≡_, refl, sym, _∙_}
-use Prim.Native.Nat.{ℕ, _+_, _-_, _*_, _≤_, _<_}
+use Prim.Native.Nat.{_+_, _-_, _*_, _≤_, _<_}
 use native.Mathlib.Omega.{arith}
 use Rattle.records.specs.Sheet.{SheetValue, sheetValue}
 use Rattle.tesl.specs.Lists.{any}
