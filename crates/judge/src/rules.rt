@@ -4,6 +4,7 @@ use crate::clock::ticks_at;
 use crate::line::stopped_after;
 use crate::line::ticks_hold;
 use records::line::Line;
+use records::number;
 use records::sheet::Sheet;
 ghost use mathlib.Core.Path.{_≡_};
 ghost use mathlib.Core.Bool.{false};
@@ -17,7 +18,7 @@ ghost use Rattle.judge.specs.Rules.{isRule, ruleLine, rulesIn, allowed, 
 
 // A line of two clocks, by its kind number.
 pub struct Rule {
-    pub kind: u8,
+    pub kind: u16,
     pub a: u8,
     pub b: u8,
 }
@@ -35,8 +36,8 @@ fn line_of(r: Rule) -> Line
     let b = r.b;
     let kind = r.kind;
     match kind {
-        18 => Line::Implies { a, b },
-        19 => Line::Excludes { a, b },
+        number::IMPLIES => Line::Implies { a, b },
+        number::EXCLUDES => Line::Excludes { a, b },
         _ => Line::Kills { a, b },
     }
 }
@@ -61,15 +62,27 @@ pub(crate) fn rules_of(s: Sheet) -> Rules
         i += 1;
         match l {
             Line::Implies { a, b } => {
-                rules[count] = Rule { kind: 18, a, b };
+                rules[count] = Rule {
+                    kind: number::IMPLIES,
+                    a,
+                    b,
+                };
                 count += 1;
             }
             Line::Excludes { a, b } => {
-                rules[count] = Rule { kind: 19, a, b };
+                rules[count] = Rule {
+                    kind: number::EXCLUDES,
+                    a,
+                    b,
+                };
                 count += 1;
             }
             Line::Kills { a, b } => {
-                rules[count] = Rule { kind: 23, a, b };
+                rules[count] = Rule {
+                    kind: number::KILLS,
+                    a,
+                    b,
+                };
                 count += 1;
             }
             _ => {

@@ -1,9 +1,8 @@
 -- What an answer says of those held: one of them is clear where the code counts no obligation, and as many are live as the code holds. Assumes nothing.
-use mathlib.Core.Bool.{Bool, true, false, cond, or-true}
+use mathlib.Core.Bool.{Bool, true, false, cond}
 use mathlib.Core.List.{List, [], _∷_, map}
 use mathlib.Core.Path.{_≡_, refl, sym, ap, _∙_}
-use Prim.Native.Nat.{ℕ, zero, suc, _+_, _≤_, _<_}
-use native.Mathlib.Nat.{zero-add}
+use Prim.Native.Nat.{ℕ, _+_, _≤_, _<_}
 use native.Mathlib.Omega.{arith}
 use lib.Dec.{T, eqb, leb, leb→le}
 use lib.ListN.{length, length-map, take}
@@ -24,6 +23,7 @@ use Rattle.judge.specs.declared.held.Held.{Held}
 use Rattle.judge.specs.View.{obligationOf, firstOf, owedOf, cut, viewOf, heldOf, liveOf, sizedIn, sized}
 use Rattle.judge.specs.Answer.{saidBy}
 use Rattle.judge.specs.Rows.{Rows, rowCount, rowObligation, rowOwed, rowOf, rowsOf, foundIn}
+use Rattle.judge.proofs.Listing.{any-of}
 
 abbrev pub isClear : Remainder → Bool
 isClear q = eqb (owes q) 0
@@ -65,14 +65,6 @@ said-some v h n e t l k b f =
 
 -- ---- in rows
 
-hit-from : {A : Type 0} (p : A → Bool) (f : ℕ → A) (i n k : ℕ) → k < n → p (f (i + k)) ≡ true → any p (listedFrom f i n) ≡ true
-unfolding listedFrom
-hit-from p f i zero k h e = absurd (omega arith)
-hit-from p f i (suc n) zero h e = let g : i + 0 ≡ i = omega arith in simp (rw g at e)
-hit-from p f i (suc n) (suc k) h e =
-    let g : i + suc k ≡ i + 1 + k = omega arith in
-    simp (hit-from p f (i + 1) n k (omega arith) (rw g at e), or-true)
-
 module _ (v : SheetValue) (r : Rows) where
   clear-row : (i : ℕ) → isClear (cut v (rowOf r i)) ≡ eqb (rowCount (r .marks) i) 0
   unfolding owes
@@ -84,7 +76,7 @@ module _ (v : SheetValue) (r : Rows) where
       ap (any isClear) (listed-snoc (λ j. cut v (rowOf r j)) i) ∙ any-snoc isClear (rowsOf v i r) (cut v (rowOf r i)) ∙ simp (a, b)
 
   pub row-clear : (n i : ℕ) → i < n → rowCount (r .marks) i ≡ 0 → any isClear (rowsOf v n r) ≡ true
-  row-clear n i h e = hit-from isClear (λ j. cut v (rowOf r j)) 0 n i h (rw zero-add (clear-row i ∙ eq-eqb (rowCount (r .marks) i) 0 e))
+  row-clear n i h e = any-of (λ j. cut v (rowOf r j)) isClear n i h (clear-row i ∙ eq-eqb (rowCount (r .marks) i) 0 e)
 
   module _ (count : Count) (n : ℕ) (e : count ≡ Live n) where
     pub rows-none : n ≡ 0 → broken ≡ saidBy (foundIn v count r)

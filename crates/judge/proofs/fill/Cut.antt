@@ -1,5 +1,5 @@
 -- Where a rule whose clocks are below k forbids the ticks, the rules allow no filling of the clocks from k on. Assumes nothing.
-use mathlib.Core.Bool.{Bool, true, false, not, cond, _&&_, _||_, and-false, false≢true}
+use mathlib.Core.Bool.{Bool, true, false, cond, _&&_, _||_, and-false, false≢true}
 use mathlib.Core.List.{List, [], _∷_, map}
 use mathlib.Core.Path.{_≡_, refl, sym, _∙_}
 use Prim.Native.Nat.{ℕ, _+_, _<_, _≤_}
@@ -7,7 +7,7 @@ use native.Mathlib.Omega.{arith}
 use lib.Dec.{eqb, ltb}
 use lib.ListN.{set}
 use lib.Seq.{getD-set-other}
-use borrow.Author.Tests.{ltb-true}
+use borrow.Author.Tests.{ltb-true, not-true}
 use Rattle.records.specs.declared.instant.Tick.{Tick}
 use Rattle.records.specs.declared.instant.Tick.the-variants.{Idle, Ticks, Unseen}
 use Rattle.records.specs.declared.line.Line.the-variants.{Implies, Excludes, Kills}
@@ -25,10 +25,6 @@ rule-same : (ticks more : List Bool) (A B : ℕ) (x y : Bool) → tickIn more A 
 rule-same ticks more A B true y p q = rw (p, q)
 rule-same ticks more A B false true p q = rw (p, q)
 rule-same ticks more A B false false p q = rw (p, q)
-
-not-true : (b : Bool) → not b ≡ true → b ≡ false
-not-true true h = absurd (false≢true h)
-not-true false h = refl
 
 module _ (k : ℕ) (ticks : List Bool) where
   -- the same ticks of the clocks below k

@@ -2,80 +2,23 @@
 use mathlib.Core.Bool.{Bool, true, false}
 use mathlib.Core.List.{List, [], _∷_, _++_, append-assoc, append-nil}
 use mathlib.Core.Path.{_≡_, refl, sym, ap, subst, _∙_}
-use Prim.Native.Nat.{ℕ, zero, suc, _+_, _*_, _<_, _≤_}
+use Prim.Native.Nat.{ℕ, _+_, _*_, _<_, _≤_}
 use native.Mathlib.Omega.{arith}
-use lib.ListN.{length, drop, getD, set, length-append}
-use lib.Seq.{take-all, getD-set-same, getD-set-other}
-use borrow.Author.Count.{below-more}
+use lib.ListN.{length, drop, set, length-append}
 use Rattle.records.specs.declared.instant.Tick.{Tick}
 use Rattle.records.specs.declared.instant.Tick.the-variants.{Idle, Ticks, Unseen}
 use Rattle.records.specs.declared.instant.TickSlot.{TickSlot}
 use Rattle.records.specs.Instant.{tickAt, tickSlot}
-use Rattle.records.specs.Lists.{listedFrom, listed}
-use Rattle.records.proofs.Lists.{listed-take, listed-snoc}
 use Rattle.tesl.specs.Lists.{filter}
 use Rattle.theory.proofs.Lists.{filter-append}
 use Rattle.judge.specs.View.{seenOf}
 use Rattle.judge.specs.Fillings.{fillingsFrom, fillingIn, fillingsIn}
 use Rattle.judge.proofs.Places.{rest-end, rest-cons}
+use Rattle.judge.proofs.Listing.{listed-next, Kept, places-kept}
 
--- ---- the flags of a filling
-
-module _ {A : Type 0} where
-  from-same : (f g : ℕ → A) (i n : ℕ) → ((j : ℕ) → j < i + n → f j ≡ g j) → listedFrom f i n ≡ listedFrom g i n
-  unfolding listedFrom
-  from-same f g i zero h = refl
-  from-same f g i (suc n) h = rw (h i (omega arith), from-same f g (i + 1) n (λ j l. h j (omega arith)))
-
-  -- what stands at each of the first n places decides the list of them
-  listed-same : (f g : ℕ → A) (n : ℕ) → ((j : ℕ) → j < n → f j ≡ g j) → listed f n ≡ listed g n
-  listed-same f g n h = from-same f g 0 n (λ j l. h j (omega arith))
-
-  listed-is : (d : A) (f : ℕ → A) (n : ℕ) (xs : List A) → length xs ≡ n → ((j : ℕ) → j < n → f j ≡ getD xs j d) → listed f n ≡ xs
-  listed-is d f n xs l h = listed-take d f n xs (omega arith) h ∙ take-all n xs (omega arith)
-
--- the flags below filling n are as before
-abbrev pub Kept : ℕ → List Bool → List Bool → Type 0
-Kept n was list = (i : ℕ) → i < 8 * n → getD list i false ≡ getD was i false
-
--- the first k flags of filling n are those of ticks
-abbrev pub Same : ℕ → List Bool → List Bool → ℕ → Type 0
-Same n ticks list k = (j : ℕ) → j < k → getD list (8 * n + j) false ≡ getD ticks j false
-
-module _ (n : ℕ) (ticks list : List Bool) (k : ℕ) where
-  pub kept-more : (was : List Bool) (b : Bool) → Kept n was list → Kept n was (set list (8 * n + k) b)
-  kept-more was b h i l = getD-set-other list (8 * n + k) i b false (λ e. omega arith) ∙ h i l
-
-  module _ (h : Same n ticks list k) where
-    pub put-more : 8 * n + k < length list → Same n ticks (set list (8 * n + k) (getD ticks k false)) (k + 1)
-    put-more l =
-        let b = getD ticks k false in
-        let next = set list (8 * n + k) b in
-        below-more
-        (λ j. getD next (8 * n + j) false ≡ getD ticks j false)
-        k
-        (λ j m. getD-set-other list (8 * n + k) (8 * n + j) b false (λ e. omega arith) ∙ h j m)
-        (getD-set-same list (8 * n + k) b false l)
-
-    pub read-more : k < length ticks → Same n (set ticks k (getD list (8 * n + k) false)) list (k + 1)
-    read-more l =
-        let b = getD list (8 * n + k) false in
-        let next = set ticks k b in
-        below-more
-        (λ j. getD list (8 * n + j) false ≡ getD next j false)
-        k
-        (λ j m. h j m ∙ sym (getD-set-other ticks k j b false (λ e. omega arith)))
-        (sym (getD-set-same ticks k b false l))
-
-filling-kept : (n : ℕ) (was list : List Bool) → Kept n was list → (f : ℕ) → f < n → fillingIn list f ≡ fillingIn was f
-filling-kept n was list h f l = listed-same (λ j. getD list (8 * f + j) false) (λ j. getD was (8 * f + j) false) 8 (λ j m. h (8 * f + j) (omega arith))
-
-module _ (n : ℕ) (ticks list : List Bool) (l : length ticks ≡ 8) (h : Same n ticks list 8) where
-  pub filling-is : fillingIn list n ≡ ticks
-  filling-is = listed-is false (λ j. getD list (8 * n + j) false) 8 ticks l h
-
-  pub filling-more : (was : List Bool) → Kept n was list → fillingsIn list (n + 1) ≡ fillingsIn was n ++ (ticks ∷ [])
-  filling-more was g = listed-snoc (fillingIn list) n ∙ rw (listed-same (fillingIn list) (fillingIn was) n (filling-kept n was list g), filling-is)
+-- one more filling stored, and those before it as before
+pub filling-more : (n : ℕ) (was list ticks : List Bool) → Kept false (8 * n) was list → fillingIn list n ≡ ticks → fillingsIn list (n + 1) ≡ fillingsIn was n ++ (ticks ∷ [])
+filling-more n was list ticks k e = listed-next n (λ f l. places-kept false (8 * n) (8 * f) 8 was list (omega arith) k) e refl
 
 -- ---- the clocks from k on
 

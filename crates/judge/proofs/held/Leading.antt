@@ -1,12 +1,11 @@
 -- Which lines of a sheet are precedes lines, place by place. Assumes nothing.
 use mathlib.Core.Bool.{Bool, true, false, _&&_}
-use mathlib.Core.List.{List}
+use mathlib.Core.List.{List, []}
 use mathlib.Core.Path.{_≡_, refl, sym, ap, _∙_}
-use Prim.Native.Nat.{ℕ, zero, suc, _+_, _-_, _<_, _≤_}
+use Prim.Native.Nat.{ℕ, _+_, _-_, _<_, _≤_}
 use native.Mathlib.Omega.{arith}
-use native.Mathlib.Nat.{add-zero, zero-add}
 use lib.Dec.{eqb, ltb}
-use lib.ListN.{length, getD, set, replicate, List·getD-eq-default}
+use lib.ListN.{length, getD, set, replicate}
 use lib.Seq.{getD-set-same, getD-set-other}
 use types.Run.{OneOf, miss}
 use denote.Enum.Declared.{tagOf}
@@ -15,12 +14,12 @@ use Rattle.records.proofs.line.Line.{the-type}
 use Rattle.records.specs.declared.line.Line.{Line}
 use Rattle.records.specs.declared.line.Line.the-variants.{Sporadic, Relation, Implies, Excludes, Delayed, Weakly, Strictly, Kills}
 use Rattle.records.specs.declared.sheet.Sheet.{Sheet}
-use Rattle.records.specs.Lists.{listedFrom, listed}
 use Rattle.records.specs.Line.{blankLine}
 use Rattle.records.specs.Sheet.{lineAt, sheetValue}
-use Rattle.records.proofs.Lists.{length-listed}
 use Rattle.judge.specs.Rows.{isPrecedes}
+use Rattle.judge.proofs.Listing.{listed-at, listed-past}
 use Rattle.judge.proofs.line.Laws.{lead-keys}
+use Rattle.judge.proofs.work.PaddedLaws.{filled-reads}
 
 -- a line with no arm of its own: all but the two precedes
 pub rest-precedes : (l : Line) → OneOf lead-keys (tagOf the-type l) → false ≡ isPrecedes l
@@ -33,29 +32,15 @@ rest-precedes (Excludes A B) h = refl
 rest-precedes (Delayed A B D d) h = refl
 rest-precedes (Kills A B) h = refl
 
--- ---- what a list of places holds at each of them
-module _ {A : Type 0} (d : A) (f : ℕ → A) where
-  from-at : (i n j : ℕ) → j < n → getD (listedFrom f i n) j d ≡ f (i + j)
-  unfolding listedFrom
-  from-at i zero j h = absurd (omega arith)
-  from-at i (suc n) zero h = rw add-zero
-  from-at i (suc n) (suc j) h = let k : i + 1 + j ≡ i + suc j = omega arith in from-at (i + 1) n j (omega arith) ∙ ap f k
-
-  pub listed-at : (n i : ℕ) → i < n → getD (listed f n) i d ≡ f i
-  listed-at n i h = from-at 0 n i h ∙ ap f (zero-add i)
-
-  pub listed-past : (n i : ℕ) → n ≤ i → getD (listed f n) i d ≡ d
-  listed-past n i h = List·getD-eq-default (listed f n) d {n = i} (omega (arith, length-listed f n))
-
 module _ (s : Sheet) where
   abbrev pub precedesAt : ℕ → Bool
   precedesAt i = isPrecedes (getD (sheetValue s .lines) i blankLine)
 
   at-line : (i : ℕ) → i < s .count → precedesAt i ≡ isPrecedes (lineAt s i)
-  at-line i h = ap isPrecedes (listed-at blankLine (lineAt s) (s .count) i h)
+  at-line i h = ap isPrecedes (listed-at (lineAt s) blankLine (s .count) i h)
 
   past : (i : ℕ) → s .count ≤ i → precedesAt i ≡ false
-  past i h = ap isPrecedes (listed-past blankLine (lineAt s) (s .count) i h)
+  past i h = ap isPrecedes (listed-past (lineAt s) blankLine (s .count) i h)
 
   -- ---- none from line k on
   abbrev pub NoneFrom : ℕ → Type 0
@@ -75,13 +60,8 @@ module _ (s : Sheet) where
   abbrev pub Flagged : ℕ → List Bool → Type 0
   Flagged i flags = (j : ℕ) → getD flags j false ≡ (ltb j i && precedesAt j)
 
-  blank : (n j : ℕ) → getD (replicate n false) j false ≡ false
-  blank zero j = refl
-  blank (suc n) zero = refl
-  blank (suc n) (suc j) = blank n j
-
   pub flagged-start : Flagged 0 (replicate 16 false)
-  flagged-start j = blank 16 j ∙ rw (le-ltb j 0 (omega arith))
+  flagged-start j = filled-reads false 16 [] j ∙ rw (le-ltb j 0 (omega arith))
 
   module _ (i : ℕ) (flags : List Bool) (w : Flagged i flags) where
     pub flagged-more : i < s .count → i < length flags → (b : Bool) → b ≡ isPrecedes (lineAt s i) → Flagged (i + 1) (set flags i b)

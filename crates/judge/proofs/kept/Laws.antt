@@ -1,11 +1,10 @@
 -- A monitor kept in rows: what it holds is what the rows hold, counts that the arrays have room for are the same, and it follows what the monitor followed whose remainders were stored. Assumes nothing.
 use mathlib.Core.Bool.{Bool, true, false, not}
-use mathlib.Core.List.{List, _∷_, map}
+use mathlib.Core.List.{List, map}
 use mathlib.Core.Option.{Option, none, some}
 use mathlib.Core.Path.{_≡_, refl, sym, ap, _∙_, subst, fun-ext}
-use Prim.Native.Nat.{ℕ, zero, suc, _+_, _≤_, _<_}
+use Prim.Native.Nat.{ℕ, zero, suc, _+_, _≤_}
 use native.Mathlib.Omega.{arith}
-use native.Mathlib.Nat.{add-zero, zero-add}
 use native.Mathlib.Numerals.{add-one}
 use lib.Dec.{T, eqb, leb, leb→le, le→leb}
 use lib.IntN.{ℤ}
@@ -40,6 +39,8 @@ use Rattle.judge.specs.Rows.{Rows, Roomy, rowCount, rowObligation, rowOw
 use Rattle.judge.specs.Monitor.{sheetBy, heldBy, Workable, Accepts}
 use Rattle.judge.specs.Kept.{asStruct, rowRemainder, liveRows, rowsHeld, rowsMonitor, toldBy}
 use Rattle.judge.specs.Promises.{Follows}
+use Rattle.judge.proofs.Listing.{map-listed, one-of, all-of}
+use Rattle.judge.proofs.rows.Stored.{small-live}
 use Rattle.judge.proofs.monitor.Limits.{held-limits, limits-of, within-limits}
 
 -- ---- places listed
@@ -47,34 +48,13 @@ module _ {A : Type 0} (f : ℕ → A) where
   take-all : (n : ℕ) → take n (listed f n) ≡ listed f n
   take-all n = ap (λ k. take k (listed f n)) (sym (length-listed f n)) ∙ take-length (listed f n)
 
-  map-from : {B : Type 0} (g : A → B) (i n : ℕ) → map g (listedFrom f i n) ≡ listedFrom (λ j. g (f j)) i n
-  unfolding listedFrom
-  map-from g i zero = refl
-  map-from g i (suc n) = ap (λ (xs : List _). g (f i) ∷ xs) (map-from g (i + 1) n)
-
   map-all : {B : Type 0} (g : A → B) (n : ℕ) → map g (take n (listed f n)) ≡ listed (λ j. g (f j)) n
-  map-all g n = ap (map g) (take-all n) ∙ map-from g 0 n
+  map-all g n = ap (map g) (take-all n) ∙ map-listed f g n
 
   each-from : (P : A → Type 0) → ((j : ℕ) → P (f j)) → (i n : ℕ) → All P (listedFrom f i n)
   unfolding listedFrom
   each-from P h i zero = tt
   each-from P h i (suc n) = (h i, each-from P h (i + 1) n)
-
-  module _ (p : A → Bool) where
-    one-of : (i n : ℕ) → T (all p (listedFrom f i n)) → (k : ℕ) → k < n → T (p (f (i + k)))
-    unfolding listedFrom
-    one-of i zero t k h = absurd (omega arith)
-    one-of i (suc n) t zero h = rw add-zero (and-l (p (f i)) _ t)
-    one-of i (suc n) t (suc k) h =
-        let e : i + suc k ≡ i + 1 + k = omega arith in
-        rw e (one-of (i + 1) n (and-r (p (f i)) _ t) k (omega arith))
-
-    all-of : (i n : ℕ) → ((k : ℕ) → k < n → T (p (f (i + k)))) → T (all p (listedFrom f i n))
-    unfolding listedFrom
-    all-of i zero h = tt
-    all-of i (suc n) h =
-        and-i (p (f i)) _ (subst (λ (k : ℕ). T (p (f k))) (add-zero i) (h 0 (omega arith)))
-        (all-of (i + 1) n (λ k l. let e : i + suc k ≡ i + 1 + k = omega arith in subst (λ (k : ℕ). T (p (f k))) e (h (suc k) (omega arith))))
 
 -- ---- those held
 owed-row : (r : Rows) (i : ℕ) → owedOf (rowRemainder r i) ≡ rowOwed (r .marks) (r .dues) i
@@ -95,25 +75,20 @@ unfolding few
 small-rows Exhausted r t = λ i h. absurd (omega arith)
 small-rows (Live n) r t =
     let u = rw (take-all (rowRemainder r) n) at (and-r (leb n 32) (all few (take n (listed (rowRemainder r) n))) t) in
-    (leb→le n 32 (and-l (leb n 32) (all few (take n (listed (rowRemainder r) n))) t), λ i h. leb→le (rowCount (r .marks) i) 8 (rw zero-add at (one-of (rowRemainder r) few 0 n u i h)))
+    (leb→le n 32 (and-l (leb n 32) (all few (take n (listed (rowRemainder r) n))) t), λ i h. leb→le (rowCount (r .marks) i) 8 (one-of (rowRemainder r) few n u i h))
 
 pub sized-rows : (count : Count) (r : Rows) → SmallIn count 32 (r .marks) → T (sized (rowsHeld count r))
 unfolding few
 sized-rows Exhausted r h = tt
 sized-rows (Live n) r h =
     and-i (leb n 32) (all few (take n (listed (rowRemainder r) n))) (le→leb n 32 (h .0))
-    (rw (take-all (rowRemainder r) n) (all-of (rowRemainder r) few 0 n (λ k l. rw zero-add (le→leb (rowCount (r .marks) k) 8 (h .1 k l)))))
+    (rw (take-all (rowRemainder r) n) (all-of (rowRemainder r) few n (λ k l. le→leb (rowCount (r .marks) k) 8 (h .1 k l))))
 
 pub eight-rows : (count : Count) (r : Rows) → All (λ (q : arrays.Remainder). length (q .stopped) ≡ 8) (rowsHeld count r .remainders)
 eight-rows count r = each-from (rowRemainder r) (λ (q : arrays.Remainder). length (q .stopped) ≡ 8) (λ i. length-listed _ 8) 0 (liveRows count)
 
 -- ---- a count and its rows
 module _ (count : Count) (rs : List arrays.Remainder) where
-  pub room-for : {n : ℕ} → count ≡ Live n → T (sizedIn count rs) → (n ≤ 32) × T (all (λ (q : arrays.Remainder). leb (q .owed) 8) (take n rs))
-  room-for {n} e t =
-      let u = subst (λ (c : Count). T (sizedIn c rs)) e t in
-      (leb→le n 32 (and-l (leb n 32) _ u), and-r (leb n 32) _ u)
-
   abbrev Stores : Rows → Type 0
   Stores r = Roomy r × (SmallIn count 32 (r .marks) × ((v : SheetValue) → foundIn v count r ≡ heldIn v count rs))
 
@@ -141,7 +116,7 @@ module _ (s : Sheet) (n : ℕ) (tags : List ℤ) (count : Count) (r : Rows) wher
   leads-rows w {k} e = subst (λ (rs : List Remainder). T (all smallLeads rs)) (ap live (held-rows (sheetValue s) count r ∙ ap (λ (c : Count). foundIn (sheetValue s) c r) e)) (w .leads)
 
   pub small-count : Workable m → {k : ℕ} → count ≡ Live k → SmallIn (Live k) 32 (r .marks)
-  small-count w e = subst (λ (c : Count). SmallIn c 32 (r .marks)) e (small-rows count r (w .fits))
+  small-count w {k} e = small-live count k 32 (r .marks) e (small-rows count r (w .fits))
 
   pub accepts-rows : (i : Instant) (next : Count) (out : Rows) (said : code.Answer)
       → foundIn (sheetValue s) next out ≡ worked 32 (sheetValue s) (tagsBefore (eqb n 0) tags) (seenOf (s .clocks) (i .ticks)) (i .tags) (foundIn (sheetValue s) count r)

@@ -18,7 +18,8 @@ use Rattle.judge.specs.Questions.{tickIn}
 use Rattle.judge.specs.Carried.{needOf, gainOf, lossOf}
 use Rattle.judge.proofs.line.Laws.{bit-le, lead-keys}
 use Rattle.judge.proofs.rows.Laws.{FilledTo, fill-start, fill-more}
-use Rattle.judge.proofs.rows.Effects.{listed-at, fill-at}
+use Rattle.judge.proofs.rows.Effects.{fill-at}
+use Rattle.judge.proofs.Listing.{listed-at}
 
 -- all but the two precedes
 pub rest-leads : (ticks : List Bool) (l : Line) → OneOf lead-keys (tagOf the-type l) → (0 ≡ needOf ticks l) × ((0 ≡ gainOf ticks l) × (0 ≡ lossOf ticks l))

@@ -34,7 +34,7 @@ rest-tags tags (Strictly A B) h = refl
 rest-tags tags (Kills A B) h = refl
 
 -- all but implies, excludes and kills
-abbrev ticks-keys : List ℕ
+abbrev pub ticks-keys : List ℕ
 ticks-keys = 0 ∷ 1 ∷ 4 ∷ 5 ∷ 6 ∷ []
 
 pub rest-ticks : (ticks : List Bool) (l : Line) → OneOf ticks-keys (tagOf the-type l) → true ≡ ticksHold ticks l

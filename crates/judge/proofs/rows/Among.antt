@@ -1,10 +1,8 @@
 -- A remainder compared with a row, test by test as the code makes them: it is equal in every sheet of these clocks and precedes lines, or in none. Assumes nothing.
-use mathlib.Core.Bool.{Bool, true, false, not, _&&_, _||_, Bool·beq, Bool·not-not, and-assoc, and-true, and-false}
-use mathlib.Core.List.{List, [], _∷_, _++_}
+use mathlib.Core.Bool.{Bool, true, false, not, _&&_, _||_, Bool·beq, and-false}
+use mathlib.Core.List.{List, [], _∷_}
 use mathlib.Core.Path.{_≡_, refl, sym, ap, ap₂, _∙_}
-use Prim.Native.Nat.{ℕ, zero, suc, _+_, _-_, _<_, _≤_}
-use native.Mathlib.Nat.{add-zero, zero-add}
-use native.Mathlib.Numerals.{add-one}
+use Prim.Native.Nat.{ℕ, zero, suc, _<_, _≤_}
 use native.Mathlib.Omega.{arith}
 use lib.Dec.{eqb}
 use lib.ListN.{length, take, getD, length-map, List·getD-eq-default}
@@ -13,75 +11,19 @@ use borrow.Author.Tests.{lt-ltb, le-ltb, eq-eqb, ne-eqb, not-true, not-false}
 use Rattle.records.specs.declared.line.Line.{Line}
 use Rattle.records.specs.declared.line.Line.the-variants.{Sporadic, Relation, Implies, Excludes, Delayed, Weakly, Strictly, Kills}
 use Rattle.records.specs.Line.{blankLine}
-use Rattle.records.specs.Lists.{listedFrom, listed}
+use Rattle.records.specs.Lists.{listed}
 use Rattle.records.specs.Sheet.{SheetValue}
-use Rattle.records.proofs.Lists.{listed-snoc, length-listed}
-use Rattle.tesl.specs.Lists.{all, any, below, sameList}
+use Rattle.records.proofs.Lists.{length-listed}
+use Rattle.tesl.specs.Lists.{any, below, sameList}
 use Rattle.tesl.specs.Fits.{Obligation}
 use Rattle.tesl.specs.Remainder.{sameObligation}
-use Rattle.tesl.proofs.FormulaLists.{all-append}
 use Rattle.theory.specs.Step.{nextLeads}
-use Rattle.theory.proofs.Lists.{any-snoc}
 use Rattle.judge.specs.declared.remainder.Remainder as arrays
 use Rattle.judge.specs.View.{obligationOf, inUse, owedOf, cut, viewOf}
 use Rattle.judge.specs.Work.{sameCounted}
 use Rattle.judge.specs.Rows.{Rows, rowCount, rowObligation, rowLead, rowStop, rowOf, rowsOf, isPrecedes, Leading}
-use Rattle.judge.proofs.work.PaddedLaws.{below-ext}
-
--- ---- a question of each number below n
-module _ (p : ℕ → Bool) where
-  pub below-next : (i : ℕ) → below i p ≡ true → p i ≡ true → below (i + 1) p ≡ true
-  below-next i a b = rw (add-one i, a, b)
-
-  misses : (d n i : ℕ) → n ≡ suc (d + i) → p i ≡ false → below n p ≡ false
-  misses zero n i e b = let z : n ≡ suc i = omega arith in ap (λ (m : ℕ). below m p) z ∙ rw b (and-false (below i p))
-  misses (suc d) n i e b = let z : n ≡ suc (n - 1) = omega arith in ap (λ (m : ℕ). below m p) z ∙ rw (misses d (n - 1) i (omega arith) b)
-
-  pub below-miss : (n i : ℕ) → i < n → p i ≡ false → below n p ≡ false
-  below-miss n i h b = misses (n - suc i) n i (omega arith) b
-
-  reaches : (d m n : ℕ) → m ≡ d + n → ((k : ℕ) → n ≤ k → p k ≡ true) → below m p ≡ below n p
-  reaches zero m n e h = let z : m ≡ n = omega arith in rw z
-  reaches (suc d) m n e h =
-      let z : m ≡ suc (m - 1) = omega arith in
-      ap (λ (k : ℕ). below k p) z ∙ rw (reaches d (m - 1) n (omega arith) h, h (m - 1) (omega arith)) (and-true (below n p))
-
-  -- where p holds from n on
-  below-wide : (m n : ℕ) → n ≤ m → ((k : ℕ) → n ≤ k → p k ≡ true) → below m p ≡ below n p
-  below-wide m n l h = reaches (m - n) m n (omega arith) h
-
-  below-front : (n : ℕ) → below (suc n) p ≡ (p 0 && below n (λ k. p (suc k)))
-  below-front zero = sym (and-true (p 0))
-  below-front (suc n) = ap (λ (b : Bool). b && p (suc n)) (below-front n) ∙ and-assoc (p 0) (below n (λ k. p (suc k))) (p (suc n))
-
--- ---- what is listed place by place
-or-not : (a b : Bool) → (not a || b) ≡ not (a && not b)
-or-not true b = sym (Bool·not-not b)
-or-not false b = refl
-
-module _ {A : Type 0} (f : ℕ → A) where
-  one-more : (n : ℕ) → listed f (suc n) ≡ listed f n ++ (f n ∷ [])
-  one-more n = ap (listed f) (sym (add-one n)) ∙ listed-snoc f n
-
-  all-listed : (p : A → Bool) (n : ℕ) → all p (listed f n) ≡ below n (λ k. p (f k))
-  unfolding listedFrom
-  all-listed p zero = refl
-  all-listed p (suc n) = ap (all p) (one-more n) ∙ all-append p (listed f n) (f n ∷ []) ∙ ap₂ _&&_ (all-listed p n) (and-true (p (f n)))
-
-  any-listed : (p : A → Bool) (n : ℕ) → any p (listed f n) ≡ not (below n (λ k. not (p (f k))))
-  unfolding listedFrom
-  any-listed p zero = refl
-  any-listed p (suc n) =
-      ap (any p) (one-more n) ∙ any-snoc p (listed f n) (f n) ∙ ap (λ (b : Bool). b || p (f n)) (any-listed p n) ∙ or-not (below n (λ k. not (p (f k)))) (p (f n))
-
-  from-at : (d : A) (i n k : ℕ) → k < n → getD (listedFrom f i n) k d ≡ f (i + k)
-  unfolding listedFrom
-  from-at d i zero k h = absurd (omega arith)
-  from-at d i (suc n) zero h = rw (add-zero i)
-  from-at d i (suc n) (suc k) h = let z : i + 1 + k ≡ i + suc k = omega arith in from-at d (i + 1) n k (omega arith) ∙ rw z
-
-  listed-at : (d : A) (n k : ℕ) → k < n → getD (listed f n) k d ≡ f k
-  listed-at d n k h = from-at d 0 n k h ∙ rw (zero-add k)
+use Rattle.judge.proofs.Below.{below-ext, below-miss, below-front, below-either}
+use Rattle.judge.proofs.Listing.{listed-at, all-listed, any-listed}
 
 -- ---- lists compared place by place
 module _ {A : Type 0} (same : A → A → Bool) (d : A) where
@@ -124,7 +66,7 @@ same-lead (Excludes A B) a b = refl
 same-lead (Delayed A B D d) a b = refl
 same-lead (Kills A B) a b = refl
 
-module _ (v : SheetValue) (reach : ℕ) (precede : List Bool) (small : length (v .lines) ≤ 16) (leading : Leading v reach precede) (xs : List ℕ) (f : ℕ → ℕ) where
+module _ (v : SheetValue) (reach : ℕ) (precede : List Bool) (leading : Leading v reach precede) (xs : List ℕ) (f : ℕ → ℕ) where
   abbrev ys : List ℕ
   ys = listed f 16
 
@@ -147,8 +89,7 @@ module _ (v : SheetValue) (reach : ℕ) (precede : List Bool) (small : length (v
       same-places eqb 0 (nextLeads inUse (v .lines) xs) (nextLeads inUse (v .lines) ys) (l ∙ sym (length-used (v .lines) ys))
       ∙ ap (λ (j : ℕ). below j (λ k. eqb (getD (nextLeads inUse (v .lines) xs) k 0) (getD (nextLeads inUse (v .lines) ys) k 0))) l
       ∙ below-ext (length (v .lines)) _ sameAt (λ k g. ap₂ eqb (used-at (v .lines) xs k) (used-at (v .lines) ys k) ∙ same-lead (getD (v .lines) k blankLine) (getD xs k 0) (getD ys k 0))
-      ∙ sym (below-wide sameAt 16 (length (v .lines)) small past-lines)
-      ∙ below-wide sameAt 16 reach (leading .0) past-reach
+      ∙ below-either sameAt (length (v .lines)) reach past-lines past-reach
       ∙ below-ext reach sameAt _ within-reach
 
 -- ---- x and row i
@@ -197,7 +138,7 @@ module _ (clocks reach : ℕ) (precede : List Bool) (x : arrays.Remainder) (r : 
     equal {s} {l} n e q f g o = rw (eq-eqb (x .owed) (rowCount (r .marks) i) (sym n), sym e, not-false s q, sym f, not-false l g, o)
 
   -- in any sheet of these clocks and precedes lines
-  module _ (c : clocks ≤ 8) (o : x .owed ≤ 8) (lo : length (x .obligations) ≡ 8) (ls : length (x .stopped) ≡ 8) (v : SheetValue) (e : v .clocks ≡ clocks) (small : length (v .lines) ≤ 16) (leading : Leading v reach precede) where
+  module _ (c : clocks ≤ 8) (o : x .owed ≤ 8) (lo : length (x .obligations) ≡ 8) (ls : length (x .stopped) ≡ 8) (v : SheetValue) (e : v .clocks ≡ clocks) (leading : Leading v reach precede) where
     same-row : (i : ℕ) → sameCounted (viewOf v x) (cut v (rowOf r i)) ≡ sameRow i
     unfolding sameCounted sameRow
     same-row i =
@@ -207,7 +148,7 @@ module _ (clocks reach : ℕ) (precede : List Bool) (x : arrays.Remainder) (r : 
           length-take-le (x .owed) (x .obligations) (omega arith),
           length-listed (rowObligation (r .marks) (r .dues) i) (rowCount (r .marks) i),
           same-first Bool·beq false clocks 8 (x .stopped) (rowStop (r .stopped) i) c ls,
-          same-leads v reach precede small leading (x .leads) (rowLead (r .leads) i),
+          same-leads v reach precede leading (x .leads) (rowLead (r .leads) i),
           all-listed (rowObligation (r .marks) (r .dues) i) (λ o. any (sameObligation o) (owedOf x)) (rowCount (r .marks) i),
         )
 

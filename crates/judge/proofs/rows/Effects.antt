@@ -2,30 +2,22 @@
 use mathlib.Core.Bool.{Bool, true, false, _&&_, _||_, or-false, or-assoc}
 use mathlib.Core.List.{List, [], _∷_, _++_, append-nil}
 use mathlib.Core.Path.{_≡_, refl, sym, ap, _∙_}
-use Prim.Native.Nat.{ℕ, zero, suc, _+_, _-_, _<_, _≤_}
+use Prim.Native.Nat.{ℕ, suc, _+_, _-_, _<_, _≤_}
 use native.Mathlib.Numerals.{add-one}
 use native.Mathlib.Omega.{arith}
 use lib.ListN.{length, take, drop, getD, set, length-set}
 use lib.Seq.{drop-cons, take-all, take-suc-set, drop-set-lt, append-snoc, set-getD, getD-take}
-use Rattle.records.specs.Lists.{listedFrom, listed}
+use Rattle.records.specs.Lists.{listedFrom}
 use Rattle.records.proofs.Lists.{listed-cons, listed-end}
 use Rattle.judge.specs.Carried.{overlap, either}
 use Rattle.judge.proofs.Places.{as-is}
+use Rattle.judge.proofs.Listing.{listed-at}
 use Rattle.judge.proofs.rows.Laws.{FilledTo}
 
--- ---- a place of what is listed, and of an array that is filled with it
+-- ---- a place of an array that is filled
 module _ {A : Type 0} (f : ℕ → A) (d : A) where
-  from-at : (i n k : ℕ) → k < n → getD (listedFrom f i n) k d ≡ f (i + k)
-  unfolding listedFrom
-  from-at i zero k h = absurd (omega arith)
-  from-at i (suc n) zero h = let e : i + 0 ≡ i = omega arith in rw e
-  from-at i (suc n) (suc k) h = let e : i + 1 + k ≡ i + suc k = omega arith in from-at (i + 1) n k (omega arith) ∙ rw e
-
-  pub listed-at : (n k : ℕ) → k < n → getD (listed f n) k d ≡ f k
-  listed-at n k h = let e : 0 + k ≡ k = omega arith in from-at 0 n k h ∙ rw e
-
   pub fill-at : (room : ℕ) (xs : List A) (n : ℕ) → FilledTo (λ (x : A). x) f room xs n → (k : ℕ) → k < n → getD xs k d ≡ f k
-  fill-at room xs n w k h = sym (getD-take n xs k d h) ∙ ap (λ (ys : List A). getD ys k d) (sym (as-is (take n xs)) ∙ w .1) ∙ listed-at n k h
+  fill-at room xs n w k h = sym (getD-take n xs k d h) ∙ ap (λ (ys : List A). getD ys k d) (sym (as-is (take n xs)) ∙ w .1) ∙ listed-at f d n k h
 
 -- ---- a clock in both: found so far, or from place k on
 module _ (xs : List Bool) (f : ℕ → Bool) (n k : ℕ) (found : Bool) where

@@ -4,17 +4,16 @@ use mathlib.Core.List.{List, [], _∷_, _++_, map}
 use mathlib.Core.Logic.{⊎-elim}
 use mathlib.Core.Option.{some}
 use mathlib.Core.Path.{_≡_, refl, sym, ap, subst, _∙_}
-use Prim.Native.Nat.{ℕ, zero, suc, _+_, _*_, _≤_, _<_}
+use Prim.Native.Nat.{ℕ, _+_, _*_, _≤_, _<_}
 use native.Mathlib.Nat.{eq-or-lt-of-le}
 use native.Mathlib.Numerals.{add-one}
 use native.Mathlib.Omega.{arith}
 use lib.Dec.{T, leb, le→leb}
 use lib.IntN.{ℤ, pos}
 use lib.ListN.{length, getD, set, take, length-set}
-use lib.Seq.{getD-set-same, getD-set-other, take-suc, take-suc-set, take-all}
-use Rattle.records.specs.Lists.{listedFrom, listed}
+use lib.Seq.{getD-set-same, getD-set-other, take-suc-set}
+use Rattle.records.specs.Lists.{listed}
 use Rattle.records.specs.Sheet.{SheetValue}
-use Rattle.records.proofs.Lists.{listed-snoc}
 use Rattle.tesl.specs.Fits.{Obligation}
 use Rattle.tesl.specs.Lists.{all}
 use Rattle.tesl.specs.Remainder.{Remainder}
@@ -27,63 +26,8 @@ use Rattle.judge.specs.declared.held.Count.the-variants.{Exhausted, Live
 use Rattle.judge.specs.View.{obligationOf, firstOf, owedOf, remainderOf, cut, viewOf, heldIn, sizedIn}
 use Rattle.judge.specs.Rows.{Rows, rows, rowCount, rowObligation, rowOwed, rowLeads, rowStopped, rowOf, rowsOf, foundIn, Small, SmallIn}
 use Rattle.judge.proofs.Places.{first-more, first-set, pastEnd}
+use Rattle.judge.proofs.Listing.{listed-same, listed-next, Kept, kept-set}
 use Rattle.judge.proofs.remainder.Laws.{blank}
-
--- ---- places listed
-module _ {A : Type 0} {f g : ℕ → A} where
-  from-same : (i n : ℕ) → ((j : ℕ) → j < i + n → g j ≡ f j) → listedFrom g i n ≡ listedFrom f i n
-  unfolding listedFrom
-  from-same i zero h = refl
-  from-same i (suc n) h = rw (h i (omega arith), from-same (i + 1) n (λ j l. h j (omega arith)))
-
-  -- places that agree give one list
-  pub listed-same : (n : ℕ) → ((j : ℕ) → j < n → g j ≡ f j) → listed g n ≡ listed f n
-  listed-same n h = from-same 0 n (λ j l. h j (omega arith))
-
-  -- and one place more is one element more
-  pub listed-next : (n : ℕ) {xs : List A} {a : A} → ((j : ℕ) → j < n → g j ≡ f j) → g n ≡ a → listed f n ≡ xs → listed g (n + 1) ≡ xs ++ (a ∷ [])
-  listed-next n h e w = listed-snoc g n ∙ rw (listed-same n h, w, e)
-
--- ---- stores in a list that reads d past its end
-module _ {A : Type 0} (d : A) where
-  -- the places before b are as they were
-  abbrev pub Kept : ℕ → List A → List A → Type 0
-  Kept b was l = (p : ℕ) → p < b → getD l p d ≡ getD was p d
-
-  -- what stands at n places from b on
-  abbrev pub placesFrom : ℕ → ℕ → List A → List A
-  placesFrom b n l = listed (λ k. getD l (b + k) d) n
-
-  pub kept-set : (b p : ℕ) (a : A) (was l : List A) → b ≤ p → Kept b was l → Kept b was (set l p a)
-  kept-set b p a was l h k q m = getD-set-other l p q a d (λ e. omega arith) ∙ k q m
-
-  pub kept-from : (b p : ℕ) (a : A) (was l : List A) → b ≤ p → Kept b (set was p a) l → Kept b was l
-  kept-from b p a was l h k q m = k q m ∙ getD-set-other was p q a d (λ e. omega arith)
-
-  -- places that end before b
-  pub places-kept : (b s n : ℕ) (was l : List A) → s + n ≤ b → Kept b was l → placesFrom s n l ≡ placesFrom s n was
-  places-kept b s n was l h k = listed-same n (λ j m. k (s + j) (omega arith))
-
-  -- ---- the first k elements of x, stored from place b on
-  module _ (b : ℕ) (was x : List A) where
-    abbrev pub Copied : List A → ℕ → Type 0
-    Copied l k = (length l ≡ length was) × (placesFrom b k l ≡ take k x) × Kept b was l
-
-    pub copied-start : Copied was 0
-    unfolding listedFrom
-    copied-start = (refl, refl, λ p h. refl)
-
-    module _ (l : List A) (k : ℕ) (w : Copied l k) where
-      pub copied-more : b + k < length was → k < length x → Copied (set l (b + k) (getD x k d)) (k + 1)
-      copied-more h m =
-          let r : b + k < length l = omega (arith, w .0) in (
-            length-set l (b + k) (getD x k d) ∙ w .0,
-            listed-next k (λ j i. getD-set-other l (b + k) (b + j) (getD x k d) d (λ e. omega arith)) (getD-set-same l (b + k) (getD x k d) d r) (w .1) ∙ rw (add-one, take-suc x k d m),
-            kept-set b (b + k) (getD x k d) was l (omega arith) (w .2),
-          )
-
-      pub copied-all : (n : ℕ) → length x ≡ n → n ≡ k → placesFrom b n l ≡ x
-      copied-all n e f = rw f (w .1 ∙ take-all k x (omega arith))
 
 -- ---- a row's obligations
 

@@ -14,6 +14,7 @@ use Rattle.judge.specs.Rules.{ruleLine}
 use Rattle.judge.specs.Carried.{barredBy}
 use Rattle.judge.proofs.Places.{rest-end, rest-cons}
 use Rattle.judge.proofs.line.Laws.{stopped-keys}
+use Rattle.judge.proofs.rules.Laws.{noRule}
 
 -- all but kills
 pub rest-barred : (ticks : List Bool) (l : Line) (barred : List Bool) → OneOf stopped-keys (tagOf the-type l) → barred ≡ barredBy ticks l barred
@@ -25,10 +26,6 @@ rest-barred ticks (Excludes A B) barred h = refl
 rest-barred ticks (Delayed A B D d) barred h = refl
 rest-barred ticks (Weakly A B) barred h = refl
 rest-barred ticks (Strictly A B) barred h = refl
-
--- past the end of the rules
-abbrev pub noRule : Rule
-noRule = record { kind = 0; a = 0; b = 0 }
 
 -- the lines of the first n rules, from place i on
 abbrev pub rulesFrom : List Rule → ℕ → ℕ → List Line

@@ -24,6 +24,7 @@ use Rattle.judge.specs.Questions.{ticksHold}
 use Rattle.judge.specs.Rules.{isRule, ruleLine, allowed, isSettled, cuts}
 use Rattle.judge.specs.Rows.{isPrecedes, Leading}
 use Rattle.judge.proofs.Places.{first-set}
+use Rattle.judge.proofs.line.Laws.{ticks-keys}
 
 -- ---- the other kinds ask nothing of the ticks
 pub rules-enough : (ls : List Line) (ticks : List Bool) → allowed (filter isRule ls) ticks ≡ all (ticksHold ticks) ls
@@ -70,14 +71,11 @@ module _ (s : Sheet) (n i count : ℕ) (rules : List Rule) (g : Gathered s n i c
           same = turn ∙ rw (t, first-set ruleLine rules count r k, ← f) (sym (append-snoc (map ruleLine (take count rules)) l _));
         }
 
--- a line with no arm of its own, by its key in the order of the enum from 0
-abbrev other-keys : List ℕ
-other-keys = 0 ∷ 1 ∷ 4 ∷ 5 ∷ 6 ∷ []
-
-pub rest-rules : (l : Line) → OneOf other-keys (tagOf the-type l) → isRule l ≡ false
-rest-rules (Implies A B) h = absurd (miss other-keys 2 tt h)
-rest-rules (Excludes A B) h = absurd (miss other-keys 3 tt h)
-rest-rules (Kills A B) h = absurd (miss other-keys 7 tt h)
+-- a line with no arm of its own: all but implies, excludes and kills
+pub rest-rules : (l : Line) → OneOf ticks-keys (tagOf the-type l) → isRule l ≡ false
+rest-rules (Implies A B) h = absurd (miss ticks-keys 2 tt h)
+rest-rules (Excludes A B) h = absurd (miss ticks-keys 3 tt h)
+rest-rules (Kills A B) h = absurd (miss ticks-keys 7 tt h)
 rest-rules (Sporadic A B t) h = refl
 rest-rules (Relation A B p q) h = refl
 rest-rules (Delayed A B D d) h = refl
@@ -86,9 +84,13 @@ rest-rules (Strictly A B) h = refl
 
 -- ---- whether a rule cuts the ticks
 
--- the rule at place i; past the end of the array a blank one
+-- past the end of the rules
+abbrev pub noRule : Rule
+noRule = record { kind = 0; a = 0; b = 0 }
+
+-- the rule at place i
 abbrev pub ruleAt : List Rule → ℕ → Rule
-ruleAt rules i = getD rules i (record { kind = 0; a = 0; b = 0 })
+ruleAt rules i = getD rules i noRule
 
 module _ (k : ℕ) (ticks : List Bool) (r : Rule) {settled : Bool} (e : settled ≡ isSettled k r) where
   pub unsettled : not settled ≡ true → cuts k ticks r ≡ false

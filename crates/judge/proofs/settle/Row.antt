@@ -27,9 +27,9 @@ use Rattle.judge.specs.Rules.{isRule}
 use Rattle.judge.specs.Carried.{allBarred, overlap, either, needOf, gainOf, lossOf}
 use Rattle.judge.specs.Rows.{Rows, Leading, rowOwed, rowLead, rowLeads, rowStop, rowStopped, rowOf}
 use Rattle.judge.specs.Work.{addedAll, carried, withBegun, withKept, advanced}
-use Rattle.judge.proofs.work.PaddedLaws.{below-ext}
+use Rattle.judge.proofs.Below.{below-ext}
 use Rattle.judge.proofs.work.Carried.{sheetLine, carried-holds, carried-stopped, carried-leads, small-gain}
-use Rattle.judge.proofs.rows.Effects.{listed-at}
+use Rattle.judge.proofs.Listing.{listed-at}
 
 -- what was computed of a filling is what the sheet's lines make of it
 pub record Asked (v : SheetValue) (clocks reach : ℕ) (precede ticks : List Bool) (tags : List ℤ) (begun : List Obligation) (barred stops : List Bool) (needs gains losses : List ℕ) : Type 0 where

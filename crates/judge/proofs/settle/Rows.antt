@@ -2,9 +2,8 @@
 use mathlib.Core.Bool.{Bool, true, false}
 use mathlib.Core.List.{List, [], _∷_, _++_}
 use mathlib.Core.Option.{Option, none, some}
-use mathlib.Core.Path.{_≡_, refl, sym, ap, subst, _∙_}
-use Prim.Native.Nat.{ℕ, zero, suc, _+_, _-_, _<_, _≤_}
-use native.Mathlib.Nat.{add-zero, zero-add}
+use mathlib.Core.Path.{_≡_, refl, sym, ap, _∙_}
+use Prim.Native.Nat.{ℕ, _+_, _-_, _<_, _≤_}
 use native.Mathlib.Omega.{arith}
 use lib.Dec.{T}
 use lib.IntN.{ℤ}
@@ -18,7 +17,6 @@ use Rattle.tesl.specs.Lists.{all, any, flatMap}
 use Rattle.tesl.specs.Run.{Filled}
 use Rattle.tesl.specs.Fits.{Obligation, owedFrom}
 use Rattle.tesl.specs.Remainder.{Remainder}
-use Rattle.tesl.proofs.Tests.{and-l, and-r}
 use Rattle.judge.specs.declared.held.Count.{Count}
 use Rattle.judge.specs.declared.held.Count.the-variants.{Exhausted, Live}
 use Rattle.judge.specs.Advanced.{Advanced, fails, over, onto}
@@ -27,32 +25,20 @@ use Rattle.judge.specs.Lines.{smallLeads}
 use Rattle.judge.specs.Once.{onceEach}
 use Rattle.judge.specs.Work.{sameCounted, inserted, took, advanced, settledAll}
 use Rattle.judge.specs.Fillings.{fillingIn, fillingsIn, takenBy, settling}
-use Rattle.judge.specs.Rows.{Rows, rowOf, rowsOf, foundIn, Small, SmallIn}
+use Rattle.judge.specs.Rows.{Rows, rowOf, rowsOf, foundIn}
+use Rattle.judge.proofs.Listing.{one-of}
+use Rattle.judge.proofs.work.Heed.{took-none}
 use Rattle.judge.proofs.work.Once.{settled-once}
 
 -- ---- a row
-all-listed : {A : Type 0} (p : A → Bool) (f : ℕ → A) (i n j : ℕ) → T (all p (listedFrom f i n)) → j < n → T (p (f (i + j)))
-unfolding listedFrom
-all-listed p f i zero j t h = absurd (omega arith)
-all-listed p f i (suc n) zero t h = rw add-zero (and-l (p (f i)) (all p (listedFrom f (i + 1) n)) t)
-all-listed p f i (suc n) (suc j) t h =
-    let k : i + suc j ≡ i + 1 + j = omega arith in
-    rw k (all-listed p f (i + 1) n j (and-r (p (f i)) (all p (listedFrom f (i + 1) n)) t) (omega arith))
-
 pub row-small : (v : SheetValue) (R : Rows) (n i : ℕ) → i < n → T (all smallLeads (rowsOf v n R)) → T (smallLeads (cut v (rowOf R i)))
-row-small v R n i h t = simp zero-add at (all-listed smallLeads (λ k. cut v (rowOf R k)) 0 n i t h)
+row-small v R n i h t = one-of (λ k. cut v (rowOf R k)) smallLeads n t i h
 
 pub few-lines : (s : Sheet) → s .count ≤ 16 → length (sheetValue s .lines) ≤ 16
 few-lines s h = omega (arith, length-listed (lineAt s) (s .count))
 
 -- ---- once exhausted, it stays so
-took-none : (room : ℕ) (a : Advanced) → took room none a ≡ none
-unfolding inserted
-took-none room fails = refl
-took-none room over = refl
-took-none room (onto x) = refl
-
-pub settled-none : (room : ℕ) (v : SheetValue) (f : Filled) (begun : List Obligation) (rs : List Remainder) → settledAll room v f begun rs none ≡ none
+settled-none : (room : ℕ) (v : SheetValue) (f : Filled) (begun : List Obligation) (rs : List Remainder) → settledAll room v f begun rs none ≡ none
 unfolding settledAll
 settled-none room v f begun [] = refl
 settled-none room v f begun (r ∷ rs) = rw (took-none room (advanced v f begun r)) (settled-none room v f begun rs)
@@ -126,14 +112,3 @@ module _ (room : ℕ) (v : SheetValue) (tags : List ℤ) (rs : List Remainder) (
 
     pub taken-more : (n : ℕ) → count ≡ Live n → whole ≡ takenFrom f (some (rowsOf v n O))
     taken-more n q = w ∙ rw q
-
--- ---- a count of rows that the arrays have room for
-module _ {count : Count} {n : ℕ} (e : count ≡ Live n) (room : ℕ) (marks : List ℕ) (t : SmallIn count room marks) where
-  in-room : (n ≤ room) × Small n marks
-  in-room = subst (λ (c : Count). SmallIn c room marks) e t
-
-  pub live-room : n ≤ room
-  live-room = in-room .0
-
-  pub live-small : Small n marks
-  live-small = in-room .1

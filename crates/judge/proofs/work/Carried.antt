@@ -1,9 +1,9 @@
 -- What a filling makes of the leads and stopped clocks, by what depends on it alone, is what the lines ask and make of them. Assumes nothing.
-use mathlib.Core.Bool.{Bool, true, false, not, cond, _&&_, _||_, true≢false, and-true, and-assoc, or-true, or-false, or-assoc}
+use mathlib.Core.Bool.{Bool, true, false, not, cond, _&&_, _||_, true≢false, and-true, or-true, or-false, or-assoc}
 use mathlib.Core.List.{List, [], _∷_}
 use mathlib.Core.Path.{_≡_, refl, sym, ap, ap₂, _∙_}
 use Prim.Native.Nat.{ℕ, zero, suc, _+_, _-_, _<_, _≤_}
-use native.Mathlib.Nat.{add-zero, add-suc}
+use native.Mathlib.Nat.{add-zero}
 use native.Mathlib.Omega.{arith}
 use lib.Dec.{T, leb, ltb, leb·zero, ltb→lt}
 use lib.ListN.{length, getD, take, set, replicate, length-set, length-replicate, List·getD-eq-default}
@@ -25,31 +25,18 @@ use Rattle.judge.specs.Lines.{allStopped, smallLeads}
 use Rattle.judge.specs.Rules.{isRule}
 use Rattle.judge.specs.Rows.{isPrecedes, Leading}
 use Rattle.judge.specs.Carried.{barredBy, allBarred, overlap, either, needOf, gainOf, lossOf}
+use Rattle.judge.proofs.Below.{below-front, below-either}
 use Rattle.judge.proofs.lines.Carried.{all-as-many}
 
 -- ---- places
-
--- a question of each number below n, the first of them and the rest
-below-front : (n : ℕ) (p : ℕ → Bool) → below (suc n) p ≡ (p 0 && below n (λ k. p (suc k)))
-below-front zero p = sym (and-true (p 0))
-below-front (suc n) p = ap (λ (b : Bool). b && p (suc n)) (below-front n p) ∙ and-assoc (p 0) (below n (λ k. p (suc k))) (p (suc n))
-
--- if those from m on all answer yes, those below m decide
-below-past : (p : ℕ → Bool) (m n : ℕ) → ((k : ℕ) → m ≤ k → p k ≡ true) → below (m + n) p ≡ below m p
-below-past p m zero h = rw add-zero
-below-past p m (suc n) h = rw (add-suc, h (m + n) (omega arith)) (and-true (below (m + n) p) ∙ below-past p m n h)
-
--- so do those below either of two such bounds
-below-either : (p : ℕ → Bool) (m n : ℕ) → ((k : ℕ) → m ≤ k → p k ≡ true) → ((k : ℕ) → n ≤ k → p k ≡ true) → below m p ≡ below n p
-below-either p m n h g = let e : m + n ≡ n + m = omega arith in sym (below-past p m n h) ∙ ap (λ (i : ℕ). below i p) e ∙ below-past p n m g
 
 -- each line and its lead
 ok-places : (ok : Line → ℕ → Bool) (ls : List Line) (leads : List ℕ) → linesOk ok ls leads ≡ below (length ls) (λ k. ok (getD ls k blankLine) (getD leads k 0))
 ok-places ok [] leads = refl
 ok-places ok (l ∷ ls) [] =
-    ap (λ (b : Bool). ok l 0 && b) (ok-places ok ls []) ∙ sym (below-front (length ls) (λ k. ok (getD (l ∷ ls) k blankLine) (getD [] k 0)))
+    ap (λ (b : Bool). ok l 0 && b) (ok-places ok ls []) ∙ sym (below-front (λ k. ok (getD (l ∷ ls) k blankLine) (getD [] k 0)) (length ls))
 ok-places ok (l ∷ ls) (n ∷ leads) =
-    ap (λ (b : Bool). ok l n && b) (ok-places ok ls leads) ∙ sym (below-front (length ls) (λ k. ok (getD (l ∷ ls) k blankLine) (getD (n ∷ leads) k 0)))
+    ap (λ (b : Bool). ok l n && b) (ok-places ok ls leads) ∙ sym (below-front (λ k. ok (getD (l ∷ ls) k blankLine) (getD (n ∷ leads) k 0)) (length ls))
 
 next-places : (after : Line → ℕ → ℕ) (ls : List Line) (leads : List ℕ) → nextLeads after ls leads ≡ table (length ls) (λ k. after (getD ls k blankLine) (getD leads k 0))
 next-places after [] leads = refl

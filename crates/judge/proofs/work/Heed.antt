@@ -34,6 +34,7 @@ use Rattle.judge.specs.Owed.{owing, left, kept}
 use Rattle.judge.specs.Rows.{Rows, rowObligation, rowCount, rowOf, rowsOf}
 use Rattle.judge.specs.Heed.{namedBy, rowClocks, rowsClocks, flagged, heeds, tickHeeded, heeded}
 use Rattle.judge.specs.Work.{carried, withBegun, withKept, addedAll, advanced, sameCounted, inserted, took, settledAll, filling, fillFrom}
+use Rattle.judge.proofs.Listing.{map-listed}
 
 abbrev Found : Type 0
 Found = Option (List Remainder)
@@ -84,7 +85,7 @@ module _ (room : ℕ) where
       by-tests false true h = absurd (omega (arith, length-append rs (x ∷ []), ap (λ (q : Found). length (live q)) h))
       by-tests false false h = absurd (true≢false (ap isNone h))
 
-  took-none : (a : Advanced) → took room none a ≡ none
+  pub took-none : (a : Advanced) → took room none a ≡ none
   unfolding inserted
   took-none fails = refl
   took-none over = refl
@@ -313,15 +314,10 @@ unfolding listedFrom
 flat-listed f g at e i zero = refl
 flat-listed f g at e i (suc n) = rw (e i, flat-listed f g at e (i + 1) n)
 
-map-listed : {A B : Type 0} (f : A → B) (at : ℕ → A) (i n : ℕ) → map f (listedFrom at i n) ≡ listedFrom (λ j. f (at j)) i n
-unfolding listedFrom
-map-listed f at i zero = refl
-map-listed f at i (suc n) = rw (map-listed f at (i + 1) n)
-
 rows-clocks : (v : SheetValue) (n : ℕ) (r : Rows) → flatMap clocksOf (rowsOf v n r) ≡ rowsClocks (r .marks) n
 rows-clocks v n r =
     flat-listed clocksOf (rowClocks (r .marks)) (λ i. cut v (rowOf r i))
-    (λ i. map-listed (λ (o : Obligation). o .clock) (rowObligation (r .marks) (r .dues) i) 0 (rowCount (r .marks) i)) 0 n
+    (λ i. map-listed (rowObligation (r .marks) (r .dues) i) (λ (o : Obligation). o .clock) (rowCount (r .marks) i)) 0 n
 
 -- ---- an instant
 pub heeded-enough : (room : ℕ) (v : SheetValue) (tags : List ℤ) (n : ℕ) (r : Rows) (seen : List Tick) (ticks : List Bool) (found : Found)

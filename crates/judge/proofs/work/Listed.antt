@@ -6,36 +6,32 @@ use mathlib.Core.Path.{_≡_, refl, sym, ap, subst, _∙_}
 use Prim.Native.Nat.{ℕ, zero, suc, _+_, _<_, _≤_}
 use native.Mathlib.Nat.{zero-add, le-trans}
 use native.Mathlib.Omega.{arith}
-use lib.Dec.{T, leb, ltb}
+use lib.Dec.{T}
 use lib.IntN.{ℤ, pos}
-use lib.ListN.{length, getD, set, replicate, take, length-append, length-map, length-take, length-replicate}
-use borrow.Author.Tests.{ltb-false}
+use lib.ListN.{length, set, replicate, take, length-append, length-map, length-take, length-replicate}
 use Rattle.records.specs.declared.instant.Tick.{Tick}
 use Rattle.records.specs.declared.instant.Tick.the-variants.{Idle, Ticks, Unseen}
 use Rattle.records.specs.declared.instant.TickSlot.{TickSlot}
 use Rattle.records.specs.declared.line.Line.{Line}
-use Rattle.records.specs.declared.line.Line.the-variants.{Sporadic, Relation, Implies, Excludes, Delayed, Weakly, Strictly, Kills}
-use Rattle.records.specs.Line.{blankLine}
 use Rattle.records.specs.Lists.{listedFrom}
 use Rattle.records.specs.Sheet.{SheetValue}
 use Rattle.records.proofs.Lists.{length-listed}
 use Rattle.tesl.specs.Lists.{all, filter}
 use Rattle.tesl.specs.Fits.{noneFalls}
 use Rattle.tesl.specs.Remainder.{Remainder}
-use Rattle.tesl.proofs.Tests.{and-r}
 use Rattle.judge.specs.declared.held.Count.{Count}
 use Rattle.judge.specs.declared.held.Count.the-variants.{Exhausted, Live}
 use Rattle.judge.specs.declared.held.Held.{Held}
-use Rattle.judge.specs.declared.remainder.Remainder as arrays
-use Rattle.judge.specs.View.{cut, viewOf, heldOf, liveOf, live, seenOf, sized, sizedIn}
-use Rattle.judge.specs.Questions.{tagsHold, ticksHold}
+use Rattle.judge.specs.View.{cut, viewOf, heldOf, liveOf, live, seenOf}
+use Rattle.judge.specs.Questions.{tagsHold}
 use Rattle.judge.specs.Lines.{smallLeads}
 use Rattle.judge.specs.Rules.{isRule, allowed}
 use Rattle.judge.specs.Fillings.{fillingsFrom, fillingsIn, takenBy, settling}
-use Rattle.judge.specs.Rows.{Rows, rows, Roomy, rowOf, rowsOf, SmallIn, isPrecedes, Leading}
+use Rattle.judge.specs.Rows.{Rows, rows, Roomy, rowOf, rowsOf, SmallIn}
 use Rattle.judge.specs.Heed.{rowsClocks, heeds, heeded}
 use Rattle.judge.specs.Work.{filling, fillFrom, worked}
 use Rattle.judge.proofs.held.Laws.{held-live}
+use Rattle.judge.proofs.rules.Laws.{rules-enough}
 use Rattle.judge.proofs.work.Heed.{heeded-enough}
 
 -- ---- the fillings, one after the other
@@ -88,21 +84,6 @@ at-most-256 c seen ticks h = rw zero-add (few 8 0 (seenOf c seen) ticks (omega (
 pub few-listed : (c : ℕ) (seen : List TickSlot) (ticks : List Bool) (m : ℕ) → c ≤ 8 → m ≤ 0 + length (fillingsFrom 0 (seenOf c seen) ticks) → m ≤ 256
 few-listed c seen ticks m h l = le-trans l (at-most-256 c seen ticks h)
 
--- ---- the rules of a sheet: its other lines ask nothing of the ticks
-rule-or-holds : (l : Line) (ls : List Line) (ticks : List Bool) → all (ticksHold ticks) (cond (isRule l) (l ∷ ls) ls) ≡ (ticksHold ticks l && all (ticksHold ticks) ls)
-rule-or-holds (Sporadic A B t) ls ticks = refl
-rule-or-holds (Relation A B p q) ls ticks = refl
-rule-or-holds (Implies A B) ls ticks = refl
-rule-or-holds (Excludes A B) ls ticks = refl
-rule-or-holds (Delayed A B D d) ls ticks = refl
-rule-or-holds (Weakly A B) ls ticks = refl
-rule-or-holds (Strictly A B) ls ticks = refl
-rule-or-holds (Kills A B) ls ticks = refl
-
-rules-enough : (ls : List Line) (ticks : List Bool) → allowed (filter isRule ls) ticks ≡ all (ticksHold ticks) ls
-rules-enough [] ticks = refl
-rules-enough (l ∷ ls) ticks = rule-or-holds l (filter isRule ls) ticks ∙ ap (λ (b : Bool). ticksHold ticks l && b) (rules-enough ls ticks)
-
 -- ---- an instant
 module _ (room : ℕ) (v : SheetValue) (tags : List ℤ) (rs : List Remainder) where
   filling-allowed : (found : Option (List Remainder)) (ticks : List Bool) → filling room v tags rs found ticks ≡ cond (allowed (filter isRule (v .lines)) ticks) (settling room v tags rs found ticks) found
@@ -153,16 +134,6 @@ module _ (room : ℕ) (v : SheetValue) (last : Option (List ℤ)) (seen : List T
           ∙ rw (sym f, g)
           (heeded-enough room v tags n r seen (replicate 8 false) (some []) ∙ filled-listed room v tags (rowsOf v n r) (heeded (heeds (v .lines) (rowsClocks (r .marks) n)) 0 seen) (replicate 8 false) (some []))))
 
--- ---- where the precedes lines of a sheet stand
-pub leading : (v : SheetValue) (reach c : ℕ) (precede : List Bool) → c ≤ 16 → reach ≤ c
-    → ((i : ℕ) → reach ≤ i → isPrecedes (getD (v .lines) i blankLine) ≡ false)
-    → ((i : ℕ) → getD precede i false ≡ isPrecedes (getD (v .lines) i blankLine)) → Leading v reach precede
-leading v reach c precede h k none-after flags = (omega arith, λ i. at i (ltb i reach) refl)
-  where
-    at : (i : ℕ) (t : Bool) → ltb i reach ≡ t → isPrecedes (getD (v .lines) i blankLine) ≡ (t && getD precede i false)
-    at i true e = sym (flags i)
-    at i false e = none-after i (ltb-false i reach e)
-
 -- ---- those held, in rows
 pub blank-rows : Roomy (rows (replicate 544 0) (replicate 256 (pos 0)) (replicate 512 0) (replicate 256 false))
 blank-rows = record { marks = length-replicate {A = ℕ} 544 0; dues = length-replicate 256 (pos 0); leads = length-replicate {A = ℕ} 512 0; stopped = length-replicate 256 false }
@@ -172,9 +143,6 @@ in-room Exhausted room marks h s = s
 in-room (Live n) room marks h s = (le-trans (s .0) h, s .1)
 
 module _ (h : Held) (n : ℕ) (e : h .count ≡ Live n) where
-  pub each-small : T (sized h) → T (all (λ (r : arrays.Remainder). leb (r .owed) 8) (take n (h .remainders)))
-  each-small t = and-r (leb n 32) _ (subst (λ (c : Count). T (sizedIn c (h .remainders))) e t)
-
   module _ (v : SheetValue) {rs : List Remainder} (f : rs ≡ map (viewOf v) (take n (h .remainders))) where
     held-as : heldOf v h ≡ some rs
     held-as = held-live h n e v ∙ ap some (sym f)

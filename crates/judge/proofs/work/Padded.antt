@@ -28,7 +28,8 @@ use Rattle.judge.specs.Owed.{owing, left}
 use Rattle.judge.specs.Work.{carried, fillFrom}
 use Rattle.judge.proofs.Questions.{lines-ok}
 use Rattle.judge.proofs.lines.Carried.{leads-after, all-as-many, all-stopped}
-use Rattle.judge.proofs.work.PaddedLaws.{Alike, filled-reads, below-ext, table-reads, fills, foldl-map, all-begun-later, same-lines, same-leads, same-begun, same-stops, same-left, same-late}
+use Rattle.judge.proofs.Below.{below-ext}
+use Rattle.judge.proofs.work.PaddedLaws.{Alike, filled-reads, table-reads, fills, foldl-map, all-begun-later, same-lines, same-leads, same-begun, same-stops, same-left, same-late}
 
 abbrev pub padded : Filled → Filled
 padded f = filledOf (filled 8 false (f .ticks)) (filled 8 (pos 0) (f .tags))

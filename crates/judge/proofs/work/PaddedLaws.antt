@@ -16,7 +16,7 @@ use Rattle.records.specs.declared.line.Line.{Line}
 use Rattle.records.specs.declared.line.Line.the-variants.{Sporadic, Relation, Implies, Excludes, Delayed, Weakly, Strictly, Kills}
 use Rattle.records.specs.Lists.{filled}
 use Rattle.records.proofs.Lists.{filled-set}
-use Rattle.tesl.specs.Lists.{all, any, filter, flatMap, below, table}
+use Rattle.tesl.specs.Lists.{all, any, filter, flatMap, table}
 use Rattle.tesl.specs.Run.{Filled, ticksAt, tagAt}
 use Rattle.tesl.specs.Fits.{Obligation, owedFrom, notLate}
 use Rattle.tesl.specs.Remainder.{stops}
@@ -49,10 +49,6 @@ module _ {A : Type 0} (d : A) where
   pub table-reads : (xs : List A) → table (length xs) (λ k. getD xs k d) ≡ xs
   table-reads [] = refl
   table-reads (x ∷ xs) = ap (λ (l : List A). x ∷ l) (table-reads xs)
-
-pub below-ext : (c : ℕ) (p q : ℕ → Bool) → ((k : ℕ) → k < c → p k ≡ q k) → below c p ≡ below c q
-below-ext zero p q h = refl
-below-ext (suc c) p q h = ap₂ _&&_ (below-ext c p q (λ k l. h k (omega arith))) (h c (omega arith))
 
 -- ---- the clocks left, filled in the eight places
 

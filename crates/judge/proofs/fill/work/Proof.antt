@@ -3,8 +3,9 @@ use mathlib.Core.Bool.{false}
 use lib.ListN.{length-replicate}
 use Rattle.records.specs.Sheet.{sheetValue}
 use Rattle.judge.specs.View.{seenOf, tagsBefore}
-use Rattle.judge.proofs.held.Laws.{at-most}
-use Rattle.judge.proofs.work.Listed.{work-exhausted, leading, blank-rows, in-room, each-small, small-as, work-live}
+use Rattle.judge.proofs.held.Laws.{room-for}
+use Rattle.judge.proofs.rules.Laws.{leading}
+use Rattle.judge.proofs.work.Listed.{work-exhausted, blank-rows, in-room, small-as, work-live}
 use borrow.Author.Needs.{needs}
 use Rattle.judge.proofs.fill.work.Statement.{statement}
 use Rattle.judge.proofs.fill.work.Tie as tie
@@ -32,7 +33,8 @@ to-rows-requires c κs =
     let e = c .before .before .before .before .before .before .before .before in
     let k = c .before .before .before .before .before .before .count .given in
     let t = e .pre .1 .1 .1 .1 .0 in
-    (at-most (e .args .h) (k .0 .0) (k .1) t, (each-small (e .args .h) (k .0 .0) (k .1) t, blank-rows))
+    let h = room-for (e .args .h .count) (e .args .h .remainders) (k .1) t in
+    (h .0, (h .1, blank-rows))
 
 rules-of-requires : tie.Need-rules-of-requires
 rules-of-requires c κs = search needs
@@ -81,7 +83,7 @@ work-rows-requires c κs =
     let q = c .before .before .before .before .before .before .before .before .before .before .reach-of in
     let g = c .before .before .before .before .before .before .before .before .before .leading-of in
     let v = sheetValue (a .s) in
-    (p .0, (p .1 .0, (p .1 .1 .0, (at-most (a .h) (k .0 .0) (k .1) (p .1 .1 .1 .1 .0), (r .0, (r .1, (q .ensures .0, (leading v (q .result) (a .s .count) (g .result) (p .1 .0) (q .ensures .0) (q .ensures .1) (g .ensures), (t .0, (t .1 .0, (small-as (a .h) (k .0 .0) (k .1) v (t .1 .1 v) (p .1 .1 .1 .0), (blank-rows, (length-replicate 2048 false, p .1 .1 .1 .1 .1)))))))))))))
+    (p .0, (p .1 .0, (p .1 .1 .0, (room-for (a .h .count) (a .h .remainders) (k .1) (p .1 .1 .1 .1 .0) .0, (r .0, (r .1, (q .ensures .0, (leading (a .s) (q .result) (g .result) (p .1 .0) (q .ensures) (g .ensures), (t .0, (t .1 .0, (small-as (a .h) (k .0 .0) (k .1) v (t .1 .1 v) (p .1 .1 .1 .0), (blank-rows, (length-replicate 2048 false, p .1 .1 .1 .1 .1)))))))))))))
 
 slice-aggregate-from-rows : tie.Need-slice-aggregate-from-rows
 slice-aggregate-from-rows c = search needs

@@ -1,5 +1,6 @@
 -- `keep_held` meets its contract: nothing is stored once exhausted. Assumes nothing.
-use Rattle.judge.proofs.kept.Laws.{room-for, stores-none, stores-live}
+use Rattle.judge.proofs.held.Laws.{room-for}
+use Rattle.judge.proofs.kept.Laws.{stores-none, stores-live}
 use borrow.Author.Needs.{needs}
 use Rattle.judge.proofs.kept.keep_held.Statement.{statement}
 use Rattle.judge.proofs.kept.keep_held.Tie as tie

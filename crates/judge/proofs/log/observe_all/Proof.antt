@@ -3,10 +3,10 @@ use mathlib.Core.Bool.{false}
 use mathlib.Core.Path.{refl, sym}
 use lib.ListN.{length-replicate}
 use Rattle.judge.specs.declared.answer.Reply.the-variants.{Refused}
-use Rattle.judge.specs.Monitor.{sheetBy}
 use Rattle.judge.proofs.kept.Laws.{within-stored, follows-stored, inside, few-lines, has-room}
 use Rattle.judge.proofs.log.Turns.{concludes-outside}
-use Rattle.judge.proofs.work.Listed.{leading, blank-rows}
+use Rattle.judge.proofs.rules.Laws.{leading}
+use Rattle.judge.proofs.work.Listed.{blank-rows}
 use borrow.Author.Needs.{needs}
 use Rattle.judge.proofs.log.observe_all.Statement.{statement}
 use Rattle.judge.proofs.log.observe_all.Tie as tie
@@ -76,7 +76,7 @@ observe-records-requires c κs =
     let q = c .before .before .before .before .before .before .before .before .before .before .before .before .before .before .before .before .before .before .before .before .before .before .reach-of in
     let g = c .before .before .before .before .before .before .before .before .before .before .before .before .before .before .before .before .before .before .before .before .before .leading-of in
     let k = c .before .before .before .before .before .before .before .before .before .before .before .before .before .before .keep-held .ensures in
-    (record { value = l .value refl; few = r .0; lines = r .1; far = q .ensures .0; leading = leading (sheetBy m) (q .result) (m .sheet .count) (g .result) (few-lines m l) (q .ensures .0) (q .ensures .1) (g .ensures) }, (within-stored m _ (k .1 .0) (k .1 .1) (sym (l .answer)), (k .0, (blank-rows, length-replicate 2048 false))))
+    (record { value = l .value refl; few = r .0; lines = r .1; far = q .ensures .0; leading = leading (m .sheet) (q .result) (g .result) (few-lines m l) (q .ensures) (g .ensures) }, (within-stored m _ (k .1 .0) (k .1 .1) (sym (l .answer)), (k .0, (blank-rows, length-replicate 2048 false))))
 
 returns-2 : tie.Need-returns-2
 returns-2 c =

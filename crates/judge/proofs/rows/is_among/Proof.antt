@@ -14,7 +14,8 @@ use Rattle.judge.specs.declared.remainder.Remainder.{Remainder}
 use Rattle.judge.specs.View.{viewOf}
 use Rattle.judge.specs.Work.{sameCounted}
 use Rattle.judge.specs.Rows.{Rows, rows, rowCount, rowsOf, Leading}
-use Rattle.judge.proofs.rows.Among.{below-next, below-miss, owesAt, owes-here, sameRow, noneSame, other-count, other-stops, other-leads, other-owed, equal, among}
+use Rattle.judge.proofs.Below.{below-next, below-miss}
+use Rattle.judge.proofs.rows.Among.{owesAt, owes-here, sameRow, noneSame, other-count, other-stops, other-leads, other-owed, equal, among}
 use Rattle.judge.proofs.rows.is_among.Statement.{statement}
 use Rattle.judge.proofs.rows.is_among.Tie as tie
 
@@ -62,7 +63,7 @@ unequal at q = (omega arith, below-next (λ k. not (same (start at) k)) (at .bef
 -- x is among the rows: not none of them is x
 found : (c : tie.Start Inv-loop μ-loop Inv-held μ-held) (v : SheetValue) → v .clocks ≡ c .args .clocks → length (v .lines) ≤ 16 → Leading v (c .args .reach) (c .args .precede)
     → any (sameCounted (viewOf v (c .args .x))) (rowsOf v (c .args .n) (lent c)) ≡ not (below (c .args .n) (λ k. not (same c k)))
-found c v k l h = among _ _ _ _ _ (omega arith) (omega arith) (eight c) (eight-stopped c) v k l h (c .args .n)
+found c v k l h = among _ _ _ _ _ (omega arith) (omega arith) (eight c) (eight-stopped c) v k h (c .args .n)
 
 -- x owes the obligation of this turn
 owed-here : (c : tie.After-owes Inv-loop μ-loop Inv-held μ-held)

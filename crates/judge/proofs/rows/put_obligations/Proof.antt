@@ -11,7 +11,8 @@ use Rattle.records.specs.Lists.{listedFrom, listed}
 use Rattle.judge.specs.View.{firstOf}
 use Rattle.judge.specs.Rows.{rowCount, rowObligation}
 use Rattle.judge.proofs.remainder.Laws.{blank}
-use Rattle.judge.proofs.rows.Stored.{Kept, kept-set, kept-from, length-marked, count-marked, kept-marked, owed-more, count-kept, owed-kept}
+use Rattle.judge.proofs.Listing.{Kept, kept-set, kept-from}
+use Rattle.judge.proofs.rows.Stored.{length-marked, count-marked, kept-marked, owed-more, count-kept, owed-kept}
 use borrow.Author.Needs.{needs}
 use Rattle.judge.proofs.rows.put_obligations.Statement.{statement}
 use Rattle.judge.proofs.rows.put_obligations.Tie as tie

@@ -3,7 +3,7 @@ use mathlib.Core.Bool.{false}
 use mathlib.Core.Path.{_∙_}
 use Prim.Native.Nat.{_*_, _-_, _≤_}
 use native.Mathlib.Omega.{arith}
-use Rattle.judge.proofs.rows.Stored.{Copied, copied-start, copied-more, copied-all, places-kept}
+use Rattle.judge.proofs.Listing.{Copied, copied-start, copied-more, copied-all, places-kept}
 use borrow.Author.Needs.{needs}
 use Rattle.judge.proofs.rows.put_stopped.Statement.{statement}
 use Rattle.judge.proofs.rows.put_stopped.Tie as tie

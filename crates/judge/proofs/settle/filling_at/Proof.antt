@@ -1,21 +1,21 @@
 -- `filling_at` meets its contract. The invariant: the first k flags of filling f are read. Assumes nothing.
-use mathlib.Core.Path.{_≡_, refl, sym}
-use Prim.Native.Nat.{_≤_, _-_}
+use mathlib.Core.Bool.{Bool, false}
+use Prim.Native.Nat.{_+_, _*_, _-_, _≤_}
 use native.Mathlib.Omega.{arith}
-use lib.ListN.{length, length-set}
+use lib.ListN.{getD}
 use borrow.Author.Needs.{needs}
-use Rattle.judge.proofs.fill.Listed.{Same, read-more, filling-is}
+use Rattle.judge.proofs.rows.Laws.{FilledTo, fill-start, fill-more, fill-whole}
 use Rattle.judge.proofs.settle.filling_at.Statement.{statement}
 use Rattle.judge.proofs.settle.filling_at.Tie as tie
 
 abbrev Inv-loop : tie.InvT-loop
-Inv-loop list f ticks₀ k₀ ticks k = (k ≤ 8) × (length ticks ≡ 8) × Same f ticks list k
+Inv-loop list f ticks₀ k₀ ticks k = (k ≤ 8) × FilledTo (λ (x : Bool). x) (λ j. getD list (8 * f + j) false) 8 ticks k
 
 abbrev μ-loop : tie.MeasureT-loop
 μ-loop list f ticks₀ k₀ ticks k = 8 - k
 
 loop-holds : tie.Need-loop-holds Inv-loop μ-loop
-loop-holds c = (omega arith, refl, λ j h. absurd (omega arith))
+loop-holds c = (omega arith, fill-start (λ (x : Bool). x) (λ j. getD (c .args .list .now) (8 * c .args .f + j) false) 8 false)
 
 mul-ticks-here : tie.Need-mul-ticks-here Inv-loop μ-loop
 mul-ticks-here c = search needs
@@ -36,16 +36,10 @@ loop-less : tie.Need-loop-less Inv-loop μ-loop
 loop-less c = search needs
 
 loop-again : tie.Need-loop-again Inv-loop μ-loop
-loop-again c =
-    let a = c .before .before .before .args in
-    let l = c .before .before .loop in
-    (omega arith, rw length-set (l .inv .1), read-more (a .f) (l .ticks) (a .list .now) (l .k) (l .inv .2) (omega arith))
+loop-again c = search (needs, fill-more) depth 8
 
 returns : tie.Need-returns Inv-loop μ-loop
-returns c =
-    let a = c .before .before .args in
-    let l = c .before .loop in
-    sym (filling-is (a .f) (l .ticks) (a .list .now) (l .inv .1) (λ j h. l .inv .2 j (omega arith)))
+returns c = search (needs, fill-whole) depth 8
 
 pub filling-at-spec : {M : Type 1} → statement M
 filling-at-spec =

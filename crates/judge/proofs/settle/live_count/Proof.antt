@@ -4,7 +4,7 @@ use native.Mathlib.Omega.{arith}
 use lib.ListN.{length, length-map}
 use borrow.Author.Needs.{needs}
 use Rattle.judge.specs.View.{live}
-use Rattle.judge.proofs.held.Laws.{held-none, held-live, at-most}
+use Rattle.judge.proofs.held.Laws.{held-none, held-live, room-for}
 use Rattle.judge.proofs.settle.live_count.Statement.{statement}
 use Rattle.judge.proofs.settle.live_count.Tie as tie
 
@@ -26,7 +26,7 @@ returns-2 : tie.Need-returns-2
 returns-2 c =
     let n = c .before in
     let s = n .before .before in
-    (at-most (s .args .h) (n .count .given .0 .0) (n .count .given .1) (s .pre), (places s, λ v. sym (ap live (held-live (s .args .h) (n .count .given .0 .0) (n .count .given .1) v))))
+    (room-for (s .args .h .count) (s .args .h .remainders) (n .count .given .1) (s .pre) .0, (places s, λ v. sym (ap live (held-live (s .args .h) (n .count .given .0 .0) (n .count .given .1) v))))
 
 pub live-count-spec : {M : Type 1} → statement M
 live-count-spec = tie.close (tie.spec enum-told enum-known-count returns returns-2)

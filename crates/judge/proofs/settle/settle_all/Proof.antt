@@ -8,7 +8,8 @@ use Rattle.records.specs.Sheet.{SheetValue, sheetValue}
 use Rattle.tesl.specs.Remainder.{Remainder}
 use Rattle.judge.specs.Fillings.{fillingsIn, takenBy, settling}
 use Rattle.judge.specs.Rows.{Rows, rows, Roomy, rowsOf, foundIn, Small}
-use Rattle.judge.proofs.settle.Rows.{takenFrom, taken-start, taken-end, taken-turn, taken-more, taken-over, live-room, live-small}
+use Rattle.judge.proofs.settle.Rows.{takenFrom, taken-start, taken-end, taken-turn, taken-more, taken-over}
+use Rattle.judge.proofs.rows.Stored.{small-live}
 use borrow.Author.Needs.{needs}
 use Rattle.judge.proofs.settle.settle_all.Statement.{statement}
 use Rattle.judge.proofs.settle.settle_all.Tie as tie
@@ -116,7 +117,8 @@ loop-again c =
     let s = c .before .before .before .before .before .before .before .before .before .before in
     let e = start (turn s) in
     let more = c .before .more .given in
-    (omega (arith, s .before .before .before .before .before .before .loop-test .taken), live-room (more .1) (e .args .room) (after s .marks) (s .settle .ensures .1 .1), has s, live-small (more .1) (e .args .room) (after s .marks) (s .settle .ensures .1 .1), taken-more (e .args .room) (sheet e) (e .args .tags) (given e) (e .args .list .now) (e .args .m) _ (s .settle .result) (after s) (turned s) (more .0 .0) (more .1))
+    let small = small-live (s .settle .result) (more .0 .0) (e .args .room) (after s .marks) (more .1) (s .settle .ensures .1 .1) in
+    (omega (arith, s .before .before .before .before .before .before .loop-test .taken), small .0, has s, small .1, taken-more (e .args .room) (sheet e) (e .args .tags) (given e) (e .args .list .now) (e .args .m) _ (s .settle .result) (after s) (turned s) (more .0 .0) (more .1))
 
 same-length-5 : tie.Need-same-length-5 Inv-loop μ-loop
 same-length-5 c = c .before .loop .inv .2 .marks ∙ sym (had (start (c .before)) .marks)
