@@ -22,13 +22,13 @@ fillingsFrom k (Idle ∷ left) ticks = fillingsFrom (k + 1) left ticks
 fillingsFrom k (Ticks ∷ left) ticks = fillingsFrom (k + 1) left (set ticks k true)
 fillingsFrom k (Unseen ∷ left) ticks = fillingsFrom (k + 1) left ticks ++ fillingsFrom (k + 1) left (set ticks k true)
 
--- filling f of a list of flags, eight to a filling
-abbrev pub fillingIn : List Bool → ℕ → List Bool
-fillingIn list f = listed (λ k. getD list (8 * f + k) false) 8
+-- eight flags of a list, those of place i
+abbrev pub flagsIn : List Bool → ℕ → List Bool
+flagsIn flags i = listed (λ k. getD flags (8 * i + k) false) 8
 
--- the first n of them
+-- the first n fillings that a list of flags has, eight to a filling
 abbrev pub fillingsIn : List Bool → ℕ → List (List Bool)
-fillingsIn list n = listed (fillingIn list) n
+fillingsIn list n = listed (flagsIn list) n
 
 -- g takes each
 abbrev pub takenBy : {R : Type 0} → (R → List Bool → R) → List (List Bool) → R → R

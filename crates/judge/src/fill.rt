@@ -7,6 +7,7 @@ use crate::held::leading_of;
 use crate::held::reach_of;
 use crate::lines::all_tags_hold;
 use crate::lines::none_falls;
+use crate::rows::put_flags;
 use crate::rules::Rules;
 use crate::rules::all_hold;
 use crate::rules::is_cut;
@@ -61,12 +62,7 @@ fn put_filling(list: &mut [bool], n: usize, ticks: [bool; 8])
     requires { ⌜ (length (now list) ≡ 2048) × (n < 256) ⌝ }
     ensures { λ _. ⌜ (length (now (list .exit)) ≡ 2048) × (fillingsIn (now (list .exit)) (n + 1) ≡ fillingsIn (now (list .entry)) n ++ (ticks ∷ [])) ⌝ }
 {
-    let mut k = 0;
-    while k < 8 {
-        let ticks_here = ticks[k];
-        list[8 * n + k] = ticks_here;
-        k += 1;
-    }
+    put_flags(list, n, ticks);
 }
 
 // Lists the fillings of the clocks from k on that the rules allow, after the first n: settles clock k, then those from k + 1; an unseen tick branches into idle and tick.

@@ -18,6 +18,7 @@ ghost use Rattle.judge.specs.View.{obligationOf, filledOf, firstOf, owed
 ghost use Rattle.judge.specs.Carried.{overlap, either};
 ghost use Rattle.judge.specs.Owed.{kept};
 ghost use Rattle.judge.specs.Work.{sameCounted};
+ghost use Rattle.judge.specs.Fillings.{flagsIn};
 ghost use Rattle.judge.specs.Rows.{rows, Roomy, rowCount, rowObligation, rowOwed, rowLead, rowLeads, rowStop, rowStopped, rowOf, rowsOf, Small, Leading};
 
 // How many obligations row i has.
@@ -115,15 +116,16 @@ fn leads_at(leads: &[u16], i: usize) -> [u16; 16]
     all
 }
 
-fn stopped_at(stopped: &[bool], i: usize) -> [bool; 8]
-    requires { ⌜ (length (now stopped) ≡ 256) × (i < 32) ⌝ }
-    ensures { λ r. ⌜ r ≡ rowStopped (now (stopped .entry)) i ⌝ }
+// The eight flags of row i.
+pub(crate) fn flags_at(flags: &[bool], i: usize) -> [bool; 8]
+    requires { ⌜ 8 * i + 8 ≤ length (now flags) ⌝ }
+    ensures { λ r. ⌜ r ≡ flagsIn (now (flags .entry)) i ⌝ }
 {
     let mut all = [false; 8];
     let mut k = 0;
     while k < 8 {
-        let is_stopped = stopped[8 * i + k];
-        all[k] = is_stopped;
+        let flag = flags[8 * i + k];
+        all[k] = flag;
         k += 1;
     }
     all
@@ -143,7 +145,7 @@ pub(crate) fn row_at(
     let owed = row_count(marks, i);
     let obligations = obligations_at(marks, dues, i, owed);
     let leads_here = leads_at(leads, i);
-    let stopped_here = stopped_at(stopped, i);
+    let stopped_here = flags_at(stopped, i);
     Remainder {
         owed,
         obligations,
@@ -184,14 +186,15 @@ fn put_leads(leads: &mut [u16], i: usize, x: [u16; 16])
     }
 }
 
-fn put_stopped(stopped: &mut [bool], i: usize, x: [bool; 8])
-    requires { ⌜ (length (now stopped) ≡ 256) × (i < 32) ⌝ }
-    ensures { λ _. ⌜ (length (now (stopped .exit)) ≡ 256) × ((rowStopped (now (stopped .exit)) i ≡ x) × ((h : ℕ) → h < i → rowStopped (now (stopped .exit)) h ≡ rowStopped (now (stopped .entry)) h)) ⌝ }
+// Stores eight flags in row i; the rows before stay.
+pub(crate) fn put_flags(flags: &mut [bool], i: usize, x: [bool; 8])
+    requires { ⌜ 8 * i + 8 ≤ length (now flags) ⌝ }
+    ensures { λ _. ⌜ (length (now (flags .exit)) ≡ length (now (flags .entry))) × ((flagsIn (now (flags .exit)) i ≡ x) × ((h : ℕ) → h < i → flagsIn (now (flags .exit)) h ≡ flagsIn (now (flags .entry)) h)) ⌝ }
 {
     let mut k = 0;
     while k < 8 {
-        let is_stopped = x[k];
-        stopped[8 * i + k] = is_stopped;
+        let flag = x[k];
+        flags[8 * i + k] = flag;
         k += 1;
     }
 }
@@ -212,7 +215,7 @@ pub(crate) fn put_row(
     let leads_here = r.leads;
     put_leads(leads, i, leads_here);
     let stopped_here = r.stopped;
-    put_stopped(stopped, i, stopped_here);
+    put_flags(stopped, i, stopped_here);
 }
 
 // Only the leads of precedes lines are in use.

@@ -5,6 +5,7 @@ use crate::held::clocks_of;
 use crate::leads::all_leads;
 use crate::owed::add_all;
 use crate::remainder::Remainder;
+use crate::rows::flags_at;
 use crate::rows::is_among;
 use crate::rows::is_barred;
 use crate::rows::keep_row;
@@ -31,7 +32,7 @@ ghost use Rattle.judge.specs.declared.remainder.Remainder as arrays;
 ghost use Rattle.judge.specs.View.{viewOf, heldIn, liveOf, sized, sizedIn};
 ghost use Rattle.judge.specs.Lines.{smallLeads};
 ghost use Rattle.judge.specs.Rules.{isRule, rulesIn};
-ghost use Rattle.judge.specs.Fillings.{fillingIn, fillingsIn, takenBy, settling};
+ghost use Rattle.judge.specs.Fillings.{fillingsIn, takenBy, settling};
 ghost use Rattle.judge.specs.Rows.{rows, Roomy, rowsOf, foundIn, Small, SmallIn, Leading};
 
 // How many are held.
@@ -130,21 +131,6 @@ fn settle(
     Count::Live(live)
 }
 
-// Filling f of a list of fillings.
-fn filling_at(list: &[bool], f: usize) -> [bool; 8]
-    requires { ⌜ (length (now list) ≡ 2048) × (f < 256) ⌝ }
-    ensures { λ r. ⌜ r ≡ fillingIn (now (list .entry)) f ⌝ }
-{
-    let mut ticks = [false; 8];
-    let mut k = 0;
-    while k < 8 {
-        let ticks_here = list[8 * f + k];
-        ticks[k] = ticks_here;
-        k += 1;
-    }
-    ticks
-}
-
 // What n rows become by m listed fillings.
 pub(crate) fn settle_all(
     room: usize,
@@ -171,7 +157,7 @@ pub(crate) fn settle_all(
     let mut live = 0;
     let mut f = 0;
     while f < m {
-        let ticks = filling_at(list, f);
+        let ticks = flags_at(list, f);
         f += 1;
         match settle(
             room,

@@ -12,13 +12,13 @@ use Rattle.records.specs.Instant.{tickAt, tickSlot}
 use Rattle.tesl.specs.Lists.{filter}
 use Rattle.theory.proofs.Lists.{filter-append}
 use Rattle.judge.specs.View.{seenOf}
-use Rattle.judge.specs.Fillings.{fillingsFrom, fillingIn, fillingsIn}
+use Rattle.judge.specs.Fillings.{fillingsFrom, flagsIn, fillingsIn}
 use Rattle.judge.proofs.Places.{rest-end, rest-cons}
-use Rattle.judge.proofs.Listing.{listed-next, Kept, places-kept}
+use Rattle.judge.proofs.Listing.{listed-next}
 
 -- one more filling stored, and those before it as before
-pub filling-more : (n : ℕ) (was list ticks : List Bool) → Kept false (8 * n) was list → fillingIn list n ≡ ticks → fillingsIn list (n + 1) ≡ fillingsIn was n ++ (ticks ∷ [])
-filling-more n was list ticks k e = listed-next n (λ f l. places-kept false (8 * n) (8 * f) 8 was list (omega arith) k) e refl
+pub filling-more : (n : ℕ) (was list ticks : List Bool) → ((f : ℕ) → f < n → flagsIn list f ≡ flagsIn was f) → flagsIn list n ≡ ticks → fillingsIn list (n + 1) ≡ fillingsIn was n ++ (ticks ∷ [])
+filling-more n was list ticks k e = listed-next n k e refl
 
 -- ---- the clocks from k on
 

@@ -24,7 +24,7 @@ use Rattle.judge.specs.View.{filledOf, cut}
 use Rattle.judge.specs.Lines.{smallLeads}
 use Rattle.judge.specs.Once.{onceEach}
 use Rattle.judge.specs.Work.{sameCounted, inserted, took, advanced, settledAll}
-use Rattle.judge.specs.Fillings.{fillingIn, fillingsIn, takenBy, settling}
+use Rattle.judge.specs.Fillings.{flagsIn, fillingsIn, takenBy, settling}
 use Rattle.judge.specs.Rows.{Rows, rowOf, rowsOf, foundIn}
 use Rattle.judge.proofs.Listing.{one-of}
 use Rattle.judge.proofs.work.Heed.{took-none}
@@ -88,7 +88,7 @@ module _ (room : ℕ) (v : SheetValue) (f : Filled) (begun : List Obligation) (R
 -- ---- a turn of the loop over the fillings
 module _ (room : ℕ) (v : SheetValue) (tags : List ℤ) (rs : List Remainder) (list : List Bool) (m : ℕ) where
   abbrev pub takenFrom : ℕ → Option (List Remainder) → Option (List Remainder)
-  takenFrom f = takenBy (settling room v tags rs) (listedFrom (fillingIn list) f (m - f))
+  takenFrom f = takenBy (settling room v tags rs) (listedFrom (flagsIn list) f (m - f))
 
   pub taken-start : (O : Rows) → takenBy (settling room v tags rs) (fillingsIn list m) (some []) ≡ takenFrom 0 (some (rowsOf v 0 O))
   unfolding listedFrom
@@ -100,15 +100,15 @@ module _ (room : ℕ) (v : SheetValue) (tags : List ℤ) (rs : List Remainder) (
 
   module _ (f : ℕ) (found : Option (List Remainder)) {whole : Option (List Remainder)} (w : whole ≡ takenFrom f found) where
     pub taken-end : m ≤ f → found ≡ whole
-    taken-end h = sym (w ∙ rw (listed-end (fillingIn list) m f h))
+    taken-end h = sym (w ∙ rw (listed-end (flagsIn list) m f h))
 
-    pub taken-turn : f < m → (ticks : List Bool) → ticks ≡ fillingIn list f → (next : Option (List Remainder)) → next ≡ settling room v tags rs found ticks → whole ≡ takenFrom (f + 1) next
-    taken-turn h ticks e next g = w ∙ rw (listed-cons (fillingIn list) m f h, sym e) (ap (takenFrom (f + 1)) (sym g))
+    pub taken-turn : f < m → (ticks : List Bool) → ticks ≡ flagsIn list f → (next : Option (List Remainder)) → next ≡ settling room v tags rs found ticks → whole ≡ takenFrom (f + 1) next
+    taken-turn h ticks e next g = w ∙ rw (listed-cons (flagsIn list) m f h, sym e) (ap (takenFrom (f + 1)) (sym g))
 
   -- what the filling made of those found
   module _ (f : ℕ) (count : Count) (O : Rows) {whole : Option (List Remainder)} (w : whole ≡ takenFrom f (foundIn v count O)) where
     pub taken-over : count ≡ Exhausted → none ≡ whole
-    taken-over q = sym (w ∙ rw q (taken-none (listedFrom (fillingIn list) f (m - f))))
+    taken-over q = sym (w ∙ rw q (taken-none (listedFrom (flagsIn list) f (m - f))))
 
     pub taken-more : (n : ℕ) → count ≡ Live n → whole ≡ takenFrom f (some (rowsOf v n O))
     taken-more n q = w ∙ rw q

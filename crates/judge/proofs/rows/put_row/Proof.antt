@@ -1,4 +1,5 @@
 -- `put_row` meets its contract. Assumes nothing.
+use mathlib.Core.Path.{_∙_}
 use Rattle.judge.proofs.rows.Stored.{put-small, put-rows}
 use borrow.Author.Needs.{needs}
 use Rattle.judge.proofs.rows.put_row.Statement.{statement}
@@ -10,8 +11,8 @@ put-obligations-requires c κs = search needs
 put-leads-requires : tie.Need-put-leads-requires
 put-leads-requires c κs = search needs
 
-put-stopped-requires : tie.Need-put-stopped-requires
-put-stopped-requires c κs = search needs
+put-flags-requires : tie.Need-put-flags-requires
+put-flags-requires c κs = search needs
 
 same-length : tie.Need-same-length
 same-length c = search needs
@@ -29,11 +30,11 @@ returns : tie.Need-returns
 returns c =
     let o = c .before .before .before .before .before .before .before .before .before .before .before .before .before .put-obligations in
     let l = c .before .before .before .before .before .before .before .put-leads in
-    let t = c .before .before .put-stopped in
+    let t = c .before .before .put-flags in
     let s = c .before .before .before .before .before .before .before .before .before .before .before .before .before .before .before .before .before .before .before in
     let e = o .ensures in
     let a = s .args in (
-      record { marks = e .0; dues = e .1 .0; leads = l .ensures .0; stopped = t .ensures .0 },
+      record { marks = e .0; dues = e .1 .0; leads = l .ensures .0; stopped = t .ensures .0 ∙ s .pre .0 .stopped },
       (
         put-small (a .marks .now) (o .last .0) (a .dues .now) (o .last .1 .0) (a .i) (a .r) (s .pre .1 .1 .1) (e .1 .1 .0) (e .1 .1 .1 .1) (s .pre .1 .1 .0),
         put-rows (a .marks .now) (o .last .0) (a .dues .now) (o .last .1 .0) (a .i) (a .r) (s .pre .1 .1 .1) (e .1 .1 .0) (e .1 .1 .1 .1) (a .leads .now) (l .last .0) (a .stopped .now) (t .last .0)
@@ -47,7 +48,7 @@ put-row-spec =
     (tie.spec
     put-obligations-requires
     put-leads-requires
-    put-stopped-requires
+    put-flags-requires
     same-length
     same-length-2
     same-length-3

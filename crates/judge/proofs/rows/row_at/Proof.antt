@@ -12,8 +12,8 @@ obligations-at-requires c κs = search needs
 leads-at-requires : tie.Need-leads-at-requires
 leads-at-requires c κs = search needs
 
-stopped-at-requires : tie.Need-stopped-at-requires
-stopped-at-requires c κs = search needs
+flags-at-requires : tie.Need-flags-at-requires
+flags-at-requires c κs = search needs
 
 returns : tie.Need-returns
 returns c =
@@ -28,5 +28,5 @@ row-at-spec =
     row-count-requires
     obligations-at-requires
     leads-at-requires
-    stopped-at-requires
+    flags-at-requires
     returns)

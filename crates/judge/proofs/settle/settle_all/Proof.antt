@@ -63,8 +63,8 @@ loop-holds c =
     let e = c .before .before .before .before .before .before .before in
     (omega arith, omega arith, had e, λ i h. absurd (omega arith), taken-start (e .args .room) (sheet e) (e .args .tags) (given e) (e .args .list .now) (e .args .m) (arrays e))
 
-filling-at-requires : tie.Need-filling-at-requires Inv-loop μ-loop
-filling-at-requires c κs = search needs
+flags-at-requires : tie.Need-flags-at-requires Inv-loop μ-loop
+flags-at-requires c κs = search needs
 
 add-f : tie.Need-add-f Inv-loop μ-loop
 add-f c = search needs
@@ -83,7 +83,7 @@ turned c =
     let at = turn c in
     let e = start at in
     let t = c .before .before .before .before .before in
-    taken-turn (e .args .room) (sheet e) (e .args .tags) (given e) (e .args .list .now) (e .args .m) (at .loop .f) (found at) {whole = wanted e} (at .loop .inv .4) (t .before .loop-test .taken) (t .filling-at .result) (t .filling-at .ensures) (foundIn (sheet e) (c .settle .result) (after c)) (c .settle .ensures .0)
+    taken-turn (e .args .room) (sheet e) (e .args .tags) (given e) (e .args .list .now) (e .args .m) (at .loop .f) (found at) {whole = wanted e} (at .loop .inv .4) (t .before .loop-test .taken) (t .flags-at .result) (t .flags-at .ensures) (foundIn (sheet e) (c .settle .result) (after c)) (c .settle .ensures .0)
 
 enum-told : tie.Need-enum-told Inv-loop μ-loop
 enum-told c = search needs
@@ -145,7 +145,7 @@ settle-all-spec =
     Inv-loop
     μ-loop
     loop-holds
-    filling-at-requires
+    flags-at-requires
     add-f
     settle-requires
     enum-told
