@@ -3,24 +3,23 @@ use mathlib.Core.Bool.{Bool}
 use mathlib.Core.List.{List, [], _∷_, _++_}
 use mathlib.Core.Path.{_≡_, refl, sym, ap, _∙_, subst}
 use Prim.Native.Nat.{ℕ}
-use lib.Dec.{T}
 use Rattle.records.specs.Outcome.{Outcome, taken, refused}
 use Rattle.records.specs.Sheet.{SheetValue, readSheet}
 use Rattle.records.proofs.Lists.{refused-taken}
 use Rattle.tesl.specs.Lists.{all}
 use Rattle.tesl.specs.Run.{Instant, ticksOf}
-use Rattle.tesl.specs.Answer.{Answer, exhausted, answer}
+use Rattle.tesl.specs.Answer.{Answer, answer}
 use Rattle.tesl.specs.Machine.{accepts, listAfter, reply, machine, held, session}
 use Rattle.theory.specs.Session.{Opening, refuses, opens, Observing, FollowsMachine}
 use Rattle.theory.specs.Session as machine
-use Rattle.theory.specs.Seen.{isSeen, Seen, seenRun}
+use Rattle.theory.specs.Seen.{isSeen, Seen}
 use Rattle.tesl.proofs.Tests.{and-l, and-r, and-i}
 use Rattle.theory.proofs.Machine.{same-session}
 use Rattle.theory.proofs.Seen.{seen-judged}
 use Rattle.judge.specs.declared.monitor.Monitor.{Monitor}
 use Rattle.judge.specs.declared.monitor.Given.{Given}
 use Rattle.judge.specs.Answer.{replyOf}
-use Rattle.judge.specs.Promises.{Follows, Opened, observes, Observed}
+use Rattle.judge.specs.Promises.{Follows, Opened, observes}
 use Rattle.judge.specs.Demands.{openedOf, Opens, Observes, Demand3, JudgedAs, EachJudged, Demand2}
 
 -- ---- opening

@@ -1,4 +1,3 @@
 pub mod Laws
+pub mod Owing
 pub mod Stored
-pub mod Among
-pub mod Effects

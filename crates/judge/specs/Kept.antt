@@ -1,14 +1,11 @@
 -- A monitor kept in rows, as the struct that it stands for: of each array the places in use.
-use mathlib.Core.Bool.{Bool}
 use mathlib.Core.List.{List}
-use mathlib.Core.Path.{_≡_}
-use Prim.Native.Nat.{ℕ, _+_, _≤_}
+use Prim.Native.Nat.{ℕ, _+_}
 use lib.IntN.{ℤ}
 use Rattle.records.specs.declared.sheet.Sheet.{Sheet}
 use Rattle.records.specs.Lists.{listed}
 use Rattle.records.specs.Sheet.{sheetValue}
 use Rattle.records.specs.Types.{IsSheet}
-use Rattle.tesl.specs.Lists.{filter}
 use Rattle.tesl.specs.Fits.{Obligation}
 use Rattle.judge.specs.declared.obligation.Obligation as code
 use Rattle.judge.specs.declared.remainder.Remainder as arrays
@@ -18,11 +15,11 @@ use Rattle.judge.specs.declared.held.Count.{Count}
 use Rattle.judge.specs.declared.held.Count.the-variants.{Exhausted, Live}
 use Rattle.judge.specs.declared.held.Held.{Held}
 use Rattle.judge.specs.declared.kept.Told.{Told}
-use Rattle.judge.specs.declared.rules.Rules.{Rules}
+use Rattle.judge.specs.declared.plan.Plan.{Plan}
 use Rattle.judge.specs.declared.monitor.Monitor.{Monitor}
 use Rattle.judge.specs.declared.monitor.Given.{Given}
-use Rattle.judge.specs.Rules.{isRule, rulesIn}
-use Rattle.judge.specs.Rows.{Rows, rowCount, rowObligation, rowLeads, rowStopped, Leading}
+use Rattle.judge.specs.Plan.{Planned}
+use Rattle.judge.specs.Rows.{Rows, rowCount, rowObligation, rowLeads, rowStopped}
 
 abbrev pub asStruct : Obligation → code.Obligation
 asStruct o = record { clock = o .clock; on = o .on; due = o .due }
@@ -58,10 +55,7 @@ goesOn (reply.Answered a) before after = after
 abbrev pub toldBy : Monitor → Told → Rows → Given
 toldBy m t r = given (t .reply) (goesOn (t .reply) m (rowsMonitor (m .sheet) (m .instants + 1) (t .tags) (t .count) r))
 
--- what is found out about a sheet once: its rules and its precedes lines
-pub record Prepared (s : Sheet) (rules : Rules) (reach : ℕ) (precede : List Bool) : Type 0 where
+-- a sheet as reading takes it, and what is found out about it once
+pub record Prepared (s : Sheet) (p : Plan) (lines : List ℕ) : Type 0 where
   pub value : IsSheet (sheetValue s)
-  pub few : rules .count ≤ 16
-  pub lines : rulesIn rules ≡ filter isRule (sheetValue s .lines)
-  pub far : reach ≤ s .count
-  pub leading : Leading (sheetValue s) reach precede
+  pub plan : Planned s p lines

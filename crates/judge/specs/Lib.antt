@@ -5,12 +5,12 @@ pub mod Questions
 pub mod Lines
 pub mod Carried
 pub mod Owed
-pub mod Once
 pub mod Work
 pub mod Rules
 pub mod Fillings
 pub mod Rows
 pub mod Heed
+pub mod Plan
 pub mod Answer
 pub mod Limits
 pub mod Start

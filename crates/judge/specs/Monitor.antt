@@ -5,8 +5,8 @@ use mathlib.Core.Option.{Option, none, some}
 use mathlib.Core.Path.{_≡_}
 use Prim.Native.Nat.{ℕ, suc, _≤_, _<_}
 use lib.Dec.{T, eqb}
-use lib.IntN.{ℤ, pos}
-use lib.ListN.{take, replicate}
+use lib.IntN.{ℤ}
+use lib.ListN.{take}
 use Rattle.records.specs.declared.sheet.Sheet.{Sheet}
 use Rattle.records.specs.declared.instant.Instant.{Instant}
 use Rattle.records.specs.Outcome.{taken}
@@ -16,7 +16,6 @@ use Rattle.tesl.specs.Fits.{Obligation, owedAtStart}
 use Rattle.tesl.specs.Remainder.{Remainder}
 use Rattle.theory.specs.Step.{wellFormed}
 use Rattle.judge.specs.declared.answer.Reply.the-variants as reply
-use Rattle.judge.specs.declared.held.Held.{Held}
 use Rattle.judge.specs.declared.monitor.Monitor.{Monitor}
 use Rattle.judge.specs.declared.monitor.Given.{Given}
 use Rattle.judge.specs.View.{cut, heldOf, liveOf, seenOf, tagsBefore, sized}

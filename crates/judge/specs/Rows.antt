@@ -1,5 +1,5 @@
 -- Remainders in lent arrays, a row each.
-use mathlib.Core.Bool.{Bool, true, false, _&&_}
+use mathlib.Core.Bool.{Bool, true, false, cond, _&&_}
 use mathlib.Core.List.{List}
 use mathlib.Core.Option.{Option, none, some}
 use mathlib.Core.Path.{_≡_}
@@ -28,12 +28,12 @@ pub record Rows : Type 0 where
 abbrev pub rows : List ℕ → List ℤ → List ℕ → List Bool → Rows
 rows marks dues leads stopped = record { marks = marks; dues = dues; leads = leads; stopped = stopped }
 
--- arrays of 32 rows
+-- arrays of 33 rows: 32, and one to build the next in
 pub record Roomy (r : Rows) : Type 0 where
-  pub marks : length (r .marks) ≡ 544
-  pub dues : length (r .dues) ≡ 256
-  pub leads : length (r .leads) ≡ 512
-  pub stopped : length (r .stopped) ≡ 256
+  pub marks : length (r .marks) ≡ 561
+  pub dues : length (r .dues) ≡ 264
+  pub leads : length (r .leads) ≡ 528
+  pub stopped : length (r .stopped) ≡ 264
 
 -- how many obligations row i has
 abbrev pub rowCount : List ℕ → ℕ → ℕ
@@ -79,6 +79,15 @@ Small n marks = (i : ℕ) → i < n → rowCount marks i ≤ 8
 abbrev pub SmallIn : Count → ℕ → List ℕ → Type 0
 SmallIn Exhausted room marks = Small 0 marks
 SmallIn (Live n) room marks = (n ≤ room) × Small n marks
+
+-- what the rows before row i owe stays
+abbrev pub OwedStays : ℕ → List ℕ → List ℤ → List ℕ → List ℤ → Type 0
+OwedStays i marks dues newmarks newdues =
+    (h : ℕ) → h < i → rowCount marks h ≤ 8 → (rowCount newmarks h ≡ rowCount marks h) × (rowOwed newmarks newdues h ≡ rowOwed marks dues h)
+
+-- x, if there is one
+abbrev pub provided : {A : Type 0} → Bool → A → Option A
+provided there x = cond there (some x) none
 
 -- ---- precedes lines
 abbrev pub isPrecedes : Line → Bool

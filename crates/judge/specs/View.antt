@@ -21,9 +21,7 @@ use Rattle.judge.specs.declared.line.Begun.{Begun}
 use Rattle.judge.specs.declared.line.Begun.the-variants.{Nothing, Owed}
 use Rattle.judge.specs.declared.owed.Owed as apart
 use Rattle.judge.specs.declared.owed.Added.{Added}
-use Rattle.judge.specs.declared.owed.Kept.{Kept}
 use Rattle.judge.specs.declared.remainder.Remainder as arrays
-use Rattle.judge.specs.declared.started.Started.{Started}
 use Rattle.judge.specs.declared.held.Count.{Count}
 use Rattle.judge.specs.declared.held.Count.the-variants.{Exhausted, Live}
 use Rattle.judge.specs.declared.held.Held.{Held}
@@ -60,9 +58,6 @@ owedIn r = firstOf (r .count) (r .obligations)
 abbrev pub addedOf : Added → Option (List Obligation)
 addedOf s = cond (s .over) none (some (owedIn (s .owed)))
 
-abbrev pub keptOf : Kept → Option (List Obligation)
-keptOf s = cond (s .late) none (some (owedIn (s .owed)))
-
 -- ---- the places in use
 
 -- a lead in use: a precedes line's; any other line has none, and reads 0
@@ -85,10 +80,6 @@ abbrev pub viewOf : SheetValue → arrays.Remainder → Remainder
 viewOf v r = cut v (remainderOf r)
 
 -- ---- what is worked on
-
--- what the lines begin
-abbrev pub startedOf : Started → List Obligation
-startedOf s = firstOf (s .count) (s .obligations)
 
 -- those held; `none` once exhausted, when none is held
 abbrev pub heldIn : SheetValue → Count → List arrays.Remainder → Option (List Remainder)

@@ -69,7 +69,7 @@ pub(crate) fn say(h: Held) -> Answer
 
 // One of the first n rows has no obligation.
 fn is_clear_in(n: usize, marks: &[u8]) -> bool
-    requires { ⌜ (length (now marks) ≡ 544) × (n ≤ 32) ⌝ }
+    requires { ⌜ (length (now marks) ≡ 561) × (n ≤ 32) ⌝ }
     ensures { λ r. ⌜ ((v : SheetValue) (dues : List ℤ) (leads : List ℕ) (stopped : List Bool) → r ≡ any (λ (q : Remainder). eqb (owes q) 0) (rowsOf v n (rows (now (marks .entry)) dues leads stopped))) ⌝ }
 {
     let mut i = 0;
@@ -84,7 +84,7 @@ fn is_clear_in(n: usize, marks: &[u8]) -> bool
 
 // What those in rows say.
 pub(crate) fn say_rows(count: Count, marks: &[u8]) -> Answer
-    requires { ⌜ (length (now marks) ≡ 544) × SmallIn count 32 (now marks) ⌝ }
+    requires { ⌜ (length (now marks) ≡ 561) × SmallIn count 32 (now marks) ⌝ }
     ensures { λ r. ⌜ ((v : SheetValue) (dues : List ℤ) (leads : List ℕ) (stopped : List Bool) → answerOf r ≡ saidBy (foundIn v count (rows (now (marks .entry)) dues leads stopped))) ⌝ }
 {
     match count {

@@ -1,6 +1,5 @@
 // The unseen ticks that an instant's work asks about: those of the clocks that a line or an obligation held names. An unseen tick of another clock counts as idle.
 use crate::clock::stop;
-use crate::held::clocks_of;
 use crate::rows::row_count;
 use records::instant::Tick;
 use records::instant::TickSlot;
@@ -8,9 +7,10 @@ use records::line::Line;
 use records::sheet::Sheet;
 ghost use mathlib.Core.Path.{_≡_};
 ghost use mathlib.Core.Bool.{true, false};
-ghost use mathlib.Core.List.{_∷_, []};
+ghost use mathlib.Core.List.{List, _∷_, []};
 ghost use Prim.Native.Nat.{ℕ, _≤_, _<_};
 ghost use lib.ListN.{length, getD, replicate};
+ghost use Rattle.records.specs.declared.line.Line.{Line};
 ghost use Rattle.records.specs.Sheet.{sheetValue};
 ghost use Rattle.tesl.specs.Lists.{any, flatMap};
 ghost use Rattle.judge.specs.View.{seenOf};
@@ -70,7 +70,7 @@ fn flag_line(l: Line, flags: [bool; 8]) -> [bool; 8]
     }
 }
 
-fn flag_lines(s: Sheet) -> [bool; 8]
+pub(crate) fn flag_lines(s: Sheet) -> [bool; 8]
     requires { ⌜ s .count ≤ 16 ⌝ }
     ensures { λ r. ⌜ r ≡ flagged (flatMap namedBy (sheetValue s .lines)) (replicate 8 false) ⌝ }
 {
@@ -89,7 +89,7 @@ fn flag_lines(s: Sheet) -> [bool; 8]
 
 // The flags of the clocks that row i owes a tick of.
 fn flag_row(marks: &[u8], i: usize, flags: [bool; 8]) -> [bool; 8]
-    requires { ⌜ (length (now marks) ≡ 544) × ((i < 32) × (rowCount (now marks) i ≤ 8)) ⌝ }
+    requires { ⌜ (length (now marks) ≡ 561) × ((i < 33) × (rowCount (now marks) i ≤ 8)) ⌝ }
     ensures { λ r. ⌜ r ≡ flagged (rowClocks (now (marks .entry)) i) flags ⌝ }
 {
     let n = row_count(marks, i);
@@ -105,7 +105,7 @@ fn flag_row(marks: &[u8], i: usize, flags: [bool; 8]) -> [bool; 8]
 }
 
 fn flag_rows(n: usize, marks: &[u8], flags: [bool; 8]) -> [bool; 8]
-    requires { ⌜ (n ≤ 32) × ((length (now marks) ≡ 544) × Small n (now marks)) ⌝ }
+    requires { ⌜ (n ≤ 32) × ((length (now marks) ≡ 561) × Small n (now marks)) ⌝ }
     ensures { λ r. ⌜ r ≡ flagged (rowsClocks (now (marks .entry)) n) flags ⌝ }
 {
     let mut after = flags;
@@ -149,16 +149,20 @@ fn heed_flags(clocks: usize, flags: [bool; 8], seen: [TickSlot; 8]) -> [TickSlot
     after
 }
 
-// The ticks of an instant for the first n rows: each unseen tick that is left may change what they become.
-pub(crate) fn heed(s: Sheet, n: usize, marks: &[u8], seen: [TickSlot; 8]) -> [TickSlot; 8]
-    requires { ⌜ (s .count ≤ 16) × ((s .clocks ≤ 8) × ((n ≤ 32) × ((length (now marks) ≡ 544) × Small n (now marks)))) ⌝ }
-    ensures { λ r. ⌜ seenOf (s .clocks) r ≡ heeded (heeds (sheetValue s .lines) (rowsClocks (now (marks .entry)) n)) 0 (seenOf (s .clocks) seen) ⌝ }
+// The ticks of an instant for the first n rows, where lines name the flagged clocks: each unseen tick that is left may change what they become.
+pub(crate) fn heed(
+    clocks: usize,
+    named: [bool; 8],
+    n: usize,
+    marks: &[u8],
+    seen: [TickSlot; 8],
+) -> [TickSlot; 8]
+    requires { ⌜ (clocks ≤ 8) × ((n ≤ 32) × ((length (now marks) ≡ 561) × Small n (now marks))) ⌝ }
+    ensures { λ r. ⌜ ((ls : List Line) → named ≡ flagged (flatMap namedBy ls) (replicate 8 false) → seenOf clocks r ≡ heeded (heeds ls (rowsClocks (now (marks .entry)) n)) 0 (seenOf clocks seen)) ⌝ }
 {
-    let clocks = clocks_of(s);
     if !some_unseen(clocks, seen) {
         return seen;
     }
-    let named = flag_lines(s);
     let flags = flag_rows(n, marks, named);
     heed_flags(clocks, flags, seen)
 }

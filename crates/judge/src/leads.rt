@@ -1,20 +1,61 @@
-// What a filling asks of the leads and makes of them: once per filling.
+// Which lines of a sheet have leads: once per sheet. What a filling asks of the leads and makes of them: once per filling.
 use crate::clock::ticks_at;
+use crate::plan::line_in;
 use records::line::Line;
 use records::sheet::Sheet;
 ghost use mathlib.Core.Path.{_≡_};
-ghost use Prim.Native.Nat.{ℕ, _≤_, _<_};
-ghost use lib.ListN.{getD};
+ghost use mathlib.Core.Bool.{false};
+ghost use Prim.Native.Nat.{ℕ, _+_, _≤_, _<_};
+ghost use lib.ListN.{length, getD};
 ghost use Rattle.records.specs.Line.{blankLine};
 ghost use Rattle.records.specs.Sheet.{sheetValue};
 ghost use Rattle.theory.specs.Step.{bit};
 ghost use Rattle.judge.specs.Carried.{needOf, gainOf, lossOf};
+ghost use Rattle.judge.specs.Plan.{lineIn};
+ghost use Rattle.judge.specs.Rows.{isPrecedes};
 
-// For each precedes line the lead that it needs, and its ticks of A and of B.
-pub struct Leads {
-    pub needs: [u16; 16],
-    pub gains: [u16; 16],
-    pub losses: [u16; 16],
+fn precedes(l: Line) -> bool
+    ensures { λ r. ⌜ r ≡ isPrecedes l ⌝ }
+{
+    match l {
+        Line::Weakly { a: _, b: _ } => true,
+        Line::Strictly { a: _, b: _ } => true,
+        _ => false,
+    }
+}
+
+// Where the last precedes line stands, from 1; 0 without one.
+pub(crate) fn reach_of(s: Sheet) -> usize
+    requires { ⌜ s .count ≤ 16 ⌝ }
+    ensures { λ r. ⌜ (r ≤ s .count) × ((i : ℕ) → r ≤ i → isPrecedes (getD (sheetValue s .lines) i blankLine) ≡ false) ⌝ }
+{
+    let mut k = s.count;
+    while 0 < k {
+        let slot = s.lines[k - 1];
+        let l = slot.line;
+        if precedes(l) {
+            return k;
+        }
+        k -= 1;
+    }
+    0
+}
+
+// A flag for each precedes line.
+pub(crate) fn leading_of(s: Sheet) -> [bool; 16]
+    requires { ⌜ s .count ≤ 16 ⌝ }
+    ensures { λ r. ⌜ ((i : ℕ) → getD r i false ≡ isPrecedes (getD (sheetValue s .lines) i blankLine)) ⌝ }
+{
+    let n = s.count;
+    let mut leading = [false; 16];
+    let mut i = 0;
+    while i < n {
+        let slot = s.lines[i];
+        let l = slot.line;
+        leading[i] = precedes(l);
+        i += 1;
+    }
+    leading
 }
 
 fn one(b: bool) -> u16
@@ -59,26 +100,17 @@ fn loss_of(l: Line, ticks: [bool; 8]) -> u16
     }
 }
 
-// Of the lines before place `reach`.
-pub(crate) fn all_leads(s: Sheet, reach: usize, ticks: [bool; 8]) -> Leads
-    requires { ⌜ (s .count ≤ 16) × (reach ≤ s .count) ⌝ }
-    ensures { λ r. ⌜ ((k : ℕ) → k < reach → (getD (r .needs) k 0 ≡ needOf ticks (getD (sheetValue s .lines) k blankLine)) × ((getD (r .gains) k 0 ≡ gainOf ticks (getD (sheetValue s .lines) k blankLine)) × (getD (r .losses) k 0 ≡ lossOf ticks (getD (sheetValue s .lines) k blankLine)))) ⌝ }
+// For each of the first `reach` lines the lead that it needs, its ticks of A and its ticks of B: in the first, second and third sixteen places.
+pub(crate) fn ask_leads(lines: &[u16], reach: usize, ticks: [bool; 8], asks: &mut [u16])
+    requires { ⌜ (length (now lines) ≡ 320) × ((reach ≤ 16) × (length (now asks) ≡ 48)) ⌝ }
+    ensures { λ _. ⌜ (length (now (asks .exit)) ≡ 48) × ((k : ℕ) → k < reach → (getD (now (asks .exit)) k 0 ≡ needOf ticks (lineIn (now (lines .entry)) k)) × ((getD (now (asks .exit)) (16 + k) 0 ≡ gainOf ticks (lineIn (now (lines .entry)) k)) × (getD (now (asks .exit)) (32 + k) 0 ≡ lossOf ticks (lineIn (now (lines .entry)) k)))) ⌝ }
 {
-    let mut needs = [0u16; 16];
-    let mut gains = [0u16; 16];
-    let mut losses = [0u16; 16];
     let mut i = 0;
     while i < reach {
-        let slot = s.lines[i];
-        let l = slot.line;
-        needs[i] = need_of(l, ticks);
-        gains[i] = gain_of(l, ticks);
-        losses[i] = loss_of(l, ticks);
+        let l = line_in(lines, i);
+        asks[i] = need_of(l, ticks);
+        asks[16 + i] = gain_of(l, ticks);
+        asks[32 + i] = loss_of(l, ticks);
         i += 1;
-    }
-    Leads {
-        needs,
-        gains,
-        losses,
     }
 }

@@ -1,4 +1,6 @@
 // The monitor: what clocks, obligations and lines say of a filled instant, what a remainder becomes, the remainders held, and the monitor itself.
+mod advance;
+mod among;
 pub mod answer;
 mod clock;
 mod fill;
@@ -13,9 +15,9 @@ pub mod log;
 pub mod monitor;
 pub mod obligation;
 mod owed;
+mod plan;
 pub mod remainder;
 mod rows;
 mod rules;
 mod settle;
 mod start;
-mod started;

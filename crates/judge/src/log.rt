@@ -1,15 +1,13 @@
 // A whole log: a sheet opened, then its instants, record by record.
 use crate::answer::Reply;
 use crate::held::Count;
-use crate::held::leading_of;
-use crate::held::reach_of;
-use crate::kept::keep_held;
 use crate::kept::observe_turn;
 use crate::limits::is_within;
 use crate::monitor::Given;
 use crate::monitor::open;
-use crate::rules::Rules;
-use crate::rules::rules_of;
+use crate::plan::Plan;
+use crate::plan::plan_of;
+use crate::settle::keep_held;
 use records::number;
 use records::record::Record;
 use records::record::record_at;
@@ -34,9 +32,8 @@ fn observe_records(
     log: &[u8],
     opening: Reply,
     sheet: Sheet,
-    rules: Rules,
-    reach: usize,
-    precede: [bool; 16],
+    plan: Plan,
+    lines: &[u16],
     held: usize,
     was: [i16; 8],
     first: Count,
@@ -50,7 +47,7 @@ fn observe_records(
     stopped2: &mut [bool],
     list: &mut [bool],
 ) -> Judged
-    requires { ⌜ Prepared sheet rules reach precede × ((within (rowsMonitor sheet held was first (rows (now marks) (now dues) (now leads) (now stopped))) ≡ true) × (Roomy (rows (now marks) (now dues) (now leads) (now stopped)) × (Roomy (rows (now marks2) (now dues2) (now leads2) (now stopped2)) × (length (now list) ≡ 2048)))) ⌝ }
+    requires { ⌜ Prepared sheet plan (now lines) × ((within (rowsMonitor sheet held was first (rows (now marks) (now dues) (now leads) (now stopped))) ≡ true) × (Roomy (rows (now marks) (now dues) (now leads) (now stopped)) × (Roomy (rows (now marks2) (now dues2) (now leads2) (now stopped2)) × (length (now list) ≡ 2048)))) ⌝ }
     ensures { λ r. ⌜ Concludes (given opening (rowsMonitor sheet held was first (rows (now (marks .entry)) (now (dues .entry)) (now (leads .entry)) (now (stopped .entry))))) (now (log .entry)) r ⌝ }
 {
     let mut turned = false;
@@ -72,9 +69,8 @@ fn observe_records(
                 let told = observe_turn(
                     turned,
                     sheet,
-                    rules,
-                    reach,
-                    precede,
+                    plan,
+                    lines,
                     held + instants,
                     tags,
                     count,
@@ -124,20 +120,19 @@ fn observe_all(opened: Given, log: &[u8]) -> Judged
         };
     }
     let sheet = monitor.sheet;
-    let rules = rules_of(sheet);
-    let reach = reach_of(sheet);
-    let precede = leading_of(sheet);
+    let mut lines = [0u16; 320];
+    let plan = plan_of(sheet, &mut lines);
     let held = monitor.held;
     let count = held.count;
     let remainders = held.remainders;
-    let mut marks = [0u8; 544];
-    let mut dues = [0i32; 256];
-    let mut leads = [0u16; 512];
-    let mut stopped = [false; 256];
-    let mut marks2 = [0u8; 544];
-    let mut dues2 = [0i32; 256];
-    let mut leads2 = [0u16; 512];
-    let mut stopped2 = [false; 256];
+    let mut marks = [0u8; 561];
+    let mut dues = [0i32; 264];
+    let mut leads = [0u16; 528];
+    let mut stopped = [false; 264];
+    let mut marks2 = [0u8; 561];
+    let mut dues2 = [0i32; 264];
+    let mut leads2 = [0u16; 528];
+    let mut stopped2 = [false; 264];
     let mut list = [false; 2048];
     keep_held(
         count,
@@ -154,9 +149,8 @@ fn observe_all(opened: Given, log: &[u8]) -> Judged
         log,
         opening,
         sheet,
-        rules,
-        reach,
-        precede,
+        plan,
+        &lines,
         instants,
         tags,
         count,

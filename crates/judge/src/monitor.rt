@@ -1,27 +1,22 @@
 // The monitor: opened with a sheet, called instant by instant.
 use crate::answer::Reply;
 use crate::answer::say;
-use crate::fill::work;
 use crate::held::Count;
 use crate::held::Held;
+use crate::kept::observe_rows;
 use crate::limits::is_within;
+use crate::plan::plan_of;
+use crate::settle::from_rows;
+use crate::settle::keep_held;
 use crate::start::first_remainder;
-use records::instant::Instant;
-use records::instant::read_instant;
 use records::number;
 use records::record::Answer;
 use records::sheet::Sheet;
 use records::sheet::read_sheet;
 ghost use mathlib.Core.Path.{_≡_};
-ghost use Prim.Native.Nat.{_≤_, _<_};
-ghost use lib.Dec.{T};
-ghost use Rattle.records.specs.Sheet.{sheetValue};
-ghost use Rattle.tesl.specs.Lists.{all};
-ghost use Rattle.theory.specs.Step.{wellFormed};
-ghost use Rattle.judge.specs.View.{liveOf, sized};
-ghost use Rattle.judge.specs.Lines.{smallLeads};
+ghost use Prim.Native.Nat.{_≤_};
 ghost use Rattle.judge.specs.Limits.{within};
-ghost use Rattle.judge.specs.Monitor.{Begins, Accepts, Workable, refusal};
+ghost use Rattle.judge.specs.Monitor.{Begins, refusal};
 ghost use Rattle.judge.specs.Promises.{Opened, Observed};
 
 // Beside its remainders, of the instants only their number and the last tags; the last answer is what those held say.
@@ -90,30 +85,6 @@ fn refuse(n: u8, monitor: Monitor) -> Given
     Given { reply, monitor }
 }
 
-// An instant that is taken.
-fn accept(monitor: Monitor, instant: Instant) -> Given
-    requires { ⌜ Workable monitor ⌝ }
-    ensures { λ r. ⌜ Accepts monitor instant r ⌝ }
-{
-    let sheet = monitor.sheet;
-    let instants = monitor.instants;
-    let was = monitor.tags;
-    let before = monitor.held;
-    let held = work(number::MAX_LIVE, sheet, instants == 0, was, instant, before);
-    let said = say(held);
-    let tags = instant.tags;
-    let next = Monitor {
-        sheet,
-        instants: instants + 1,
-        tags,
-        held,
-    };
-    Given {
-        reply: Reply::Answered(said),
-        monitor: next,
-    }
-}
-
 // Takes an instant: refused, the number and the monitor as it came; accepted, the answer and the monitor after it.
 pub fn observe(monitor: Monitor, bytes: &[u8]) -> Given
     ensures { λ r. ⌜ Observed monitor (now (bytes .entry)) r ⌝ }
@@ -122,18 +93,73 @@ pub fn observe(monitor: Monitor, bytes: &[u8]) -> Given
         return refuse(number::MONITOR_LIMITS, monitor);
     }
     let sheet = monitor.sheet;
-    let clocks = sheet.clocks;
-    let read = read_instant(bytes, clocks);
-    let answer = read.answer;
-    match answer {
-        Answer::Refused(n) => refuse(n, monitor),
-        Answer::Done => {
-            let instants = monitor.instants;
-            if number::MAX_INSTANTS <= instants {
-                return refuse(number::INSTANTS_HELD, monitor);
-            }
-            let instant = read.instant;
-            accept(monitor, instant)
+    let instants = monitor.instants;
+    let was = monitor.tags;
+    let held = monitor.held;
+    let count = held.count;
+    let remainders = held.remainders;
+    let mut lines = [0u16; 320];
+    let mut marks = [0u8; 561];
+    let mut dues = [0i32; 264];
+    let mut leads = [0u16; 528];
+    let mut stopped = [false; 264];
+    let mut outmarks = [0u8; 561];
+    let mut outdues = [0i32; 264];
+    let mut outleads = [0u16; 528];
+    let mut outstopped = [false; 264];
+    let mut list = [false; 2048];
+    let plan = plan_of(sheet, &mut lines);
+    keep_held(
+        count,
+        remainders,
+        &mut marks,
+        &mut dues,
+        &mut leads,
+        &mut stopped,
+    );
+    let told = observe_rows(
+        sheet,
+        plan,
+        &lines,
+        instants,
+        was,
+        count,
+        bytes,
+        &marks,
+        &dues,
+        &leads,
+        &stopped,
+        &mut outmarks,
+        &mut outdues,
+        &mut outleads,
+        &mut outstopped,
+        &mut list,
+    );
+    let reply = told.reply;
+    match reply {
+        Reply::Refused(n) => refuse(n, monitor),
+        Reply::Answered(_) => {
+            let next = told.count;
+            let after = from_rows(
+                next,
+                remainders,
+                &outmarks,
+                &outdues,
+                &outleads,
+                &outstopped,
+            );
+            let held = Held {
+                count: next,
+                remainders: after,
+            };
+            let tags = told.tags;
+            let monitor = Monitor {
+                sheet,
+                instants: instants + 1,
+                tags,
+                held,
+            };
+            Given { reply, monitor }
         }
     }
 }

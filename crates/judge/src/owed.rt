@@ -1,15 +1,13 @@
 // What a remainder owes, worked on alone: a set of at most eight obligations, in the order in which they came.
 use crate::obligation::Obligation;
 use crate::obligation::same_obligation;
-use crate::started::Started;
 ghost use mathlib.Core.Path.{_≡_};
 ghost use mathlib.Core.List.{[], _∷_, _++_};
 ghost use Prim.Native.Nat.{_+_, _≤_, _<_};
 ghost use Rattle.tesl.specs.Lists.{any};
 ghost use Rattle.tesl.specs.Remainder.{sameObligation};
-ghost use Rattle.judge.specs.View.{obligationOf, firstOf, owedIn, startedOf, addedOf};
+ghost use Rattle.judge.specs.View.{obligationOf, firstOf, owedIn, addedOf};
 ghost use Rattle.judge.specs.Owed.{added};
-ghost use Rattle.judge.specs.Work.{addedAll};
 
 pub struct Owed {
     pub count: usize,
@@ -19,12 +17,6 @@ pub struct Owed {
 // What is owed with more obligations; over: there was no room for one.
 pub struct Added {
     pub over: bool,
-    pub owed: Owed,
-}
-
-// What is owed without the obligations that an instant met; late: one of the rest is late.
-pub struct Kept {
-    pub late: bool,
     pub owed: Owed,
 }
 
@@ -75,24 +67,4 @@ pub(crate) fn add(r: Owed, o: Obligation) -> Added
         over: true,
         owed: r,
     }
-}
-
-// What is owed, with the obligations that the lines begin.
-pub(crate) fn add_all(r: Owed, started: Started) -> Added
-    requires { ⌜ (started .count ≤ 16) × (r .count ≤ 8) ⌝ }
-    ensures { λ s. ⌜ (addedOf s ≡ addedAll (startedOf started) (owedIn r)) × (s .owed .count ≤ 8) ⌝ }
-{
-    let n = started.count;
-    let mut owed = r;
-    let mut i = 0;
-    while i < n {
-        let o = started.obligations[i];
-        let step = add(owed, o);
-        if step.over {
-            return step;
-        }
-        owed = step.owed;
-        i += 1;
-    }
-    Added { over: false, owed }
 }

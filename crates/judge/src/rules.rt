@@ -1,108 +1,31 @@
-// The lines that ask of the ticks of an instant alone, in little room: once per sheet.
+// What n rules, the lines that ask of the ticks of an instant alone, say of a filling.
 use crate::clock::stop;
 use crate::clock::ticks_at;
 use crate::line::stopped_after;
 use crate::line::ticks_hold;
+use crate::plan::RULES;
+use crate::plan::line_in;
 use records::line::Line;
-use records::number;
-use records::sheet::Sheet;
 ghost use mathlib.Core.Path.{_≡_};
-ghost use mathlib.Core.Bool.{false};
+ghost use mathlib.Core.Bool.{false, _&&_};
 ghost use Prim.Native.Nat.{_≤_};
-ghost use lib.ListN.{take, replicate};
-ghost use Rattle.records.specs.Sheet.{sheetValue};
-ghost use Rattle.tesl.specs.Lists.{any, filter};
+ghost use lib.Dec.{ltb};
+ghost use lib.ListN.{length, replicate};
+ghost use Rattle.tesl.specs.Lists.{any};
 ghost use Rattle.judge.specs.Lines.{allStopped};
 ghost use Rattle.judge.specs.Carried.{barredBy, allBarred};
-ghost use Rattle.judge.specs.Rules.{isRule, ruleLine, rulesIn, allowed, isSettled, cuts};
-
-// A line of two clocks, by its kind number.
-pub struct Rule {
-    pub kind: u16,
-    pub a: u8,
-    pub b: u8,
-}
-
-pub struct Rules {
-    pub count: usize,
-    pub rules: [Rule; 16],
-}
-
-// The line that a rule stands for.
-fn line_of(r: Rule) -> Line
-    ensures { λ l. ⌜ l ≡ ruleLine r ⌝ }
-{
-    let a = r.a;
-    let b = r.b;
-    let kind = r.kind;
-    match kind {
-        number::IMPLIES => Line::Implies { a, b },
-        number::EXCLUDES => Line::Excludes { a, b },
-        _ => Line::Kills { a, b },
-    }
-}
-
-// The implies, excludes and kills lines of a sheet, in its order.
-pub(crate) fn rules_of(s: Sheet) -> Rules
-    requires { ⌜ s .count ≤ 16 ⌝ }
-    ensures { λ r. ⌜ (r .count ≤ 16) × (rulesIn r ≡ filter isRule (sheetValue s .lines)) ⌝ }
-{
-    let n = s.count;
-    let none = Rule {
-        kind: 0,
-        a: 0,
-        b: 0,
-    };
-    let mut rules = [none; 16];
-    let mut count = 0;
-    let mut i = 0;
-    while i < n {
-        let slot = s.lines[i];
-        let l = slot.line;
-        i += 1;
-        match l {
-            Line::Implies { a, b } => {
-                rules[count] = Rule {
-                    kind: number::IMPLIES,
-                    a,
-                    b,
-                };
-                count += 1;
-            }
-            Line::Excludes { a, b } => {
-                rules[count] = Rule {
-                    kind: number::EXCLUDES,
-                    a,
-                    b,
-                };
-                count += 1;
-            }
-            Line::Kills { a, b } => {
-                rules[count] = Rule {
-                    kind: number::KILLS,
-                    a,
-                    b,
-                };
-                count += 1;
-            }
-            _ => {
-                continue;
-            }
-        }
-    }
-    Rules { count, rules }
-}
+ghost use Rattle.judge.specs.Plan.{linesIn};
+ghost use Rattle.judge.specs.Rules.{allowed, isSettled, cuts};
 
 // What the rules ask of the ticks.
-pub(crate) fn all_hold(r: Rules, ticks: [bool; 8]) -> bool
-    requires { ⌜ r .count ≤ 16 ⌝ }
-    ensures { λ b. ⌜ b ≡ allowed (rulesIn r) ticks ⌝ }
+pub(crate) fn all_hold(lines: &[u16], n: usize, ticks: [bool; 8]) -> bool
+    requires { ⌜ (length (now lines) ≡ 320) × (n ≤ 16) ⌝ }
+    ensures { λ b. ⌜ b ≡ allowed (linesIn (now (lines .entry)) 32 n) ticks ⌝ }
 {
-    let n = r.count;
     let mut i = 0;
     while i < n {
-        let rule = r.rules[i];
-        if !ticks_hold(line_of(rule), ticks) {
+        let l = line_in(lines, RULES + i);
+        if !ticks_hold(l, ticks) {
             return false;
         }
         i += 1;
@@ -110,29 +33,41 @@ pub(crate) fn all_hold(r: Rules, ticks: [bool; 8]) -> bool
     true
 }
 
-// Both clocks are below k.
-fn is_settled(r: Rule, k: usize) -> bool
-    ensures { λ b. ⌜ b ≡ isSettled k r ⌝ }
+fn both_below(a: u8, b: u8, k: usize) -> bool
+    ensures { λ r. ⌜ r ≡ (ltb a k && ltb b k) ⌝ }
 {
-    let a = r.a as usize;
-    let b = r.b as usize;
-    if a < k { b < k } else { false }
+    if (a as usize) < k {
+        (b as usize) < k
+    } else {
+        false
+    }
+}
+
+// A rule whose clocks are below k.
+fn is_settled(l: Line, k: usize) -> bool
+    ensures { λ b. ⌜ b ≡ isSettled k l ⌝ }
+{
+    match l {
+        Line::Implies { a, b } => both_below(a, b, k),
+        Line::Excludes { a, b } => both_below(a, b, k),
+        Line::Kills { a, b } => both_below(a, b, k),
+        _ => false,
+    }
 }
 
 // A rule whose clocks are below k forbids these ticks.
-pub(crate) fn is_cut(r: Rules, k: usize, ticks: [bool; 8]) -> bool
-    requires { ⌜ r .count ≤ 16 ⌝ }
-    ensures { λ b. ⌜ b ≡ any (cuts k ticks) (take (r .count) (r .rules)) ⌝ }
+pub(crate) fn is_cut(lines: &[u16], n: usize, k: usize, ticks: [bool; 8]) -> bool
+    requires { ⌜ (length (now lines) ≡ 320) × (n ≤ 16) ⌝ }
+    ensures { λ b. ⌜ b ≡ any (cuts k ticks) (linesIn (now (lines .entry)) 32 n) ⌝ }
 {
-    let n = r.count;
     let mut i = 0;
     while i < n {
-        let rule = r.rules[i];
+        let l = line_in(lines, RULES + i);
         i += 1;
-        if !is_settled(rule, k) {
+        if !is_settled(l, k) {
             continue;
         }
-        if !ticks_hold(line_of(rule), ticks) {
+        if !ticks_hold(l, ticks) {
             return true;
         }
     }
@@ -155,16 +90,15 @@ fn barred_by(l: Line, ticks: [bool; 8], barred: [bool; 8]) -> [bool; 8]
     }
 }
 
-pub(crate) fn all_barred(r: Rules, ticks: [bool; 8]) -> [bool; 8]
-    requires { ⌜ r .count ≤ 16 ⌝ }
-    ensures { λ b. ⌜ b ≡ allBarred ticks (rulesIn r) (replicate 8 false) ⌝ }
+pub(crate) fn all_barred(lines: &[u16], n: usize, ticks: [bool; 8]) -> [bool; 8]
+    requires { ⌜ (length (now lines) ≡ 320) × (n ≤ 16) ⌝ }
+    ensures { λ b. ⌜ b ≡ allBarred ticks (linesIn (now (lines .entry)) 32 n) (replicate 8 false) ⌝ }
 {
-    let n = r.count;
     let mut barred = [false; 8];
     let mut i = 0;
     while i < n {
-        let rule = r.rules[i];
-        let next = barred_by(line_of(rule), ticks, barred);
+        let l = line_in(lines, RULES + i);
+        let next = barred_by(l, ticks, barred);
         barred = next;
         i += 1;
     }
@@ -172,16 +106,15 @@ pub(crate) fn all_barred(r: Rules, ticks: [bool; 8]) -> [bool; 8]
 }
 
 // The clocks that the kills lines stop.
-pub(crate) fn all_stops(r: Rules, ticks: [bool; 8]) -> [bool; 8]
-    requires { ⌜ r .count ≤ 16 ⌝ }
-    ensures { λ b. ⌜ b ≡ allStopped ticks (rulesIn r) (replicate 8 false) ⌝ }
+pub(crate) fn all_stops(lines: &[u16], n: usize, ticks: [bool; 8]) -> [bool; 8]
+    requires { ⌜ (length (now lines) ≡ 320) × (n ≤ 16) ⌝ }
+    ensures { λ b. ⌜ b ≡ allStopped ticks (linesIn (now (lines .entry)) 32 n) (replicate 8 false) ⌝ }
 {
-    let n = r.count;
     let mut stops = [false; 8];
     let mut i = 0;
     while i < n {
-        let rule = r.rules[i];
-        let next = stopped_after(line_of(rule), ticks, stops);
+        let l = line_in(lines, RULES + i);
+        let next = stopped_after(l, ticks, stops);
         stops = next;
         i += 1;
     }

@@ -1,23 +1,22 @@
 // The remainders held, filling by filling of an instant, in lent arrays.
+use crate::advance::begin_row;
+use crate::advance::is_barred;
+use crate::advance::keep_row;
+use crate::advance::leads_hold;
+use crate::advance::leads_on;
+use crate::advance::stopped_on;
+use crate::among::is_among;
 use crate::held::Count;
 use crate::held::Held;
 use crate::held::clocks_of;
-use crate::leads::all_leads;
-use crate::owed::add_all;
+use crate::leads::ask_leads;
+use crate::plan::Plan;
 use crate::remainder::Remainder;
 use crate::rows::flags_at;
-use crate::rows::is_among;
-use crate::rows::is_barred;
-use crate::rows::keep_row;
-use crate::rows::leads_hold;
-use crate::rows::leads_on;
 use crate::rows::put_row;
 use crate::rows::row_at;
-use crate::rows::stopped_on;
-use crate::rules::Rules;
 use crate::rules::all_barred;
 use crate::rules::all_stops;
-use crate::started::start_all;
 use records::sheet::Sheet;
 ghost use mathlib.Core.Path.{_≡_};
 ghost use mathlib.Core.List.{[], map};
@@ -26,14 +25,14 @@ ghost use Prim.Native.Nat.{_≤_, _<_};
 ghost use lib.Dec.{T, leb};
 ghost use lib.ListN.{length, take};
 ghost use Rattle.records.specs.Sheet.{SheetValue, sheetValue};
-ghost use Rattle.tesl.specs.Lists.{all, filter};
+ghost use Rattle.tesl.specs.Lists.{all};
 ghost use Rattle.theory.specs.Step.{wellFormed};
 ghost use Rattle.judge.specs.declared.remainder.Remainder as arrays;
 ghost use Rattle.judge.specs.View.{viewOf, heldIn, liveOf, sized, sizedIn};
 ghost use Rattle.judge.specs.Lines.{smallLeads};
-ghost use Rattle.judge.specs.Rules.{isRule, rulesIn};
+ghost use Rattle.judge.specs.Plan.{Planned};
 ghost use Rattle.judge.specs.Fillings.{fillingsIn, takenBy, settling};
-ghost use Rattle.judge.specs.Rows.{rows, Roomy, rowsOf, foundIn, Small, SmallIn, Leading};
+ghost use Rattle.judge.specs.Rows.{rows, Roomy, rowsOf, foundIn, Small, SmallIn};
 
 // How many are held.
 pub(crate) fn live_count(h: Held) -> usize
@@ -47,13 +46,12 @@ pub(crate) fn live_count(h: Held) -> usize
     }
 }
 
-// Those found, with what each of n rows becomes by a filling that the rules allow. What depends on the filling alone comes first; a row that it doesn't fit is left at once.
+// Those found, with what each of n rows becomes by a filling that the rules allow: each is built in the row after them. What depends on the filling alone comes first; a row that it doesn't fit is left at once.
 fn settle(
     room: usize,
     s: Sheet,
-    rules: Rules,
-    reach: usize,
-    precede: [bool; 16],
+    plan: Plan,
+    lines: &[u16],
     ticks: [bool; 8],
     tags: [i16; 8],
     n: usize,
@@ -67,17 +65,18 @@ fn settle(
     outleads: &mut [u16],
     outstopped: &mut [bool],
 ) -> Count
-    requires { ⌜ (room ≤ 32) × ((s .count ≤ 16) × ((s .clocks ≤ 8) × ((rules .count ≤ 16) × ((rulesIn rules ≡ filter isRule (sheetValue s .lines)) × ((n ≤ 32) × ((found ≤ room) × ((reach ≤ s .count) × (Leading (sheetValue s) reach precede × (Roomy (rows (now marks) (now dues) (now leads) (now stopped)) × (Small n (now marks) × (T (all smallLeads (rowsOf (sheetValue s) n (rows (now marks) (now dues) (now leads) (now stopped)))) × (Roomy (rows (now outmarks) (now outdues) (now outleads) (now outstopped)) × (Small found (now outmarks) × T (wellFormed (sheetValue s))))))))))))))) ⌝ }
+    requires { ⌜ (room ≤ 32) × ((s .count ≤ 16) × ((s .clocks ≤ 8) × (Planned s plan (now lines) × ((n ≤ 32) × ((found ≤ room) × (Roomy (rows (now marks) (now dues) (now leads) (now stopped)) × (Small n (now marks) × (T (all smallLeads (rowsOf (sheetValue s) n (rows (now marks) (now dues) (now leads) (now stopped)))) × (Roomy (rows (now outmarks) (now outdues) (now outleads) (now outstopped)) × (Small found (now outmarks) × (T (wellFormed (sheetValue s))))))))))))) ⌝ }
     ensures { λ r. ⌜ (foundIn (sheetValue s) r (rows (now (outmarks .exit)) (now (outdues .exit)) (now (outleads .exit)) (now (outstopped .exit))) ≡ settling room (sheetValue s) tags (rowsOf (sheetValue s) n (rows (now (marks .entry)) (now (dues .entry)) (now (leads .entry)) (now (stopped .entry)))) (some (rowsOf (sheetValue s) found (rows (now (outmarks .entry)) (now (outdues .entry)) (now (outleads .entry)) (now (outstopped .entry))))) ticks) × (Roomy (rows (now (outmarks .exit)) (now (outdues .exit)) (now (outleads .exit)) (now (outstopped .exit))) × SmallIn r room (now (outmarks .exit))) ⌝ }
 {
     let clocks = clocks_of(s);
-    let started = start_all(s, ticks, tags);
-    let barred = all_barred(rules, ticks);
-    let stops = all_stops(rules, ticks);
-    let asked = all_leads(s, reach, ticks);
-    let needs = asked.needs;
-    let gains = asked.gains;
-    let losses = asked.losses;
+    let reach = plan.reach;
+    let precede = plan.precede;
+    let rules = plan.rules;
+    let delays = plan.delays;
+    let barred = all_barred(lines, rules, ticks);
+    let stops = all_stops(lines, rules, ticks);
+    let mut asks = [0u16; 48];
+    ask_leads(lines, reach, ticks, &mut asks);
     let mut live = found;
     let mut i = 0;
     while i < n {
@@ -86,29 +85,17 @@ fn settle(
         if is_barred(stopped, at, barred) {
             continue;
         }
-        if !leads_hold(reach, needs, leads, at) {
+        if !leads_hold(reach, &asks, leads, at) {
             continue;
         }
-        let kept = keep_row(marks, dues, at, ticks, tags);
-        if kept.late {
+        if !keep_row(marks, dues, at, ticks, tags, outmarks, outdues, live) {
             continue;
         }
-        let left = kept.owed;
-        let added = add_all(left, started);
-        if added.over {
+        if !begin_row(lines, delays, ticks, tags, outmarks, outdues, live) {
             return Count::Exhausted;
         }
-        let owing = added.owed;
-        let owed = owing.count;
-        let obligations = owing.obligations;
-        let leads_after = leads_on(reach, gains, losses, leads, at);
-        let stopped_after = stopped_on(stopped, at, stops);
-        let x = Remainder {
-            owed,
-            obligations,
-            leads: leads_after,
-            stopped: stopped_after,
-        };
+        leads_on(reach, &asks, leads, at, outleads, live);
+        stopped_on(stopped, at, stops, outstopped, live);
         if is_among(
             clocks,
             reach,
@@ -118,14 +105,12 @@ fn settle(
             outleads,
             outstopped,
             live,
-            x,
         ) {
             continue;
         }
         if room <= live {
             return Count::Exhausted;
         }
-        put_row(outmarks, outdues, outleads, outstopped, live, x);
         live += 1;
     }
     Count::Live(live)
@@ -135,9 +120,8 @@ fn settle(
 pub(crate) fn settle_all(
     room: usize,
     s: Sheet,
-    rules: Rules,
-    reach: usize,
-    precede: [bool; 16],
+    plan: Plan,
+    lines: &[u16],
     tags: [i16; 8],
     m: usize,
     list: &[bool],
@@ -151,7 +135,7 @@ pub(crate) fn settle_all(
     outleads: &mut [u16],
     outstopped: &mut [bool],
 ) -> Count
-    requires { ⌜ (room ≤ 32) × ((s .count ≤ 16) × ((s .clocks ≤ 8) × ((rules .count ≤ 16) × ((rulesIn rules ≡ filter isRule (sheetValue s .lines)) × ((reach ≤ s .count) × ((n ≤ 32) × ((m ≤ 256) × (Leading (sheetValue s) reach precede × ((length (now list) ≡ 2048) × (Roomy (rows (now marks) (now dues) (now leads) (now stopped)) × (Small n (now marks) × (T (all smallLeads (rowsOf (sheetValue s) n (rows (now marks) (now dues) (now leads) (now stopped)))) × (Roomy (rows (now outmarks) (now outdues) (now outleads) (now outstopped)) × T (wellFormed (sheetValue s))))))))))))))) ⌝ }
+    requires { ⌜ (room ≤ 32) × ((s .count ≤ 16) × ((s .clocks ≤ 8) × (Planned s plan (now lines) × ((m ≤ 256) × ((length (now list) ≡ 2048) × ((n ≤ 32) × (Roomy (rows (now marks) (now dues) (now leads) (now stopped)) × (Small n (now marks) × (T (all smallLeads (rowsOf (sheetValue s) n (rows (now marks) (now dues) (now leads) (now stopped)))) × (Roomy (rows (now outmarks) (now outdues) (now outleads) (now outstopped)) × (T (wellFormed (sheetValue s))))))))))))) ⌝ }
     ensures { λ r. ⌜ (foundIn (sheetValue s) r (rows (now (outmarks .exit)) (now (outdues .exit)) (now (outleads .exit)) (now (outstopped .exit))) ≡ takenBy (settling room (sheetValue s) tags (rowsOf (sheetValue s) n (rows (now (marks .entry)) (now (dues .entry)) (now (leads .entry)) (now (stopped .entry))))) (fillingsIn (now (list .entry)) m) (some [])) × (Roomy (rows (now (outmarks .exit)) (now (outdues .exit)) (now (outleads .exit)) (now (outstopped .exit))) × SmallIn r room (now (outmarks .exit))) ⌝ }
 {
     let mut live = 0;
@@ -162,9 +146,8 @@ pub(crate) fn settle_all(
         match settle(
             room,
             s,
-            rules,
-            reach,
-            precede,
+            plan,
+            lines,
             ticks,
             tags,
             n,
@@ -206,6 +189,26 @@ pub(crate) fn to_rows(
         let r = remainders[i];
         put_row(marks, dues, leads, stopped, i, r);
         i += 1;
+    }
+}
+
+// Stores those held in rows.
+pub(crate) fn keep_held(
+    count: Count,
+    remainders: [Remainder; 32],
+    marks: &mut [u8],
+    dues: &mut [i32],
+    leads: &mut [u16],
+    stopped: &mut [bool],
+)
+    requires { ⌜ T (sizedIn count remainders) × Roomy (rows (now marks) (now dues) (now leads) (now stopped)) ⌝ }
+    ensures { λ _. ⌜ Roomy (rows (now (marks .exit)) (now (dues .exit)) (now (leads .exit)) (now (stopped .exit))) × (SmallIn count 32 (now (marks .exit)) × ((v : SheetValue) → foundIn v count (rows (now (marks .exit)) (now (dues .exit)) (now (leads .exit)) (now (stopped .exit))) ≡ heldIn v count remainders)) ⌝ }
+{
+    match count {
+        Count::Exhausted => {}
+        Count::Live(n) => {
+            to_rows(n, remainders, marks, dues, leads, stopped);
+        }
     }
 }
 

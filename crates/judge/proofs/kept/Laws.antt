@@ -1,7 +1,7 @@
--- A monitor kept in rows: what it holds is what the rows hold, counts that the arrays have room for are the same, and it follows what the monitor followed whose remainders were stored. Assumes nothing.
+-- A monitor kept in rows: what it holds is what the rows hold, counts that the arrays have room for are the same, and it follows what the monitor followed whose remainders were stored, as monitors do that hold the same. Assumes nothing.
 use mathlib.Core.Bool.{Bool, true, false, not}
 use mathlib.Core.List.{List, map}
-use mathlib.Core.Option.{Option, none, some}
+use mathlib.Core.Option.{Option, some}
 use mathlib.Core.Path.{_≡_, refl, sym, ap, _∙_, subst, fun-ext}
 use Prim.Native.Nat.{ℕ, zero, suc, _+_, _≤_}
 use native.Mathlib.Omega.{arith}
@@ -13,7 +13,6 @@ use lib.Seq.{take-length}
 use borrow.Author.Tests.{not-false}
 use Rattle.records.specs.declared.sheet.Sheet.{Sheet}
 use Rattle.records.specs.declared.instant.Instant.{Instant}
-use Rattle.records.specs.declared.instant.Tick.{Tick}
 use Rattle.records.specs.Lists.{listedFrom, listed}
 use Rattle.records.specs.Outcome.{taken}
 use Rattle.records.specs.Sheet.{SheetValue, sheetValue, lineAt}
@@ -29,6 +28,7 @@ use Rattle.judge.specs.declared.answer.Reply.the-variants as reply
 use Rattle.judge.specs.declared.remainder.Remainder as arrays
 use Rattle.judge.specs.declared.held.Count.{Count}
 use Rattle.judge.specs.declared.held.Count.the-variants.{Exhausted, Live}
+use Rattle.judge.specs.declared.held.Held.{Held}
 use Rattle.judge.specs.declared.monitor.Monitor.{Monitor}
 use Rattle.judge.specs.View.{obligationOf, owedOf, viewOf, cut, heldIn, heldOf, live, seenOf, tagsBefore, sizedIn, sized}
 use Rattle.judge.specs.Lines.{smallLeads}
@@ -40,7 +40,6 @@ use Rattle.judge.specs.Monitor.{sheetBy, heldBy, Workable, Accepts}
 use Rattle.judge.specs.Kept.{asStruct, rowRemainder, liveRows, rowsHeld, rowsMonitor, toldBy}
 use Rattle.judge.specs.Promises.{Follows}
 use Rattle.judge.proofs.Listing.{map-listed, one-of, all-of}
-use Rattle.judge.proofs.rows.Stored.{small-live}
 use Rattle.judge.proofs.monitor.Limits.{held-limits, limits-of, within-limits}
 
 -- ---- places listed
@@ -98,25 +97,14 @@ module _ (count : Count) (rs : List arrays.Remainder) where
   pub stores-live : (r : Rows) {n : ℕ} → count ≡ Live n → n ≤ 32 → Roomy r × (Small n (r .marks) × ((v : SheetValue) → rowsOf v n r ≡ map (viewOf v) (take n rs))) → Stores r
   stores-live r e l h = (h .0, (rw e (l, h .1 .0), λ v. rw e (ap some (h .1 .1 v))))
 
-module _ (v : SheetValue) (last : Option (List ℤ)) (ticks : List Tick) (tags : List ℤ) (count : Count) (r : Rows) where
-  pub worked-none : count ≡ Exhausted → none ≡ worked 32 v last ticks tags (foundIn v count r)
-  unfolding worked
-  worked-none e = rw e
-
-  pub worked-live : {n : ℕ} {found : Option (List Remainder)} → count ≡ Live n → found ≡ worked 32 v last ticks tags (some (rowsOf v n r)) → found ≡ worked 32 v last ticks tags (foundIn v count r)
-  worked-live e w = rw e w
-
 -- ---- a monitor in rows
 module _ (s : Sheet) (n : ℕ) (tags : List ℤ) (count : Count) (r : Rows) where
   abbrev m : Monitor
   m = rowsMonitor s n tags count r
 
-  -- what work asks of the rows of a count
-  pub leads-rows : Workable m → {k : ℕ} → count ≡ Live k → T (all smallLeads (rowsOf (sheetValue s) k r))
-  leads-rows w {k} e = subst (λ (rs : List Remainder). T (all smallLeads rs)) (ap live (held-rows (sheetValue s) count r ∙ ap (λ (c : Count). foundIn (sheetValue s) c r) e)) (w .leads)
-
-  pub small-count : Workable m → {k : ℕ} → count ≡ Live k → SmallIn (Live k) 32 (r .marks)
-  small-count w {k} e = small-live count k 32 (r .marks) e (small-rows count r (w .fits))
+  -- what work asks of the rows
+  pub leads-rows : Workable m → T (all smallLeads (live (foundIn (sheetValue s) count r)))
+  leads-rows w = subst (λ (o : Option (List Remainder)). T (all smallLeads (live o))) (held-rows (sheetValue s) count r) (w .leads)
 
   pub accepts-rows : (i : Instant) (next : Count) (out : Rows) (said : code.Answer)
       → foundIn (sheetValue s) next out ≡ worked 32 (sheetValue s) (tagsBefore (eqb n 0) tags) (seenOf (s .clocks) (i .ticks)) (i .tags) (foundIn (sheetValue s) count r)
@@ -136,6 +124,32 @@ module _ (s : Sheet) (n : ℕ) (tags : List ℤ) (count : Count) (r : Rows) wher
   pub limited : IsSheet (sheetValue s) → within m ≡ true → Limited m true
   limited h e = record { answer = sym e; value = λ t. h }
 
+-- ---- monitors of the same sheet, instants and tags that hold the same: they are within the same limits, and follow the same runs
+module _ (s : Sheet) (n : ℕ) (tags : List ℤ) (h k : Held) (same : heldOf (sheetValue s) k ≡ heldOf (sheetValue s) h) (fits : T (sized k)) where
+  abbrev holding : Held → Monitor
+  holding x = record { sheet = s; instants = n; tags = tags; held = x }
+
+  pub within-same : within (holding h) ≡ true → within (holding k) ≡ true
+  unfolding within
+  within-same e =
+      let v = sheetValue s in
+      let a = both (sheetWithin v) e in
+      let b = both (leb n 4000) (a .1) in
+      let c = both (sized h) (sym (held-limits v n (h .count) (h .remainders)) ∙ b .1) in
+      within-limits (holding k) (≡→T (a .0)) (leb→le n 4000 (≡→T (b .0))) fits
+      (subst (λ (o : Option (List Remainder)). T (all (withinLimits (s .clocks) n) (live o))) (sym same) (≡→T (c .1)))
+
+  pub follows-same : {v : SheetValue} {run : List tesl.Instant} → Follows v run (holding h) → Follows v run (holding k)
+  follows-same f = record {
+    sheet = f .sheet;
+    instants = f .instants;
+    last = f .last;
+    said = ap saidBy same ∙ f .said;
+    held = rw same (f .held);
+    owed = rw same (f .owed);
+    limits = within-same (f .limits);
+  }
+
 -- ---- a monitor whose remainders are stored
 module _ (m : Monitor) (r : Rows) (small : SmallIn (m .held .count) 32 (r .marks))
     (same : (v : SheetValue) → foundIn v (m .held .count) r ≡ heldIn v (m .held .count) (m .held .remainders)) where
@@ -146,25 +160,10 @@ module _ (m : Monitor) (r : Rows) (small : SmallIn (m .held .count) 32 (r .marks
   same-held = held-rows (sheetBy m) (m .held .count) r ∙ same (sheetBy m)
 
   pub within-stored : within m ≡ true → within stored ≡ true
-  unfolding within
-  within-stored e =
-      let v = sheetBy m in
-      let a = both (sheetWithin v) e in
-      let b = both (leb (m .instants) 4000) (a .1) in
-      let c = both (sized (m .held)) (sym (held-limits v (m .instants) (m .held .count) (m .held .remainders)) ∙ b .1) in
-      within-limits stored (≡→T (a .0)) (leb→le (m .instants) 4000 (≡→T (b .0))) (sized-rows (m .held .count) r small)
-      (subst (λ (o : Option (List Remainder)). T (all (withinLimits (m .sheet .clocks) (m .instants)) (live o))) (sym same-held) (≡→T (c .1)))
+  within-stored e = within-same (m .sheet) (m .instants) (m .tags) (m .held) (stored .held) same-held (sized-rows (m .held .count) r small) e
 
   pub follows-stored : {s : SheetValue} {run : List tesl.Instant} → Follows s run m → Follows s run stored
-  follows-stored f = record {
-    sheet = f .sheet;
-    instants = f .instants;
-    last = f .last;
-    said = ap saidBy same-held ∙ f .said;
-    held = rw same-held (f .held);
-    owed = rw same-held (f .owed);
-    limits = within-stored (f .limits);
-  }
+  follows-stored f = follows-same (m .sheet) (m .instants) (m .tags) (m .held) (stored .held) same-held (sized-rows (m .held .count) r small) f
 
 -- ---- what is within the limits of a monitor
 pub inside : {m : Monitor} {b : Bool} → Limited m b → not b ≡ false → Limited m true

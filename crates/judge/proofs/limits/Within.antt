@@ -1,12 +1,11 @@
 -- The limits of a monitor, in turn: its sheet's own, the instants, those held. Assumes nothing.
-use mathlib.Core.Bool.{Bool, true, false, and-false}
-use mathlib.Core.Path.{_≡_, refl, sym, ap, _∙_}
+use mathlib.Core.Bool.{Bool, true, false}
+use mathlib.Core.Path.{_≡_, refl, sym, _∙_}
 use Prim.Native.Nat.{ℕ, _≤_, _<_}
 use native.Mathlib.Omega.{arith}
-use lib.Dec.{T, leb, not-T, leb→le, le→leb}
+use lib.Dec.{leb, not-T, leb→le, le→leb}
 use lib.ListN.{length}
 use borrow.Author.Tests.{ltb-false}
-use Rattle.records.specs.declared.sheet.Sheet.{Sheet}
 use Rattle.records.specs.declared.record.Answer.{Answer}
 use Rattle.records.specs.declared.record.Answer.the-variants.{Done, Refused}
 use Rattle.records.specs.Outcome.{Outcome, taken, refused, decide}

@@ -10,33 +10,45 @@ use Rattle.records.specs.declared.sheet.Sheet.{Sheet}
 use Rattle.records.specs.Lists.{listedFrom, listed}
 use Rattle.records.specs.Sheet.{lineAt, sheetValue}
 use Rattle.records.proofs.Lists.{listed-cons, listed-end}
-use Rattle.tesl.specs.Lists.{all, below}
+use Rattle.tesl.specs.Lists.{all, any, below}
 use Rattle.theory.specs.Step.{linesOk}
 use Rattle.judge.specs.Lines.{leadIn}
 
--- ---- a question of each line: whether all answer yes is whether those from i on do
-module _ (p : Line → Bool) (s : Sheet) (n i : ℕ) where
+-- ---- a question of what stands at each of n places: whether all answer yes is whether those from i on do
+module _ {A : Type 0} (p : A → Bool) (at : ℕ → A) (n i : ℕ) where
   abbrev pub allFrom : Bool
-  allFrom = all p (listedFrom (lineAt s) i (n - i))
+  allFrom = all p (listedFrom at i (n - i))
 
-pub all-start : (p : Line → Bool) (s : Sheet) → all p (sheetValue s .lines) ≡ allFrom p s (s .count) 0
-all-start p s = let k : s .count - 0 ≡ s .count = omega arith in rw k
+  module _ {whole : Bool} (w : whole ≡ allFrom) where
+    pub all-end : n ≤ i → true ≡ whole
+    all-end h = sym (w ∙ rw (listed-end at n i h))
 
-module _ (p : Line → Bool) (s : Sheet) (n i : ℕ) {whole : Bool} (w : whole ≡ allFrom p s n i) where
-  pub all-end : n ≤ i → true ≡ whole
-  all-end h = sym (w ∙ rw (listed-end (lineAt s) n i h))
+    module _ (h : i < n) (x : A) (e : x ≡ at i) (r : Bool) (f : r ≡ p x) where
+      turn : whole ≡ (r && all p (listedFrom at (i + 1) (n - (i + 1))))
+      turn = w ∙ rw (listed-cons at n i h, f, e)
 
-  module _ (h : i < n) (l : Line) (e : l ≡ lineAt s i) (r : Bool) (f : r ≡ p l) where
-    turn : whole ≡ (r && allFrom p s n (i + 1))
-    turn = w ∙ rw (listed-cons (lineAt s) n i h, f, e)
+      pub all-no : r ≡ false → false ≡ whole
+      all-no g = sym (turn ∙ rw g)
 
-    pub all-no : r ≡ false → false ≡ whole
-    all-no g = sym (turn ∙ rw g)
+      pub all-more : r ≡ true → whole ≡ all p (listedFrom at (i + 1) (n - (i + 1)))
+      all-more g = turn ∙ rw g
 
-    pub all-more : r ≡ true → whole ≡ allFrom p s n (i + 1)
-    all-more g = turn ∙ rw g
+  -- and whether one answers yes is whether one from i on does
+  abbrev pub anyFrom : Bool
+  anyFrom = any p (listedFrom at i (n - i))
 
--- the same of each line and its lead
+  module _ {whole : Bool} (w : whole ≡ anyFrom) where
+    pub any-end : n ≤ i → false ≡ whole
+    any-end h = sym (w ∙ rw (listed-end at n i h))
+
+    module _ (h : i < n) (x : A) (e : x ≡ at i) where
+      pub any-yes : p x ≡ true → true ≡ whole
+      any-yes g = sym (w ∙ rw (listed-cons at n i h, ← e, g))
+
+      pub any-more : p x ≡ false → whole ≡ any p (listedFrom at (i + 1) (n - (i + 1)))
+      any-more g = w ∙ rw (listed-cons at n i h, ← e, g)
+
+-- ---- a question of each line and its lead
 module _ (ok : Line → ℕ → Bool) (s : Sheet) (leads : List ℕ) (n i : ℕ) where
   abbrev pub okFrom : Bool
   okFrom = linesOk ok (listedFrom (lineAt s) i (n - i)) (listedFrom (leadIn leads) i (n - i))

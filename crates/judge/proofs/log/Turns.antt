@@ -1,7 +1,7 @@
 -- The records of a log, observed one by one by a monitor in rows that changes sides at each instant. Assumes nothing.
 use mathlib.Core.Bool.{Bool, true, false, cond, not, true≢false}
 use mathlib.Core.List.{List}
-use mathlib.Core.Path.{_≡_, refl, sym, ap, _∙_, subst}
+use mathlib.Core.Path.{_≡_, refl, sym, _∙_, subst}
 use Prim.Native.Nat.{ℕ, _+_, _-_, _≤_, _<_}
 use native.Mathlib.Nat.{add-zero}
 use native.Mathlib.Omega.{arith}
@@ -12,11 +12,9 @@ use borrow.Author.Tests.{not-true}
 use Rattle.records.specs.declared.record.Record.{Record}
 use Rattle.records.specs.declared.record.Record.the-variants.{Whole}
 use Rattle.records.specs.declared.sheet.Sheet.{Sheet}
-use Rattle.records.specs.Outcome.{Outcome, taken, refused}
 use Rattle.records.specs.Record.{recordAt}
 use Rattle.records.specs.Types.{IsBytes}
 use Rattle.records.proofs.Lists.{both}
-use Rattle.tesl.specs.Run.{Instant}
 use Rattle.tesl.proofs.Tests.{≡→T}
 use Rattle.judge.specs.declared.answer.Answer as code
 use Rattle.judge.specs.declared.answer.Reply.{Reply}
@@ -30,9 +28,10 @@ use Rattle.judge.specs.Limits.{sheetWithin, within, Limited}
 use Rattle.judge.specs.Monitor.{sheetBy}
 use Rattle.judge.specs.Rows.{Rows, Roomy}
 use Rattle.judge.specs.Kept.{rowsMonitor, toldBy}
-use Rattle.judge.specs.Promises.{observes, Observed}
+use Rattle.judge.specs.Promises.{Observed}
 use Rattle.judge.specs.Log.{Concludes}
 use Rattle.judge.proofs.log.Laws.{Going, going-start, going-more}
+use Rattle.judge.proofs.monitor.InRows.{answered-within}
 
 -- what the loop keeps: what is left to conclude with the monitor m in one of two sets of arrays, which is within its limits
 pub record Turns (log : List ℕ) (m₀ : Monitor) (r₀ : Reply) (m : Monitor) (last : Reply) (n at : ℕ) (one two : Rows) (list : List Bool) : Type 0 where
@@ -52,17 +51,6 @@ module _ (log : List ℕ) (s : Sheet) (held : ℕ) (tags : List ℤ) (count : Co
 
   pub turns-start : within start ≡ true → Roomy one → Roomy two → length list ≡ 2048 → Turns log start r (rowsMonitor s (held + 0) tags count one) r 0 0 one two list
   turns-start e a b l = rw (add-zero held) (record { going = going-start log start r; limits = e; first = a; second = b; room = l })
-
--- an answer leaves the monitor within its limits
-answered-within : {m : Monitor} {bytes : List ℕ} {g : Given} → Observed m bytes g → {a : code.Answer} → g .reply ≡ reply.Answered a → within (g .monitor) ≡ true
-answered-within {m} {bytes} {g} o {a} p = by-outcome (observes m bytes) refl
-  where
-    by-outcome : (x : Outcome Instant) → observes m bytes ≡ x → within (g .monitor) ≡ true
-    by-outcome (taken i) e = o .accepts i e .limits
-    by-outcome (refused n) e =
-        let q : reply.Answered a ≡ reply.Refused n = sym p ∙ ap (λ (x : Given). x .reply) (o .refuses n e) in
-        let z : _≡_ {A = ℕ} 0 1 = cc in
-        absurd (omega arith)
 
 sides : (b : Bool) (x y : Rows) → cond b x y ≡ cond (not b) y x
 sides true x y = refl

@@ -4,7 +4,7 @@ use mathlib.Core.List.{List}
 use mathlib.Core.Path.{_≡_, refl, sym, ap, _∙_, subst}
 use Prim.Native.Nat.{ℕ, _≤_, _<_}
 use native.Mathlib.Omega.{arith}
-use lib.Dec.{T, leb, le→leb, leb→le, not-T}
+use lib.Dec.{leb, le→leb, leb→le, not-T}
 use lib.ListN.{length}
 use borrow.Author.Tests.{not-true, not-false}
 use Rattle.records.specs.declared.record.Answer.the-variants.{Done, Refused}
@@ -15,7 +15,6 @@ use Rattle.records.specs.Types.{All, IsBytes}
 use Rattle.records.proofs.Lists.{both, refused-taken}
 use Rattle.records.proofs.instant.RoundTrip.{read-writes}
 use Rattle.tesl.specs.Run.{Instant}
-use Rattle.tesl.specs.Machine.{unlessFull}
 use Rattle.tesl.proofs.Tests.{T→≡, ≡→T}
 use Rattle.theory.proofs.Lists.{F→≡}
 use Rattle.judge.specs.declared.remainder.Remainder as arrays

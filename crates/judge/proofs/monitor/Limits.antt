@@ -15,7 +15,6 @@ use Rattle.tesl.specs.Lists.{all}
 use Rattle.tesl.specs.Fits.{Obligation}
 use Rattle.tesl.specs.Remainder.{Remainder}
 use Rattle.tesl.proofs.Tests.{and-l, and-r, ≡→T, T→≡}
-use Rattle.theory.specs.Step.{wellFormed}
 use Rattle.theory.specs.Limits.{SheetLimits, clocksOk, dueOk, withinLimits}
 use Rattle.theory.proofs.Lists.{all-imp}
 use Rattle.theory.proofs.Opened.{checked-limits}

@@ -14,26 +14,25 @@ use Rattle.records.specs.declared.sheet.Sheet.{Sheet}
 use Rattle.records.specs.declared.instant.TickSlot.{TickSlot}
 use Rattle.records.specs.declared.instant.Tick.the-variants.{Idle}
 use Rattle.records.specs.Lists.{filled}
-use Rattle.records.specs.Outcome.{Outcome, taken, refused}
+use Rattle.records.specs.Outcome.{taken}
 use Rattle.records.specs.Sheet.{SheetValue, sheetValue}
-use Rattle.records.specs.Instant.{Cell, tickSlot, readInstant, instantOf}
-use Rattle.records.specs.Types.{All, IsBytes, IsSheet, IsInstant}
+use Rattle.records.specs.Instant.{Cell, tickSlot, instantOf}
+use Rattle.records.specs.Types.{All, IsInstant}
 use Rattle.tesl.specs.Lists.{all}
 use Rattle.tesl.specs.Run.{Instant, ticksOf, tagsOf}
 use Rattle.tesl.specs.Remainder.{Remainder, sameRemainder}
-use Rattle.tesl.specs.Answer.{Answer, exhausted, judged, answer}
+use Rattle.tesl.specs.Answer.{exhausted, judged, answer}
 use Rattle.theory.specs.Sets.{Covers}
 use Rattle.theory.specs.Held.{successors}
 use Rattle.theory.specs.Limits.{SheetLimits, withinLimits}
-use Rattle.theory.specs.Tracks.{State, Tracks, stateAfter, Finding, every}
+use Rattle.theory.specs.Tracks.{Tracks, Finding, every}
 use Rattle.theory.proofs.Limits.{successors-within}
 use Rattle.theory.proofs.Tracks.{tracks-exhausted, tracks-next}
-use Rattle.judge.specs.declared.remainder.Remainder as arrays
 use Rattle.judge.specs.declared.monitor.Monitor.{Monitor}
 use Rattle.judge.specs.declared.monitor.Given.{Given}
-use Rattle.judge.specs.View.{live, tagsBefore, seenOf, sized}
+use Rattle.judge.specs.View.{live, tagsBefore, seenOf}
 use Rattle.judge.specs.Work.{worked}
-use Rattle.judge.specs.Answer.{replyOf, saidBy}
+use Rattle.judge.specs.Answer.{saidBy}
 use Rattle.judge.specs.Limits.{sheetWithin, within}
 use Rattle.judge.specs.Monitor.{sheetBy, heldBy, lastBy, Accepts}
 use Rattle.judge.specs.Promises.{Follows, Accepted}

@@ -1,35 +1,55 @@
--- A turn of the loops over what is owed: what one obligation adds to it, and what an instant leaves of it. Assumes nothing.
+-- A turn of the loops over what is owed: what a line adds to it, and what an instant leaves of it. Assumes nothing.
 use mathlib.Core.Bool.{Bool, true, false, not, cond}
 use mathlib.Core.List.{List, [], _∷_, _++_, append-nil, append-assoc}
 use mathlib.Core.Option.{Option, none, some}
 use mathlib.Core.Path.{_≡_, sym, _∙_}
-use Prim.Native.Nat.{ℕ}
+use Prim.Native.Nat.{ℕ, _+_, _-_, _<_, _≤_}
 use native.Mathlib.Omega.{arith}
 use lib.Signed.{leZ}
 use borrow.Author.Tests.{not-true, not-false}
+use Rattle.records.specs.declared.line.Line.{Line}
+use Rattle.records.specs.Lists.{listedFrom, listed}
+use Rattle.records.proofs.Lists.{listed-cons, listed-end}
+use Rattle.tesl.specs.Lists.{flatMap}
 use Rattle.tesl.specs.Run.{Filled, tagIn}
 use Rattle.tesl.specs.Fits.{Obligation, meets, notLate}
 use Rattle.judge.specs.declared.obligation.Obligation as code
+use Rattle.judge.specs.declared.line.Begun.{Begun}
+use Rattle.judge.specs.declared.line.Begun.the-variants.{Nothing, Owed}
 use Rattle.judge.specs.declared.owed.Added.{Added}
-use Rattle.judge.specs.View.{obligationOf, owedIn, addedOf}
+use Rattle.judge.specs.View.{obligationOf, begunOf, owedIn, addedOf}
 use Rattle.judge.specs.Owed.{added, left, kept}
 use Rattle.judge.specs.Work.{onward, addedAll}
 
--- ---- all are added once the rest is added to what is owed so far
+-- ---- what lines begin: those from place i on
+module _ (begins : Line → List Obligation) (f : ℕ → Line) where
+  abbrev pub begunFrom : ℕ → ℕ → List Obligation
+  begunFrom n i = flatMap begins (listedFrom f i (n - i))
 
-module _ {whole : Option (List Obligation)} (q rest : List Obligation) (w : whole ≡ addedAll rest q) where
-  pub adding-end : rest ≡ [] → some q ≡ whole
-  adding-end e = sym (w ∙ rw e)
+  pub begun-start : (n : ℕ) → flatMap begins (listed f n) ≡ begunFrom n 0
+  begun-start n = let k : n - 0 ≡ n = omega arith in rw k
 
-  module _ (o : code.Obligation) (more : List Obligation) (e : rest ≡ obligationOf o ∷ more) (a : Added) (g : addedOf a ≡ added q (obligationOf o)) where
-    turn : whole ≡ onward (addedAll more) (addedOf a)
-    turn = w ∙ rw (e, g)
+  -- all is added once what they begin is added to what is owed so far
+  module _ (n i : ℕ) (q : List Obligation) {whole : Option (List Obligation)} (w : whole ≡ addedAll (begunFrom n i) q) where
+    pub adding-end : n ≤ i → some q ≡ whole
+    adding-end h = sym (w ∙ rw (listed-end f n i h))
 
-    pub adding-over : a .over ≡ true → addedOf a ≡ whole
-    adding-over t = sym (turn ∙ rw t)
+    module _ (h : i < n) (l : Line) (e : l ≡ f i) (b : Begun) (g : begunOf b ≡ begins l) where
+      turn : begunFrom n i ≡ begunOf b ++ begunFrom n (i + 1)
+      turn = rw (listed-cons f n i h, g, e)
 
-    pub adding-more : a .over ≡ false → whole ≡ addedAll more (owedIn (a .owed))
-    adding-more t = turn ∙ rw t
+      pub adding-nothing : b ≡ Nothing → whole ≡ addedAll (begunFrom n (i + 1)) q
+      adding-nothing k = w ∙ rw (turn, k)
+
+      module _ (o : code.Obligation) (k : b ≡ Owed o) {sum : Option (List Obligation)} (a : sum ≡ added q (obligationOf o)) where
+        one : whole ≡ onward (addedAll (begunFrom n (i + 1))) sum
+        one = w ∙ rw (turn, k, a)
+
+        pub adding-over : sum ≡ none → none ≡ whole
+        adding-over t = sym (one ∙ rw t)
+
+        pub adding-more : {os : List Obligation} → sum ≡ some os → whole ≡ addedAll (begunFrom n (i + 1)) os
+        adding-more t = one ∙ rw t
 
 -- what was added, where there was room
 pub added-owed : (a : Added) {os : List Obligation} → addedOf a ≡ some os → owedIn (a .owed) ≡ os

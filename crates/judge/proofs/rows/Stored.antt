@@ -1,104 +1,54 @@
--- Rows stored place by place: the row that is stored, and the rows before it, which stay. Assumes nothing.
+-- Rows stored one by one: the row that is stored, and the rows before it, which stay. Assumes nothing.
 use mathlib.Core.Bool.{Bool, true}
 use mathlib.Core.List.{List, [], _∷_, _++_, map}
 use mathlib.Core.Logic.{⊎-elim}
 use mathlib.Core.Option.{some}
 use mathlib.Core.Path.{_≡_, refl, sym, ap, subst, _∙_}
-use Prim.Native.Nat.{ℕ, _+_, _*_, _≤_, _<_}
+use Prim.Native.Nat.{ℕ, _+_, _≤_, _<_}
 use native.Mathlib.Nat.{eq-or-lt-of-le}
 use native.Mathlib.Numerals.{add-one}
 use native.Mathlib.Omega.{arith}
 use lib.Dec.{T, leb, le→leb}
-use lib.IntN.{ℤ, pos}
-use lib.ListN.{length, getD, set, take, length-set}
-use lib.Seq.{getD-set-same, getD-set-other, take-suc-set}
-use Rattle.records.specs.Lists.{listed}
+use lib.IntN.{ℤ}
+use lib.ListN.{length, getD, set, take}
+use lib.Seq.{take-suc-set}
 use Rattle.records.specs.Sheet.{SheetValue}
-use Rattle.tesl.specs.Fits.{Obligation}
+use Rattle.records.proofs.Lists.{listed-snoc}
 use Rattle.tesl.specs.Lists.{all}
 use Rattle.tesl.specs.Remainder.{Remainder}
 use Rattle.tesl.proofs.FormulaLists.{all-append}
 use Rattle.tesl.proofs.Tests.{and-i}
-use Rattle.judge.specs.declared.obligation.Obligation as code
 use Rattle.judge.specs.declared.remainder.Remainder as arrays
 use Rattle.judge.specs.declared.held.Count.{Count}
 use Rattle.judge.specs.declared.held.Count.the-variants.{Exhausted, Live}
-use Rattle.judge.specs.View.{obligationOf, firstOf, owedOf, remainderOf, cut, viewOf, heldIn, sizedIn}
-use Rattle.judge.specs.Rows.{Rows, rows, rowCount, rowObligation, rowOwed, rowLeads, rowStopped, rowOf, rowsOf, foundIn, Small, SmallIn}
+use Rattle.judge.specs.View.{owedOf, remainderOf, cut, viewOf, heldIn, sizedIn}
+use Rattle.judge.specs.Rows.{Rows, rows, rowCount, rowOwed, rowLeads, rowStopped, rowOf, rowsOf, foundIn, Small, SmallIn, OwedStays}
 use Rattle.judge.proofs.Places.{first-more, first-set, pastEnd}
-use Rattle.judge.proofs.Listing.{listed-same, listed-next, Kept, kept-set}
-use Rattle.judge.proofs.remainder.Laws.{blank}
-
--- ---- a row's obligations
-
-two-stores : {A : Type 0} (d : A) (l : List A) (p q r : ℕ) (a b : A) → (r ≡ p → ⊥) → (r ≡ q → ⊥) → getD (set (set l p a) q b) r d ≡ getD l r d
-two-stores d l p q r a b f g = getD-set-other (set l p a) q r b d g ∙ getD-set-other l p r a d f
-
-same-obligation : {c c′ o o′ : ℕ} {t t′ : ℤ} → c ≡ c′ → t ≡ t′ → o ≡ o′ → _≡_ {A = Obligation} (record { clock = c; due = t; on = o }) (record { clock = c′; due = t′; on = o′ })
-same-obligation a b c = rw (a, b, c)
-
--- the marks with those of obligation j of row i
-abbrev pub marked : List ℕ → ℕ → ℕ → code.Obligation → List ℕ
-marked m i j o = set (set m (17 * i + 1 + j) (o .clock)) (17 * i + 9 + j) (o .on)
-
-module _ (m : List ℕ) (ds : List ℤ) (i j : ℕ) (lm : length m ≡ 544) (ld : length ds ≡ 256) (hi : i < 32) (hj : j < 8) where
-  pub length-marked : (o : code.Obligation) → length (marked m i j o) ≡ 544
-  length-marked o = simp length-set lm
-
-  pub count-marked : (o : code.Obligation) → rowCount (marked m i j o) i ≡ rowCount m i
-  count-marked o = two-stores 0 m (17 * i + 1 + j) (17 * i + 9 + j) (17 * i) (o .clock) (o .on) (λ e. omega arith) (λ e. omega arith)
-
-  pub kept-marked : (o : code.Obligation) (was : List ℕ) → Kept 0 (17 * i) was m → Kept 0 (17 * i) was (marked m i j o)
-  kept-marked o was k = kept-set 0 (17 * i) (17 * i + 9 + j) (o .on) was (set m (17 * i + 1 + j) (o .clock)) (omega arith) (kept-set 0 (17 * i) (17 * i + 1 + j) (o .clock) was m (omega arith) k)
-
-  -- one more is stored
-  pub owed-more : (os : List code.Obligation) {t : ℤ} → j < length os → t ≡ getD os j blank .due → listed (rowObligation m ds i) j ≡ firstOf j os
-      → listed (rowObligation (marked m i j (getD os j blank)) (set ds (8 * i + j) t) i) (j + 1) ≡ firstOf (j + 1) os
-  owed-more os {t} l e w =
-      let o = getD os j blank in
-      let p = 17 * i + 1 + j in
-      let q = 17 * i + 9 + j in
-      listed-next j
-      (λ h k. same-obligation
-      (two-stores 0 m p q (17 * i + 1 + h) (o .clock) (o .on) (λ f. omega arith) (λ f. omega arith))
-      (getD-set-other ds (8 * i + j) (8 * i + h) t (pos 0) (λ f. omega arith))
-      (two-stores 0 m p q (17 * i + 9 + h) (o .clock) (o .on) (λ f. omega arith) (λ f. omega arith)))
-      (same-obligation
-      (getD-set-other (set m p (o .clock)) q p (o .on) 0 (λ f. omega arith) ∙ getD-set-same m p (o .clock) 0 (omega arith))
-      (getD-set-same ds (8 * i + j) t (pos 0) (omega arith) ∙ e)
-      (getD-set-same (set m p (o .clock)) q (o .on) 0 (omega (arith, length-set m p (o .clock)))))
-      w
-      ∙ sym (first-more obligationOf os blank j l)
-
--- the obligations of row h, before row i
-module _ (m m′ : List ℕ) (ds ds′ : List ℤ) (i : ℕ) (km : Kept 0 (17 * i) m m′) (kd : Kept (pos 0) (8 * i) ds ds′) (h : ℕ) (l : h < i) where
-  pub count-kept : rowCount m′ h ≡ rowCount m h
-  count-kept = km (17 * h) (omega arith)
-
-  pub owed-kept : rowCount m h ≤ 8 → rowOwed m′ ds′ h ≡ rowOwed m ds h
-  owed-kept s =
-      ap (λ (n : ℕ). listed (rowObligation m′ ds′ h) n) count-kept
-      ∙ listed-same (rowCount m h) (λ j k. same-obligation (km (17 * h + 1 + j) (omega arith)) (kd (8 * h + j) (omega arith)) (km (17 * h + 9 + j) (omega arith)))
+use Rattle.judge.proofs.Listing.{listed-same, listed-next}
 
 -- ---- a row stored, and the rows before it
 
-same-row : {o o′ : List Obligation} {l l′ : List ℕ} {s s′ : List Bool} → o ≡ o′ → l ≡ l′ → s ≡ s′ → _≡_ {A = Remainder} (record { owed = o; leads = l; stopped = s }) (record { owed = o′; leads = l′; stopped = s′ })
-same-row a b c = rw (a, b, c)
+pub small-more : (m : List ℕ) (i : ℕ) → Small i m → rowCount m i ≤ 8 → Small (i + 1) m
+small-more m i small s h l = ⊎-elim (λ (e : h ≡ i). rw e s) (λ (k : h < i). small h k) (eq-or-lt-of-le (omega arith))
+
+-- the rows before row i, where only that row is stored
+pub rows-stay : (i : ℕ) (O O′ : Rows) → Small i (O .marks) → OwedStays i (O .marks) (O .dues) (O′ .marks) (O′ .dues)
+    → ((h : ℕ) → h < i → rowLeads (O′ .leads) h ≡ rowLeads (O .leads) h) → ((h : ℕ) → h < i → rowStopped (O′ .stopped) h ≡ rowStopped (O .stopped) h)
+    → Small i (O′ .marks) × ((v : SheetValue) → rowsOf v i O′ ≡ rowsOf v i O)
+rows-stay i O O′ small owed leads stopped =
+    (λ h l. rw (owed h l (small h l) .0) (small h l), λ v. listed-same i (λ h l. rw (owed h l (small h l) .1, leads h l, stopped h l)))
 
 module _ (m m′ : List ℕ) (ds ds′ : List ℤ) (i : ℕ) (r : arrays.Remainder) (small : Small i m) (count : rowCount m′ i ≡ r .owed)
-    (before : (h : ℕ) → h < i → rowCount m h ≤ 8 → (rowCount m′ h ≡ rowCount m h) × (rowOwed m′ ds′ h ≡ rowOwed m ds h)) where
+    (before : OwedStays i m ds m′ ds′) where
   pub put-small : r .owed ≤ 8 → Small (i + 1) m′
-  put-small s h l = ⊎-elim (λ (e : h ≡ i). rw (e, count) s) (λ (k : h < i). rw (before h k (small h k) .0) (small h k)) (eq-or-lt-of-le (omega arith))
+  put-small s = small-more m′ i (rows-stay i (rows m ds [] []) (rows m′ ds′ [] []) small before (λ h l. refl) (λ h l. refl) .0) (rw count s)
 
   pub put-rows : (ls ls′ : List ℕ) (ss ss′ : List Bool) → rowOwed m′ ds′ i ≡ owedOf r
       → rowLeads ls′ i ≡ r .leads → ((h : ℕ) → h < i → rowLeads ls′ h ≡ rowLeads ls h)
       → rowStopped ss′ i ≡ r .stopped → ((h : ℕ) → h < i → rowStopped ss′ h ≡ rowStopped ss h)
       → (v : SheetValue) → rowsOf v (i + 1) (rows m′ ds′ ls′ ss′) ≡ rowsOf v i (rows m ds ls ss) ++ (viewOf v r ∷ [])
   put-rows ls ls′ ss ss′ o l lb s sb v =
-      listed-next i
-      (λ h k. ap (cut v) (same-row (before h k (small h k) .1) (lb h k) (sb h k)))
-      (ap (cut v) (same-row o l s))
-      refl
+      listed-snoc (λ h. cut v (rowOf (rows m′ ds′ ls′ ss′) h)) i ∙ rw (rows-stay i (rows m ds ls ss) (rows m′ ds′ ls′ ss′) small before lb sb .1 v, o, l, s)
 
 -- ---- an array of remainders
 module _ (v : SheetValue) (rs : List arrays.Remainder) (i : ℕ) where

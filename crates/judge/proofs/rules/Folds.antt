@@ -1,20 +1,17 @@
--- What the rules make of the stopped clocks, one after the other. Assumes nothing.
+-- What lines make of the stopped clocks, one after the other. Assumes nothing.
 use mathlib.Core.Bool.{Bool}
-use mathlib.Core.List.{List, [], _∷_, map}
+use mathlib.Core.List.{List, [], _∷_}
 use mathlib.Core.Path.{_≡_, refl, sym, _∙_}
-use Prim.Native.Nat.{ℕ, _+_, _<_, _≤_}
-use lib.ListN.{length, take, drop, getD}
+use Prim.Native.Nat.{ℕ, _+_, _-_, _<_, _≤_}
 use types.Run.{OneOf, miss}
 use denote.Enum.Declared.{tagOf}
 use Rattle.records.proofs.line.Line.{the-type}
 use Rattle.records.specs.declared.line.Line.{Line}
 use Rattle.records.specs.declared.line.Line.the-variants.{Sporadic, Relation, Implies, Excludes, Delayed, Weakly, Strictly, Kills}
-use Rattle.judge.specs.declared.rules.Rule.{Rule}
-use Rattle.judge.specs.Rules.{ruleLine}
+use Rattle.records.specs.Lists.{listedFrom}
+use Rattle.records.proofs.Lists.{listed-cons, listed-end}
 use Rattle.judge.specs.Carried.{barredBy}
-use Rattle.judge.proofs.Places.{rest-end, rest-cons}
 use Rattle.judge.proofs.line.Laws.{stopped-keys}
-use Rattle.judge.proofs.rules.Laws.{noRule}
 
 -- all but kills
 pub rest-barred : (ticks : List Bool) (l : Line) (barred : List Bool) → OneOf stopped-keys (tagOf the-type l) → barred ≡ barredBy ticks l barred
@@ -27,14 +24,10 @@ rest-barred ticks (Delayed A B D d) barred h = refl
 rest-barred ticks (Weakly A B) barred h = refl
 rest-barred ticks (Strictly A B) barred h = refl
 
--- the lines of the first n rules, from place i on
-abbrev pub rulesFrom : List Rule → ℕ → ℕ → List Line
-rulesFrom rules n i = drop i (map ruleLine (take n rules))
-
--- what all rules make of a value is what those from i on make of x
-module _ {A : Type 0} (step : Line → A → A) (fold : List Line → A → A) (none : (x : A) → fold [] x ≡ x) (more : (l : Line) (ls : List Line) (x : A) → fold (l ∷ ls) x ≡ fold ls (step l x)) (rules : List Rule) (n i : ℕ) (x : A) {whole : A} (w : whole ≡ fold (rulesFrom rules n i) x) where
+-- what all lines make of a value is what those from i on make of x
+module _ {A : Type 0} (step : Line → A → A) (fold : List Line → A → A) (none : (x : A) → fold [] x ≡ x) (more : (l : Line) (ls : List Line) (x : A) → fold (l ∷ ls) x ≡ fold ls (step l x)) (at : ℕ → Line) (n i : ℕ) (x : A) {whole : A} (w : whole ≡ fold (listedFrom at i (n - i)) x) where
   pub fold-end : n ≤ i → x ≡ whole
-  fold-end h = sym (w ∙ rw (rest-end ruleLine rules n i h) (none x))
+  fold-end h = sym (w ∙ rw (listed-end at n i h) (none x))
 
-  pub fold-more : i < n → n ≤ length rules → (l : Line) → l ≡ ruleLine (getD rules i noRule) → (after : A) → after ≡ step l x → whole ≡ fold (rulesFrom rules n (i + 1)) after
-  fold-more h k l e after f = w ∙ rw (rest-cons ruleLine rules n i noRule h k, f, e) (more _ _ x)
+  pub fold-more : i < n → (l : Line) → l ≡ at i → (after : A) → after ≡ step l x → whole ≡ fold (listedFrom at (i + 1) (n - (i + 1))) after
+  fold-more h l e after f = w ∙ rw (listed-cons at n i h, f, e) (more _ _ x)

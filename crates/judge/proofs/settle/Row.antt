@@ -6,7 +6,7 @@ use Prim.Native.Nat.{ℕ, _+_, _-_, _<_, _≤_}
 use native.Mathlib.Omega.{arith}
 use lib.Dec.{T, leb}
 use lib.IntN.{ℤ}
-use lib.ListN.{length, getD, replicate, take}
+use lib.ListN.{getD, replicate, take}
 use borrow.Author.Tests.{not-true, not-false}
 use Rattle.records.specs.Sheet.{SheetValue}
 use Rattle.records.proofs.Lists.{length-listed}
@@ -14,34 +14,29 @@ use Rattle.tesl.specs.Lists.{below, filter, flatMap}
 use Rattle.tesl.specs.Fits.{Obligation, owedFrom}
 use Rattle.tesl.specs.Remainder.{Remainder}
 use Rattle.theory.specs.Step.{linesOk, nextLeads, wellFormed}
-use Rattle.judge.specs.declared.owed.Added.{Added}
-use Rattle.judge.specs.declared.owed.Kept.{Kept}
-use Rattle.judge.specs.declared.remainder.Remainder as arrays
 use Rattle.judge.specs.Advanced.{Advanced, fails, over, onto}
-use Rattle.judge.specs.View.{filledOf, inUse, cut, owedOf, owedIn, addedOf, keptOf, viewOf}
+use Rattle.judge.specs.View.{filledOf, inUse, cut}
 use Rattle.judge.specs.Questions.{carriedHolds, leadAfter}
 use Rattle.judge.specs.Lines.{allStopped, smallLeads}
-use Rattle.judge.specs.Once.{onceEach}
 use Rattle.judge.specs.Owed.{owing, kept}
-use Rattle.judge.specs.Rules.{isRule}
+use Rattle.judge.specs.Plan.{isRule}
 use Rattle.judge.specs.Carried.{allBarred, overlap, either, needOf, gainOf, lossOf}
-use Rattle.judge.specs.Rows.{Rows, Leading, rowOwed, rowLead, rowLeads, rowStop, rowStopped, rowOf}
+use Rattle.judge.specs.Rows.{Rows, Leading, rowOwed, rowLead, rowLeads, rowStop, rowStopped, rowOf, provided}
 use Rattle.judge.specs.Work.{addedAll, carried, withBegun, withKept, advanced}
 use Rattle.judge.proofs.Below.{below-ext}
 use Rattle.judge.proofs.work.Carried.{sheetLine, carried-holds, carried-stopped, carried-leads, small-gain}
 use Rattle.judge.proofs.Listing.{listed-at}
 
 -- what was computed of a filling is what the sheet's lines make of it
-pub record Asked (v : SheetValue) (clocks reach : ℕ) (precede ticks : List Bool) (tags : List ℤ) (begun : List Obligation) (barred stops : List Bool) (needs gains losses : List ℕ) : Type 0 where
+pub record Asked (v : SheetValue) (clocks reach : ℕ) (precede ticks : List Bool) (tags : List ℤ) (begun : List Obligation) (barred stops : List Bool) (asks : List ℕ) : Type 0 where
   pub as-many : v .clocks ≡ clocks
   pub few-clocks : v .clocks ≤ 8
-  pub few-lines : length (v .lines) ≤ 16
   pub well : T (wellFormed v)
   pub leading : Leading v reach precede
-  pub begins : begun ≡ onceEach (flatMap (owedFrom (filledOf ticks tags)) (v .lines))
+  pub begins : begun ≡ flatMap (owedFrom (filledOf ticks tags)) (v .lines)
   pub bars : barred ≡ allBarred ticks (filter isRule (v .lines)) (replicate 8 false)
   pub ends : stops ≡ allStopped ticks (filter isRule (v .lines)) (replicate 8 false)
-  pub moves : (k : ℕ) → k < reach → (getD needs k 0 ≡ needOf ticks (sheetLine v k)) × ((getD gains k 0 ≡ gainOf ticks (sheetLine v k)) × (getD losses k 0 ≡ lossOf ticks (sheetLine v k)))
+  pub moves : (k : ℕ) → k < reach → (getD asks k 0 ≡ needOf ticks (sheetLine v k)) × ((getD asks (16 + k) 0 ≡ gainOf ticks (sheetLine v k)) × (getD asks (32 + k) 0 ≡ lossOf ticks (sheetLine v k)))
 
 -- one more tick leaves a row's lead in 16 bits
 pub row-gain : (v : SheetValue) (ticks : List Bool) (R : Rows) (i : ℕ) → T (smallLeads (cut v (rowOf R i))) → (k : ℕ) → k < 16 → rowLead (R .leads) i k < 65536 → {gain : ℕ} → gain ≡ gainOf ticks (sheetLine v k) → rowLead (R .leads) i k + gain < 65536
@@ -49,8 +44,8 @@ row-gain v ticks R i t k h fits {gain} e =
     let at = listed-at (rowLead (R .leads) i) 0 16 k h in
     omega (arith, small-gain v ticks (rowOf R i) t k (omega (arith, at, fits)), at, e)
 
-module _ {v : SheetValue} {clocks reach : ℕ} {precede ticks : List Bool} {tags : List ℤ} {begun : List Obligation} {barred stops : List Bool} {needs gains losses : List ℕ}
-    (a : Asked v clocks reach precede ticks tags begun barred stops needs gains losses) (R : Rows) (i : ℕ) where
+module _ {v : SheetValue} {clocks reach : ℕ} {precede ticks : List Bool} {tags : List ℤ} {begun : List Obligation} {barred stops : List Bool} {asks : List ℕ}
+    (a : Asked v clocks reach precede ticks tags begun barred stops asks) (R : Rows) (i : ℕ) where
   abbrev row : Remainder
   row = cut v (rowOf R i)
 
@@ -59,15 +54,15 @@ module _ {v : SheetValue} {clocks reach : ℕ} {precede ticks : List Bool} {tags
   became = advanced v (filledOf ticks tags) begun row
 
   abbrev enough : Bool
-  enough = below reach (λ (k : ℕ). leb (getD needs k 0) (rowLead (R .leads) i k))
+  enough = below reach (λ (k : ℕ). leb (getD asks k 0) (rowLead (R .leads) i k))
 
-  lead-at : (k : ℕ) → k < reach → getD (rowLeads (R .leads) i) k 0 ≡ rowLead (R .leads) i k
-  lead-at k h = let r = a .leading .0 in listed-at (rowLead (R .leads) i) 0 16 k (omega arith)
+  lead-at : (leads : List ℕ) (j k : ℕ) → k < reach → getD (rowLeads leads j) k 0 ≡ rowLead leads j k
+  lead-at leads j k h = let r = a .leading .0 in listed-at (rowLead leads j) 0 16 k (omega arith)
 
   holds : linesOk (carriedHolds ticks (row .stopped)) (v .lines) (row .leads) ≡ (not (overlap barred (rowStopped (R .stopped) i)) && enough)
   holds =
       carried-holds v ticks reach precede (a .leading) (rowLeads (R .leads) i) (a .well) (a .few-clocks) (rowStopped (R .stopped) i)
-      ∙ ap₂ (λ (bs : List Bool) (b : Bool). not (overlap bs (rowStopped (R .stopped) i)) && b) (sym (a .bars)) (below-ext reach _ _ (λ k h. ap₂ leb (sym (a .moves k h .0)) (lead-at k h)))
+      ∙ ap₂ (λ (bs : List Bool) (b : Bool). not (overlap bs (rowStopped (R .stopped) i)) && b) (sym (a .bars)) (below-ext reach _ _ (λ k h. ap₂ leb (sym (a .moves k h .0)) (lead-at (R .leads) i k h)))
 
   -- a stopped clock ticks; a lead is too short
   module _ {b : Bool} (e : b ≡ overlap barred (rowStopped (R .stopped) i)) where
@@ -84,35 +79,36 @@ module _ {v : SheetValue} {clocks reach : ℕ} {precede ticks : List Bool} {tags
       row-short u = by-leads ∙ rw (not-true h u)
 
       -- an obligation is late; there is no room for one
-      module _ (u : not h ≡ false) (k : Kept) (m : keptOf k ≡ kept (filledOf ticks tags) (rowOwed (R .marks) (R .dues) i)) where
-        by-kept : became ≡ withKept v ticks begun row (keptOf k)
+      module _ (u : not h ≡ false) (k : Bool) (left : List Obligation) (m : provided k left ≡ kept (filledOf ticks tags) (rowOwed (R .marks) (R .dues) i)) where
+        by-kept : became ≡ withKept v ticks begun row (provided k left)
         by-kept = by-leads ∙ rw (not-false h u, m)
 
-        pub row-late : k .late ≡ true → became ≡ fails
-        row-late l = by-kept ∙ rw l
+        pub row-late : not k ≡ true → became ≡ fails
+        row-late l = by-kept ∙ rw (not-true k l)
 
-        module _ (l : k .late ≡ false) (o : Added) (n : addedOf o ≡ addedAll begun (owedIn (k .owed))) where
-          by-added : became ≡ withBegun v ticks row (addedOf o)
-          by-added = by-kept ∙ rw (l, n)
+        module _ (l : not k ≡ false) (o : Bool) (owed : List Obligation) (n : provided o owed ≡ addedAll begun left) where
+          by-added : became ≡ withBegun v ticks row (provided o owed)
+          by-added = by-kept ∙ rw (not-false k l, n)
 
-          pub row-over : o .over ≡ true → became ≡ over
-          row-over q = by-added ∙ rw q
+          pub row-over : not o ≡ true → became ≡ over
+          row-over q = by-added ∙ rw (not-true o q)
 
-          -- the row goes on
-          pub row-onto : o .over ≡ false → (x : arrays.Remainder) → owedOf x ≡ owedIn (o .owed) → ((k : ℕ) → k < reach → getD (x .leads) k 0 ≡ rowLead (R .leads) i k + getD gains k 0 - getD losses k 0) → x .stopped ≡ either (rowStopped (R .stopped) i) stops
-              → became ≡ onto (viewOf v x)
-          row-onto q x owed leads stopped = goes ∙ ap onto (sym (ap₂ (λ (ns : List ℕ) (bs : List Bool). record { owed = owedOf x; leads = ns; stopped = bs }) on-leads on-stopped ∙ ap (λ (os : List Obligation). carried v ticks (owing os row)) owed))
+          -- the row goes on to row j, where that is what it owes
+          pub row-onto : not o ≡ false → (leads : List ℕ) (stopped : List Bool) (j : ℕ)
+              → ((k : ℕ) → k < reach → rowLead leads j k ≡ rowLead (R .leads) i k + getD asks (16 + k) 0 - getD asks (32 + k) 0) → rowStopped stopped j ≡ either (rowStopped (R .stopped) i) stops
+              → became ≡ onto (cut v (record { owed = owed; leads = rowLeads leads j; stopped = rowStopped stopped j }))
+          row-onto q leads stopped j moves stops′ = goes ∙ ap onto (sym (ap₂ (λ (ns : List ℕ) (bs : List Bool). record { owed = owed; leads = ns; stopped = bs }) on-leads on-stopped))
             where
-              goes : became ≡ onto (carried v ticks (owing (owedIn (o .owed)) row))
-              goes = by-added ∙ rw q
+              goes : became ≡ onto (carried v ticks (owing owed row))
+              goes = by-added ∙ rw (not-false o q)
 
-              moved : (k : ℕ) → k < reach → getD (x .leads) k 0 ≡ getD (rowLeads (R .leads) i) k 0 + gainOf ticks (sheetLine v k) - lossOf ticks (sheetLine v k)
-              moved k h = leads k h ∙ rw (lead-at k h, sym (a .moves k h .1 .0), sym (a .moves k h .1 .1))
+              moved : (k : ℕ) → k < reach → getD (rowLeads leads j) k 0 ≡ getD (rowLeads (R .leads) i) k 0 + gainOf ticks (sheetLine v k) - lossOf ticks (sheetLine v k)
+              moved k h = lead-at leads j k h ∙ moves k h ∙ rw (lead-at (R .leads) i k h, sym (a .moves k h .1 .0), sym (a .moves k h .1 .1))
 
-              on-leads : nextLeads inUse (v .lines) (x .leads) ≡ nextLeads (leadAfter ticks) (v .lines) (row .leads)
-              on-leads = carried-leads v ticks reach precede (a .leading) (rowLeads (R .leads) i) (x .leads) moved
+              on-leads : nextLeads inUse (v .lines) (rowLeads leads j) ≡ nextLeads (leadAfter ticks) (v .lines) (row .leads)
+              on-leads = carried-leads v ticks reach precede (a .leading) (rowLeads (R .leads) i) (rowLeads leads j) moved
 
-              on-stopped : take (v .clocks) (x .stopped) ≡ allStopped ticks (v .lines) (row .stopped)
+              on-stopped : take (v .clocks) (rowStopped stopped j) ≡ allStopped ticks (v .lines) (row .stopped)
               on-stopped =
-                  ap (take (v .clocks)) (stopped ∙ ap (either (rowStopped (R .stopped) i)) (a .ends))
+                  ap (take (v .clocks)) (stops′ ∙ ap (either (rowStopped (R .stopped) i)) (a .ends))
                   ∙ carried-stopped v ticks (rowStopped (R .stopped) i) (length-listed (rowStop (R .stopped) i) 8)

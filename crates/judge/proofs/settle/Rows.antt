@@ -1,18 +1,16 @@
--- Rows settled from row i on, and fillings taken from filling f on. Assumes nothing.
+-- Rows settled from row i on, each in the row after those found, and fillings taken from filling f on. Assumes nothing.
 use mathlib.Core.Bool.{Bool, true, false}
-use mathlib.Core.List.{List, [], _∷_, _++_}
+use mathlib.Core.List.{List, [], _∷_}
 use mathlib.Core.Option.{Option, none, some}
 use mathlib.Core.Path.{_≡_, refl, sym, ap, _∙_}
 use Prim.Native.Nat.{ℕ, _+_, _-_, _<_, _≤_}
 use native.Mathlib.Omega.{arith}
 use lib.Dec.{T}
 use lib.IntN.{ℤ}
-use lib.ListN.{length}
 use borrow.Author.Tests.{lt-ltb, le-ltb}
-use Rattle.records.specs.declared.sheet.Sheet.{Sheet}
 use Rattle.records.specs.Lists.{listedFrom}
-use Rattle.records.specs.Sheet.{SheetValue, lineAt, sheetValue}
-use Rattle.records.proofs.Lists.{length-listed, listed-cons, listed-end}
+use Rattle.records.specs.Sheet.{SheetValue}
+use Rattle.records.proofs.Lists.{length-listed, listed-cons, listed-end, listed-snoc}
 use Rattle.tesl.specs.Lists.{all, any, flatMap}
 use Rattle.tesl.specs.Run.{Filled}
 use Rattle.tesl.specs.Fits.{Obligation, owedFrom}
@@ -22,20 +20,15 @@ use Rattle.judge.specs.declared.held.Count.the-variants.{Exhausted, Live
 use Rattle.judge.specs.Advanced.{Advanced, fails, over, onto}
 use Rattle.judge.specs.View.{filledOf, cut}
 use Rattle.judge.specs.Lines.{smallLeads}
-use Rattle.judge.specs.Once.{onceEach}
 use Rattle.judge.specs.Work.{sameCounted, inserted, took, advanced, settledAll}
 use Rattle.judge.specs.Fillings.{flagsIn, fillingsIn, takenBy, settling}
 use Rattle.judge.specs.Rows.{Rows, rowOf, rowsOf, foundIn}
 use Rattle.judge.proofs.Listing.{one-of}
 use Rattle.judge.proofs.work.Heed.{took-none}
-use Rattle.judge.proofs.work.Once.{settled-once}
 
 -- ---- a row
 pub row-small : (v : SheetValue) (R : Rows) (n i : ℕ) → i < n → T (all smallLeads (rowsOf v n R)) → T (smallLeads (cut v (rowOf R i)))
 row-small v R n i h t = one-of (λ k. cut v (rowOf R k)) smallLeads n t i h
-
-pub few-lines : (s : Sheet) → s .count ≤ 16 → length (sheetValue s .lines) ≤ 16
-few-lines s h = omega (arith, length-listed (lineAt s) (s .count))
 
 -- ---- once exhausted, it stays so
 settled-none : (room : ℕ) (v : SheetValue) (f : Filled) (begun : List Obligation) (rs : List Remainder) → settledAll room v f begun rs none ≡ none
@@ -48,14 +41,17 @@ module _ (room : ℕ) (v : SheetValue) (f : Filled) (begun : List Obligation) (R
   abbrev pub settledFrom : ℕ → Option (List Remainder) → Option (List Remainder)
   settledFrom i = settledAll room v f begun (listedFrom (λ k. cut v (rowOf R k)) i (n - i))
 
-  -- each obligation begun once is all of them
-  pub settled-start : begun ≡ onceEach (flatMap (owedFrom f) (v .lines)) → (found : Option (List Remainder)) → settledAll room v f (flatMap (owedFrom f) (v .lines)) (rowsOf v n R) found ≡ settledFrom 0 found
-  settled-start e found = let z : n - 0 ≡ n = omega arith in rw (z, e) (sym (settled-once v f (flatMap (owedFrom f) (v .lines)) room (rowsOf v n R) found))
+  pub settled-start : begun ≡ flatMap (owedFrom f) (v .lines) → (found : Option (List Remainder)) → settledAll room v f (flatMap (owedFrom f) (v .lines)) (rowsOf v n R) found ≡ settledFrom 0 found
+  settled-start e found = let z : n - 0 ≡ n = omega arith in rw (z, e)
 
   module _ (i : ℕ) (O : Rows) (live : ℕ) {whole : Option (List Remainder)} (w : whole ≡ settledFrom i (some (rowsOf v live O))) where
     pub settled-end : n ≤ i → some (rowsOf v live O) ≡ whole
     unfolding settledAll
     settled-end h = sym (w ∙ rw (listed-end (λ k. cut v (rowOf R k)) n i h))
+
+    -- in arrays where the rows found stay
+    pub settled-stays : (O′ : Rows) → rowsOf v live O′ ≡ rowsOf v live O → whole ≡ settledFrom i (some (rowsOf v live O′))
+    settled-stays O′ e = w ∙ rw e
 
     -- what became of the row
     module _ (h : i < n) where
@@ -72,18 +68,20 @@ module _ (room : ℕ) (v : SheetValue) (f : Filled) (begun : List Obligation) (R
       pub settled-over : advanced v f begun (cut v (rowOf R i)) ≡ over → none ≡ whole
       settled-over g = gone (turned over g)
 
-      module _ {x : Remainder} (g : advanced v f begun (cut v (rowOf R i)) ≡ onto x) {b : Bool} (m : b ≡ any (sameCounted x) (rowsOf v live O)) where
+      -- it is built in the row after those found
+      module _ (g : advanced v f begun (cut v (rowOf R i)) ≡ onto (cut v (rowOf O live))) {b : Bool} (m : b ≡ any (sameCounted (cut v (rowOf O live))) (rowsOf v live O)) where
         pub settled-there : b ≡ true → whole ≡ settledFrom (i + 1) (some (rowsOf v live O))
         unfolding inserted
-        settled-there t = turned (onto x) g ∙ rw (sym m, t)
+        settled-there t = turned (onto (cut v (rowOf O live))) g ∙ rw (sym m, t)
 
         pub settled-full : b ≡ false → room ≤ live → none ≡ whole
         unfolding inserted
-        settled-full t k = gone (turned (onto x) g ∙ rw (sym m, t, length-listed (λ k. cut v (rowOf O k)) live, le-ltb live room k))
+        settled-full t k = gone (turned (onto (cut v (rowOf O live))) g ∙ rw (sym m, t, length-listed (λ k. cut v (rowOf O k)) live, le-ltb live room k))
 
-        pub settled-more : b ≡ false → live < room → (next : List Remainder) → next ≡ rowsOf v live O ++ (x ∷ []) → whole ≡ settledFrom (i + 1) (some next)
+        pub settled-more : b ≡ false → live < room → whole ≡ settledFrom (i + 1) (some (rowsOf v (live + 1) O))
         unfolding inserted
-        settled-more t k next p = turned (onto x) g ∙ rw (sym m, t, length-listed (λ k. cut v (rowOf O k)) live, lt-ltb live room k, p)
+        settled-more t k =
+            turned (onto (cut v (rowOf O live))) g ∙ rw (sym m, t, length-listed (λ k. cut v (rowOf O k)) live, lt-ltb live room k, listed-snoc (λ k. cut v (rowOf O k)) live)
 
 -- ---- a turn of the loop over the fillings
 module _ (room : ℕ) (v : SheetValue) (tags : List ℤ) (rs : List Remainder) (list : List Bool) (m : ℕ) where

@@ -22,7 +22,7 @@ use Rattle.theory.proofs.Lists.{table-ext}
 use Rattle.judge.specs.View.{inUse, cut}
 use Rattle.judge.specs.Questions.{tickIn, carriedHolds, leadAfter, stoppedAfter}
 use Rattle.judge.specs.Lines.{allStopped, smallLeads}
-use Rattle.judge.specs.Rules.{isRule}
+use Rattle.judge.specs.Plan.{isRule}
 use Rattle.judge.specs.Rows.{isPrecedes, Leading}
 use Rattle.judge.specs.Carried.{barredBy, allBarred, overlap, either, needOf, gainOf, lossOf}
 use Rattle.judge.proofs.Below.{below-front, below-either}

@@ -1,12 +1,11 @@
 -- What an instant makes of the remainders held, by its listed fillings: those that the rules allow, at most 256. Assumes nothing.
 use mathlib.Core.Bool.{Bool, true, false, cond, _&&_}
-use mathlib.Core.List.{List, [], _∷_, _++_, map}
-use mathlib.Core.Option.{Option, some}
-use mathlib.Core.Path.{_≡_, refl, sym, ap, subst, _∙_}
+use mathlib.Core.List.{List, [], _∷_, _++_}
+use mathlib.Core.Option.{Option, none, some}
+use mathlib.Core.Path.{_≡_, refl, sym, ap, _∙_}
 use Prim.Native.Nat.{ℕ, zero, suc, _+_, _<_, _≤_}
 use native.Mathlib.Nat.{zero-add, le-trans}
 use native.Mathlib.Omega.{arith}
-use lib.Dec.{T}
 use lib.IntN.{ℤ, pos}
 use lib.ListN.{length, set, replicate, take, length-append, length-map, length-take, length-replicate}
 use Rattle.records.specs.declared.instant.Tick.{Tick}
@@ -21,17 +20,15 @@ use Rattle.tesl.specs.Fits.{noneFalls}
 use Rattle.tesl.specs.Remainder.{Remainder}
 use Rattle.judge.specs.declared.held.Count.{Count}
 use Rattle.judge.specs.declared.held.Count.the-variants.{Exhausted, Live}
-use Rattle.judge.specs.declared.held.Held.{Held}
-use Rattle.judge.specs.View.{cut, viewOf, heldOf, liveOf, live, seenOf}
+use Rattle.judge.specs.View.{cut, seenOf}
 use Rattle.judge.specs.Questions.{tagsHold}
-use Rattle.judge.specs.Lines.{smallLeads}
-use Rattle.judge.specs.Rules.{isRule, allowed}
+use Rattle.judge.specs.Plan.{isRelation, isRule}
+use Rattle.judge.specs.Rules.{allowed}
 use Rattle.judge.specs.Fillings.{fillingsFrom, fillingsIn, takenBy, settling}
-use Rattle.judge.specs.Rows.{Rows, rows, Roomy, rowOf, rowsOf, SmallIn}
+use Rattle.judge.specs.Rows.{Rows, rows, Roomy, rowOf, rowsOf, foundIn}
 use Rattle.judge.specs.Heed.{rowsClocks, heeds, heeded}
 use Rattle.judge.specs.Work.{filling, fillFrom, worked}
-use Rattle.judge.proofs.held.Laws.{held-live}
-use Rattle.judge.proofs.rules.Laws.{rules-enough}
+use Rattle.judge.proofs.plan.Parts.{relations-enough, rules-enough}
 use Rattle.judge.proofs.work.Heed.{heeded-enough}
 
 -- ---- the fillings, one after the other
@@ -93,62 +90,54 @@ module _ (room : ℕ) (v : SheetValue) (tags : List ℤ) (rs : List Remainder) w
   filled-listed : (seen : List Tick) (ticks : List Bool) (found : Option (List Remainder)) → fillFrom (filling room v tags rs) 0 seen ticks found ≡ takenBy (settling room v tags rs) (filter (allowed (filter isRule (v .lines))) (fillingsFrom 0 seen ticks)) found
   filled-listed seen ticks found = fill-taken (filling room v tags rs) 0 seen ticks found ∙ taken-filter (filling room v tags rs) (settling room v tags rs) (allowed (filter isRule (v .lines))) filling-allowed (fillingsFrom 0 seen ticks) found
 
-module _ (room : ℕ) (v : SheetValue) (last : Option (List ℤ)) (seen : List Tick) (tags : List ℤ) where
-  abbrev fit : Bool
-  fit = noneFalls (v .clocks) last tags && all (tagsHold tags) (v .lines)
+module _ (room : ℕ) (v : SheetValue) (last : Option (List ℤ)) (ticks : List TickSlot) (tags : List ℤ) where
+  abbrev seen : List Tick
+  seen = seenOf (v .clocks) ticks
 
-  pub work-exhausted : (h : Held) → h .count ≡ Exhausted → heldOf v h ≡ worked room v last seen tags (heldOf v h)
-  unfolding worked
-  work-exhausted h e = rw e
-
-  work-some : (rs : List Remainder) → 0 < length rs → worked room v last seen tags (some rs) ≡ cond fit (fillFrom (filling room v tags rs) 0 seen (replicate 8 false) (some [])) (some [])
+  work-some : (rs : List Remainder) → 0 < length rs
+      → worked room v last seen tags (some rs)
+      ≡ cond (noneFalls (v .clocks) last tags && all (tagsHold tags) (v .lines)) (fillFrom (filling room v tags rs) 0 seen (replicate 8 false) (some [])) (some [])
   unfolding worked
   work-some [] h = absurd (omega arith)
   work-some (r ∷ rs) h = refl
 
-  module _ (n : ℕ) (r : Rows) where
+  module _ (count : Count) (r : Rows) where
     abbrev after : Option (List Remainder)
-    after = worked room v last seen tags (some (rowsOf v n r))
+    after = worked room v last seen tags (foundIn v count r)
 
-    many : length (rowsOf v n r) ≡ n
-    many = length-listed (λ i. cut v (rowOf r i)) n
+    pub work-exhausted : count ≡ Exhausted → none ≡ after
+    unfolding worked
+    work-exhausted e = rw e
 
-    pub work-broken : n ≡ 0 → (out : Rows) → some (rowsOf v 0 out) ≡ after
-    unfolding worked listedFrom
-    work-broken z out = rw z
+    module _ {n : ℕ} (e : count ≡ Live n) where
+      pub work-broken : n ≡ 0 → (out : Rows) → some (rowsOf v 0 out) ≡ after
+      unfolding worked listedFrom
+      work-broken z out = rw (e, z)
 
-    module _ (z : n ≡ 0 → ⊥) {q : Bool} (f : q ≡ fit) where
-      pub work-no : q ≡ false → (out : Rows) → some (rowsOf v 0 out) ≡ after
-      unfolding listedFrom
-      work-no g out = sym (work-some (rowsOf v n r) (omega (arith, z, many)) ∙ rw (sym f, g))
+      -- the tags by the relations alone
+      module _ (z : n ≡ 0 → ⊥) {clocks : ℕ} (c : clocks ≡ v .clocks) {relations : List Line} (d : relations ≡ filter isRelation (v .lines)) {q : Bool}
+          (f : q ≡ (noneFalls clocks last tags && all (tagsHold tags) relations)) where
+        by-tags : {b : Bool} → q ≡ b → after ≡ cond b (fillFrom (filling room v tags (rowsOf v n r)) 0 seen (replicate 8 false) (some [])) (some [])
+        by-tags g =
+            let fit : (noneFalls (v .clocks) last tags && all (tagsHold tags) (v .lines)) ≡ q = sym (f ∙ rw (c, d, relations-enough tags (v .lines))) in
+            let many : 0 < length (rowsOf v n r) = omega (arith, z, length-listed (λ i. cut v (rowOf r i)) n) in
+            rw e (work-some (rowsOf v n r) many ∙ rw (fit, g))
 
-      pub work-yes : q ≡ true → {left : List Tick} → left ≡ heeded (heeds (v .lines) (rowsClocks (r .marks) n)) 0 seen → {rules : List Line} → rules ≡ filter isRule (v .lines)
-          → (list : List Bool) {fillings : List (List Bool)} → fillings ≡ fillingsIn list 0 ++ filter (allowed rules) (fillingsFrom 0 left (replicate 8 false))
-          → {found : Option (List Remainder)} → found ≡ takenBy (settling room v tags (rowsOf v n r)) fillings (some []) → found ≡ after
-      unfolding listedFrom
-      work-yes g s e list l p =
-          p
-          ∙ rw (l, s, e)
-          (sym
-          (work-some (rowsOf v n r) (omega (arith, z, many))
-          ∙ rw (sym f, g)
-          (heeded-enough room v tags n r seen (replicate 8 false) (some []) ∙ filled-listed room v tags (rowsOf v n r) (heeded (heeds (v .lines) (rowsClocks (r .marks) n)) 0 seen) (replicate 8 false) (some []))))
+        pub work-no : q ≡ false → (out : Rows) → some (rowsOf v 0 out) ≡ after
+        unfolding listedFrom
+        work-no g out = sym (by-tags g)
 
--- ---- those held, in rows
-pub blank-rows : Roomy (rows (replicate 544 0) (replicate 256 (pos 0)) (replicate 512 0) (replicate 256 false))
-blank-rows = record { marks = length-replicate {A = ℕ} 544 0; dues = length-replicate 256 (pos 0); leads = length-replicate {A = ℕ} 512 0; stopped = length-replicate 256 false }
+        pub work-yes : q ≡ true → {left : List Tick} → left ≡ heeded (heeds (v .lines) (rowsClocks (r .marks) n)) 0 (seenOf clocks ticks) → {rules : List Line} → rules ≡ filter isRule (v .lines)
+            → (list : List Bool) {fillings : List (List Bool)} → fillings ≡ fillingsIn list 0 ++ filter (allowed rules) (fillingsFrom 0 left (replicate 8 false))
+            → {found : Option (List Remainder)} → found ≡ takenBy (settling room v tags (rowsOf v n r)) fillings (some []) → found ≡ after
+        unfolding listedFrom
+        work-yes g s k list l p =
+            p
+            ∙ rw (l, s, k, c)
+            (sym
+            (by-tags g ∙ heeded-enough room v tags n r seen (replicate 8 false) (some [])
+            ∙ filled-listed room v tags (rowsOf v n r) (heeded (heeds (v .lines) (rowsClocks (r .marks) n)) 0 seen) (replicate 8 false) (some [])))
 
-pub in-room : (c : Count) (room : ℕ) (marks : List ℕ) → room ≤ 32 → SmallIn c room marks → SmallIn c 32 marks
-in-room Exhausted room marks h s = s
-in-room (Live n) room marks h s = (le-trans (s .0) h, s .1)
-
-module _ (h : Held) (n : ℕ) (e : h .count ≡ Live n) where
-  module _ (v : SheetValue) {rs : List Remainder} (f : rs ≡ map (viewOf v) (take n (h .remainders))) where
-    held-as : heldOf v h ≡ some rs
-    held-as = held-live h n e v ∙ ap some (sym f)
-
-    pub small-as : T (all smallLeads (liveOf v h)) → T (all smallLeads rs)
-    small-as t = subst (λ (xs : List Remainder). T (all smallLeads xs)) (ap live held-as) t
-
-    pub work-live : (room : ℕ) (last : Option (List ℤ)) (seen : List Tick) (tags : List ℤ) {x y : Option (List Remainder)} → x ≡ y → y ≡ worked room v last seen tags (some rs) → x ≡ worked room v last seen tags (heldOf v h)
-    work-live room last seen tags p q = p ∙ q ∙ ap (worked room v last seen tags) (sym held-as)
+-- ---- rows with nothing in them
+pub blank-rows : Roomy (rows (replicate 561 0) (replicate 264 (pos 0)) (replicate 528 0) (replicate 264 false))
+blank-rows = record { marks = length-replicate {A = ℕ} 561 0; dues = length-replicate 264 (pos 0); leads = length-replicate {A = ℕ} 528 0; stopped = length-replicate 264 false }

@@ -5,7 +5,7 @@ use Rattle.judge.proofs.kept.observe_turn.Tie as tie
 
 observe-rows-requires : tie.Need-observe-rows-requires
 observe-rows-requires c κs =
-    let p = c .before .before .before .before .before .before .before .before .before .before .before .before .before .before .before .before .before .before .pre in
+    let p = c .before .before .before .before .before .before .before .before .before .before .before .before .before .before .before .before .before .before .before .pre in
     (p .0, (rw (c .before .before .before .before .before .before .before .before .before .if1 .taken) at (p .1 .0), (p .1 .1 .1 .0, (p .1 .1 .0, p .1 .1 .1 .1))))
 
 same-length : tie.Need-same-length
@@ -37,13 +37,13 @@ same-length-9 c = search needs
 
 returns : tie.Need-returns
 returns c =
-    let p = c .before .before .before .before .before .before .before .before .before .before .before .before .before .before .before .before .before .before .before .before .before .before .before .before .before .before .before .before .pre in
+    let p = c .before .before .before .before .before .before .before .before .before .before .before .before .before .before .before .before .before .before .before .before .before .before .before .before .before .before .before .before .before .pre in
     let w = c .before .before .before .before .before .before .before .before .before .observe-rows .ensures in
     (rw (c .before .before .before .before .before .before .before .before .before .before .before .before .before .before .before .before .before .before .before .if1 .taken) (w .0), (w .1 .0, (p .1 .1 .1 .0, w .1 .1)))
 
 observe-rows-requires-2 : tie.Need-observe-rows-requires-2
 observe-rows-requires-2 c κs =
-    let p = c .before .before .before .before .before .before .before .before .before .before .before .before .before .before .before .before .before .before .pre in
+    let p = c .before .before .before .before .before .before .before .before .before .before .before .before .before .before .before .before .before .before .before .pre in
     (p .0, (rw (c .before .before .before .before .before .before .before .before .before .if1 .left) at (p .1 .0), p .1 .1))
 
 same-length-10 : tie.Need-same-length-10
@@ -75,7 +75,7 @@ same-length-18 c = search needs
 
 returns-2 : tie.Need-returns-2
 returns-2 c =
-    let p = c .before .before .before .before .before .before .before .before .before .before .before .before .before .before .before .before .before .before .before .before .before .before .before .before .before .before .before .before .pre in
+    let p = c .before .before .before .before .before .before .before .before .before .before .before .before .before .before .before .before .before .before .before .before .before .before .before .before .before .before .before .before .before .pre in
     let w = c .before .before .before .before .before .before .before .before .before .observe-rows2 .ensures in
     (rw (c .before .before .before .before .before .before .before .before .before .before .before .before .before .before .before .before .before .before .before .if1 .left) (w .0), (p .1 .1 .0, w .1))
 

@@ -4,10 +4,6 @@ use borrow.Author.Needs.{needs}
 use Rattle.judge.proofs.limits.Within.{few-lines, within-not, within-many, within-held}
 use Rattle.judge.proofs.limits.is_within.Statement.{statement}
 use Rattle.judge.proofs.limits.is_within.Tie as tie
-use Rattle.judge.proofs.limits.is_within.Reads as reads
-use Rattle.judge.proofs.limits.is_within.Lts as lts
-use Rattle.judge.proofs.limits.held_within.Reads as held-within-reads
-use Rattle.records.proofs.sheet.check_sheet.Reads as check-sheet-reads
 
 -- src/limits.rt:147:11
 check-sheet-requires : tie.Need-check-sheet-requires

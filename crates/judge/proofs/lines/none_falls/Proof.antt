@@ -1,43 +1,70 @@
 -- `none_falls` meets its contract. The invariant: whether no clock falls is whether none below k does. Assumes nothing.
-use mathlib.Core.Bool.{Bool}
+use mathlib.Core.Bool.{Bool, not}
 use mathlib.Core.List.{List}
-use mathlib.Core.Path.{_≡_, refl}
-use Prim.Native.Nat.{ℕ}
+use mathlib.Core.Path.{_≡_, refl, sym, _∙_}
+use Prim.Native.Nat.{ℕ, _-_, _<_, _≤_}
+use native.Mathlib.Omega.{arith}
 use lib.IntN.{ℤ}
-use lib.Signed.{leZ}
+use lib.Signed.{mag, leZ, ltZ}
+use mir.Syntax.{w16}
+use mir.Val.{toZ, ofZ}
+use mir.Facts.{toZ-ofZ}
+use borrow.Author.Needs.{needs}
 use Rattle.tesl.specs.Lists.{below}
 use Rattle.tesl.specs.Run.{tagIn}
+use Rattle.judge.proofs.Whole.{ltZ-leZ}
 use Rattle.judge.proofs.lines.Laws.{below-end, below-no, below-more}
-use borrow.Author.Needs.{needs}
 use Rattle.judge.proofs.lines.none_falls.Statement.{statement}
 use Rattle.judge.proofs.lines.none_falls.Tie as tie
 
 abbrev keeps : List ℤ → List ℤ → ℕ → Bool
 keeps was tags k = leZ (tagIn was k) (tagIn tags k)
 
+-- the machine compares the tags as whole numbers
+compared : (was tags : List ℤ) (k : ℕ) → mag (tagIn was k) < 32768 → mag (tagIn tags k) < 32768 → {r : Bool} → ltZ (toZ w16 (ofZ w16 (tagIn tags k))) (toZ w16 (ofZ w16 (tagIn was k))) ≡ r → not (keeps was tags k) ≡ r
+compared was tags k f g e =
+    let w = toZ-ofZ {w = w16} {z = tagIn was k} (record { sfits = f }) in
+    let t = toZ-ofZ {w = w16} {z = tagIn tags k} (record { sfits = g }) in
+    sym (ltZ-leZ (tagIn tags k) (tagIn was k)) ∙ rw (t, w) at e
+
 abbrev Inv-loop : tie.InvT-loop
-Inv-loop clocks was tags k₀ k = below clocks (keeps was tags) ≡ below k (keeps was tags)
+Inv-loop clocks was tags k₀ k = (k ≤ clocks) × (below clocks (keeps was tags) ≡ below k (keeps was tags))
 
 abbrev μ-loop : tie.MeasureT-loop
 μ-loop clocks was tags k₀ k = k
 
 loop-holds : tie.Need-loop-holds Inv-loop μ-loop
-loop-holds c = refl
+loop-holds c = (omega arith, refl)
 
 sub-k : tie.Need-sub-k Inv-loop μ-loop
 sub-k c = search needs
 
-keeps-up-requires : tie.Need-keeps-up-requires Inv-loop μ-loop
-keeps-up-requires c κs = search needs
+mul-before : tie.Need-mul-before Inv-loop μ-loop
+mul-before c = search needs
+
+array-copy-out-before : tie.Need-array-copy-out-before Inv-loop μ-loop
+array-copy-out-before c = search needs
+
+mul-tag : tie.Need-mul-tag Inv-loop μ-loop
+mul-tag c = search needs
+
+array-copy-out-tag : tie.Need-array-copy-out-tag Inv-loop μ-loop
+array-copy-out-tag c = search needs
 
 returns : tie.Need-returns Inv-loop μ-loop
-returns c = search (needs, below-no) depth 8
+returns c =
+    let at = c .before .before .before .before in
+    let a = at .before .args in
+    below-no (keeps (a .t2) (a .t3)) (at .loop .k) (at .loop .inv .1) (omega arith) _ refl (compared (a .t2) (a .t3) (at .loop .k - 1) (c .before .before .before2 .given) (c .before .tag .given) (c .if1 .taken))
 
 loop-less : tie.Need-loop-less Inv-loop μ-loop
 loop-less c = search needs
 
 loop-again : tie.Need-loop-again Inv-loop μ-loop
-loop-again c = search (needs, below-more) depth 8
+loop-again c =
+    let at = c .before .before .before .before in
+    let a = at .before .args in
+    (omega arith, below-more (keeps (a .t2) (a .t3)) (at .loop .k) (at .loop .inv .1) (omega arith) _ refl (compared (a .t2) (a .t3) (at .loop .k - 1) (c .before .before .before2 .given) (c .before .tag .given) (c .if1 .left)))
 
 returns-2 : tie.Need-returns-2 Inv-loop μ-loop
 returns-2 c = search (needs, below-end) depth 8
@@ -50,7 +77,10 @@ none-falls-spec =
     μ-loop
     loop-holds
     sub-k
-    keeps-up-requires
+    mul-before
+    array-copy-out-before
+    mul-tag
+    array-copy-out-tag
     returns
     loop-less
     loop-again

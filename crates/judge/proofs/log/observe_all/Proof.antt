@@ -5,7 +5,6 @@ use lib.ListN.{length-replicate}
 use Rattle.judge.specs.declared.answer.Reply.the-variants.{Refused}
 use Rattle.judge.proofs.kept.Laws.{within-stored, follows-stored, inside, few-lines, has-room}
 use Rattle.judge.proofs.log.Turns.{concludes-outside}
-use Rattle.judge.proofs.rules.Laws.{leading}
 use Rattle.judge.proofs.work.Listed.{blank-rows}
 use borrow.Author.Needs.{needs}
 use Rattle.judge.proofs.log.observe_all.Statement.{statement}
@@ -17,14 +16,11 @@ is-within-requires c κs = search needs
 returns : tie.Need-returns
 returns c = concludes-outside (c .before .before .before .before .args .opened) _ (record { reply = Refused 11; instants = 0 }) (c .before .is-within .ensures) (c .if1 .taken)
 
-rules-of-requires : tie.Need-rules-of-requires
-rules-of-requires c κs = few-lines (c .before .before .before .before .before .args .opened .monitor) (inside (c .before .before .is-within .ensures) (c .before .if1 .left))
+slice-aggregate-plan-of : tie.Need-slice-aggregate-plan-of
+slice-aggregate-plan-of c = search needs
 
-reach-of-requires : tie.Need-reach-of-requires
-reach-of-requires c κs = few-lines (c .before .before .before .before .before .before .args .opened .monitor) (inside (c .before .before .before .is-within .ensures) (c .before .before .if1 .left))
-
-leading-of-requires : tie.Need-leading-of-requires
-leading-of-requires c κs = few-lines (c .before .before .before .before .before .before .before .args .opened .monitor) (inside (c .before .before .before .before .is-within .ensures) (c .before .before .before .if1 .left))
+plan-of-requires : tie.Need-plan-of-requires
+plan-of-requires c κs = (few-lines (c .before .before .before .before .before .before .args .opened .monitor) (inside (c .before .before .before .is-within .ensures) (c .before .before .if1 .left)), refl)
 
 slice-aggregate-keep-held : tie.Need-slice-aggregate-keep-held
 slice-aggregate-keep-held c = search needs
@@ -68,20 +64,20 @@ slice-aggregate-observe-records-8 c = search needs
 slice-aggregate-observe-records-9 : tie.Need-slice-aggregate-observe-records-9
 slice-aggregate-observe-records-9 c = search needs
 
+slice-aggregate-observe-records-10 : tie.Need-slice-aggregate-observe-records-10
+slice-aggregate-observe-records-10 c = search needs
+
 observe-records-requires : tie.Need-observe-records-requires
 observe-records-requires c κs =
-    let m = c .before .before .before .before .before .before .before .before .before .before .before .before .before .before .before .before .before .before .before .before .before .before .before .before .before .before .before .before .before .args .opened .monitor in
-    let l = inside (c .before .before .before .before .before .before .before .before .before .before .before .before .before .before .before .before .before .before .before .before .before .before .before .before .before .before .is-within .ensures) (c .before .before .before .before .before .before .before .before .before .before .before .before .before .before .before .before .before .before .before .before .before .before .before .before .before .if1 .left) in
-    let r = c .before .before .before .before .before .before .before .before .before .before .before .before .before .before .before .before .before .before .before .before .before .before .before .rules-of .ensures in
-    let q = c .before .before .before .before .before .before .before .before .before .before .before .before .before .before .before .before .before .before .before .before .before .before .reach-of in
-    let g = c .before .before .before .before .before .before .before .before .before .before .before .before .before .before .before .before .before .before .before .before .before .leading-of in
-    let k = c .before .before .before .before .before .before .before .before .before .before .before .before .before .before .keep-held .ensures in
-    (record { value = l .value refl; few = r .0; lines = r .1; far = q .ensures .0; leading = leading (m .sheet) (q .result) (g .result) (few-lines m l) (q .ensures) (g .ensures) }, (within-stored m _ (k .1 .0) (k .1 .1) (sym (l .answer)), (k .0, (blank-rows, length-replicate 2048 false))))
+    let m = c .before .before .before .before .before .before .before .before .before .before .before .before .before .before .before .before .before .before .before .before .before .before .before .before .before .before .before .before .before .before .args .opened .monitor in
+    let l = inside (c .before .before .before .before .before .before .before .before .before .before .before .before .before .before .before .before .before .before .before .before .before .before .before .before .before .before .before .is-within .ensures) (c .before .before .before .before .before .before .before .before .before .before .before .before .before .before .before .before .before .before .before .before .before .before .before .before .before .before .if1 .left) in
+    let k = c .before .before .before .before .before .before .before .before .before .before .before .before .before .before .before .keep-held .ensures in
+    (record { value = l .value refl; plan = c .before .before .before .before .before .before .before .before .before .before .before .before .before .before .before .before .before .before .before .before .before .before .before .plan-of .ensures }, (within-stored m _ (k .1 .0) (k .1 .1) (sym (l .answer)), (k .0, (blank-rows, length-replicate 2048 false))))
 
 returns-2 : tie.Need-returns-2
 returns-2 c =
-    let k = c .before .before .before .before .before .before .before .before .before .before .before .before .before .before .before .before .before .before .before .before .before .before .before .before .keep-held .ensures in
-    λ s run f. c .before .before .before .before .before .before .before .before .before .observe-records .ensures s run (follows-stored (c .before .before .before .before .before .before .before .before .before .before .before .before .before .before .before .before .before .before .before .before .before .before .before .before .before .before .before .before .before .before .before .before .before .before .before .before .before .before .before .args .opened .monitor) _ (k .1 .0) (k .1 .1) f)
+    let k = c .before .before .before .before .before .before .before .before .before .before .before .before .before .before .before .before .before .before .before .before .before .before .before .before .before .keep-held .ensures in
+    λ s run f. c .before .before .before .before .before .before .before .before .before .observe-records .ensures s run (follows-stored (c .before .before .before .before .before .before .before .before .before .before .before .before .before .before .before .before .before .before .before .before .before .before .before .before .before .before .before .before .before .before .before .before .before .before .before .before .before .before .before .before .args .opened .monitor) _ (k .1 .0) (k .1 .1) f)
 
 pub observe-all-spec : {M : Type 1} → statement M
 observe-all-spec =
@@ -89,9 +85,8 @@ observe-all-spec =
     (tie.spec
     is-within-requires
     returns
-    rules-of-requires
-    reach-of-requires
-    leading-of-requires
+    slice-aggregate-plan-of
+    plan-of-requires
     slice-aggregate-keep-held
     slice-aggregate-keep-held-2
     slice-aggregate-keep-held-3
@@ -106,5 +101,6 @@ observe-all-spec =
     slice-aggregate-observe-records-7
     slice-aggregate-observe-records-8
     slice-aggregate-observe-records-9
+    slice-aggregate-observe-records-10
     observe-records-requires
     returns-2)

@@ -16,16 +16,16 @@ use Rattle.judge.proofs.log.observe_records.Statement.{statement}
 use Rattle.judge.proofs.log.observe_records.Tie as tie
 
 abbrev Inv-loop : tie.InvT-loop
-Inv-loop log sheet rules reach precede held marks₀ dues₀ leads₀ stopped₀ marks2₀ dues2₀ leads2₀ stopped2₀ list₀ turned₀ count₀ tags₀ reply₀ instants₀ at₀ marks dues leads stopped marks2 dues2 leads2 stopped2 list turned count tags reply instants at =
+Inv-loop log sheet plan lines held marks₀ dues₀ leads₀ stopped₀ marks2₀ dues2₀ leads2₀ stopped2₀ list₀ turned₀ count₀ tags₀ reply₀ instants₀ at₀ marks dues leads stopped marks2 dues2 leads2 stopped2 list turned count tags reply instants at =
     Turns log (rowsMonitor sheet held tags₀ count₀ (rows marks₀ dues₀ leads₀ stopped₀)) reply₀ (rowsMonitor sheet (held + instants) tags count (cond turned (rows marks2 dues2 leads2 stopped2) (rows marks dues leads stopped))) reply instants at (rows marks dues leads stopped) (rows marks2 dues2 leads2 stopped2) list
 
 abbrev μ-loop : tie.MeasureT-loop
-μ-loop log sheet rules reach precede held marks₀ dues₀ leads₀ stopped₀ marks2₀ dues2₀ leads2₀ stopped2₀ list₀ turned₀ count₀ tags₀ reply₀ instants₀ at₀ marks dues leads stopped marks2 dues2 leads2 stopped2 list turned count tags reply instants at =
+μ-loop log sheet plan lines held marks₀ dues₀ leads₀ stopped₀ marks2₀ dues2₀ leads2₀ stopped2₀ list₀ turned₀ count₀ tags₀ reply₀ instants₀ at₀ marks dues leads stopped marks2 dues2 leads2 stopped2 list turned count tags reply instants at =
     length log - at
 
 loop-holds : tie.Need-loop-holds Inv-loop μ-loop
 loop-holds c =
-    let s = c .before .before .before .before .before .before .before .before in
+    let s = c .before .before .before .before .before .before .before .before .before in
     turns-start (now (s .args .log)) (s .args .sheet) (s .args .held) (s .args .was) (s .args .first) _ _ (s .args .opening) _ (s .pre .1 .0) (s .pre .1 .1 .0) (s .pre .1 .1 .1 .0) (s .pre .1 .1 .1 .1)
 
 record-at-requires : tie.Need-record-at-requires Inv-loop μ-loop
@@ -74,14 +74,14 @@ log-bytes : (c : tie.After-shared-slice-known Inv-loop μ-loop) → IsBytes (c .
 log-bytes c = all-bytes (c .before .args .log .now) (λ i. c .shared-slice-known .given i .fits)
 
 -- a whole record is within the log
-fits : (c : tie.After-known-told Inv-loop μ-loop) → c .before .before .before .before .before .loop .at + 4 + c .before .len .given .0 .1 .0 ≤ length (c .before .before .before .before .before .before .before .before .before .before .before .before .before .before .args .log .now)
+fits : (c : tie.After-known-told Inv-loop μ-loop) → c .before .before .before .before .before .loop .at + 4 + c .before .len .given .0 .1 .0 ≤ length (c .before .before .before .before .before .before .before .before .before .before .before .before .before .before .before .args .log .now)
 fits c = going-fits (c .before .before .before .before .before .loop .inv .going) (c .before .before .before .before .loop-test .taken) (c .before .before .before .record-at .ensures) (c .before .len .given .1)
 
 add-end : tie.Need-add-end Inv-loop μ-loop
-add-end c = omega (arith, fits c, log-fits (c .before .before .before .before .before .before .before .before .before .before .before .before .before .before))
+add-end c = omega (arith, fits c, log-fits (c .before .before .before .before .before .before .before .before .before .before .before .before .before .before .before))
 
 add-end-2 : tie.Need-add-end-2 Inv-loop μ-loop
-add-end-2 c = omega (arith, fits c, log-fits (c .before .before .before .before .before .before .before .before .before .before .before .before .before .before))
+add-end-2 c = omega (arith, fits c, log-fits (c .before .before .before .before .before .before .before .before .before .before .before .before .before .before .before))
 
 add-observe-turn : tie.Need-add-observe-turn Inv-loop μ-loop
 add-observe-turn c = omega (arith, few-instants _ (c .before .before .before .before .before .loop .inv .limits))
@@ -98,13 +98,13 @@ part-observe-turn-end c = fits c
 observe-turn-requires : tie.Need-observe-turn-requires Inv-loop μ-loop
 observe-turn-requires c κs =
     let inv = c .before .before .before .before .before .before .before .before .before .before .before .before .before .before .before .loop .inv in
-    (c .before .before .before .before .before .before .before .before .before .before .before .before .before .before .before .before .before .before .before .before .before .before .before .before .pre .0, (inv .limits, (inv .first, (inv .second, inv .room))))
+    (c .before .before .before .before .before .before .before .before .before .before .before .before .before .before .before .before .before .before .before .before .before .before .before .before .before .pre .0, (inv .limits, (inv .first, (inv .second, inv .room))))
 
 enum-told-2 : tie.Need-enum-told-2 Inv-loop μ-loop
 enum-told-2 c = search needs
 
 abbrev entry : tie.After-enum-told2 Inv-loop μ-loop → tie.Start Inv-loop μ-loop
-entry c = c .before .before .before .before .before .before .before .before .before .before .before .before .before .before .before .before .before .before .before .before .before .before .before .before .before .before .before .before .before .before .before .before .before .before .before .before .before .before .before .before .before .before .before
+entry c = c .before .before .before .before .before .before .before .before .before .before .before .before .before .before .before .before .before .before .before .before .before .before .before .before .before .before .before .before .before .before .before .before .before .before .before .before .before .before .before .before .before .before .before .before
 
 abbrev turn : tie.After-enum-told2 Inv-loop μ-loop → tie.After-observe-turn Inv-loop μ-loop
 turn c = c .before .before .before .before .before .before .before .before .before .before .before .before .before .before .before .before .before .before
@@ -137,13 +137,13 @@ same-length-18 : tie.Need-same-length-18 Inv-loop μ-loop
 same-length-18 c = turn c .observe-turn .ensures .1 .1 .1 ∙ sym (entry c .pre .1 .1 .1 .1)
 
 returns-2 : tie.Need-returns-2 Inv-loop μ-loop
-returns-2 c = going-refused (c .before .before .before .before .before .before .before .before .before .before .before .before .before .before .before .before .before .before .before .before .before .before .before .before .before .before .before .before .before .before .before .before .before .before .loop .inv .going) (c .before .before .before .before .before .before .before .before .before .before .before .before .before .before .before .before .before .before .before .before .before .before .before .before .before .before .before .before .before .before .before .before .before .loop-test .taken) (c .before .before .before .before .before .before .before .before .before .before .before .before .before .before .before .before .before .before .before .before .before .before .before .before .before .before .before .before .before .before .before .before .record-at .ensures) (c .before .before .before .before .before .before .before .before .before .before .before .before .before .before .before .before .before .before .before .before .before .before .before .before .before .before .before .before .before .before .len .given .1) (log-bytes (c .before .before .before .before .before .before .before .before .before .before .before .before .before .before .before .before .before .before .before .before .before .before .before .before .before .before .before .before .before .before .before .before .before .before .before .before .before .before .before .before .before .before)) (c .before .before .before .before .before .before .before .before .before .before .before .before .before .before .before .before .before .before .observe-turn .ensures .0) (c .enum-told2 .given .1)
+returns-2 c = going-refused (c .before .before .before .before .before .before .before .before .before .before .before .before .before .before .before .before .before .before .before .before .before .before .before .before .before .before .before .before .before .before .before .before .before .before .loop .inv .going) (c .before .before .before .before .before .before .before .before .before .before .before .before .before .before .before .before .before .before .before .before .before .before .before .before .before .before .before .before .before .before .before .before .before .loop-test .taken) (c .before .before .before .before .before .before .before .before .before .before .before .before .before .before .before .before .before .before .before .before .before .before .before .before .before .before .before .before .before .before .before .before .record-at .ensures) (c .before .before .before .before .before .before .before .before .before .before .before .before .before .before .before .before .before .before .before .before .before .before .before .before .before .before .before .before .before .before .len .given .1) (log-bytes (c .before .before .before .before .before .before .before .before .before .before .before .before .before .before .before .before .before .before .before .before .before .before .before .before .before .before .before .before .before .before .before .before .before .before .before .before .before .before .before .before .before .before .before)) (c .before .before .before .before .before .before .before .before .before .before .before .before .before .before .before .before .before .before .observe-turn .ensures .0) (c .enum-told2 .given .1)
 
 enum-told-3 : tie.Need-enum-told-3 Inv-loop μ-loop
 enum-told-3 c = search needs
 
 add-instants : tie.Need-add-instants Inv-loop μ-loop
-add-instants c = omega (arith, c .before .before .before .before .before .before .before .before .before .before .before .before .before .before .before .before .before .before .before .before .before .before .before .before .before .before .before .before .before .before .before .before .before .before .before .loop .inv .going .few, c .before .before .before .before .before .before .before .before .before .before .before .before .before .before .before .before .before .before .before .before .before .before .before .before .before .before .before .before .before .before .before .before .before .before .loop-test .taken, log-fits (c .before .before .before .before .before .before .before .before .before .before .before .before .before .before .before .before .before .before .before .before .before .before .before .before .before .before .before .before .before .before .before .before .before .before .before .before .before .before .before .before .before .before .before .before))
+add-instants c = omega (arith, c .before .before .before .before .before .before .before .before .before .before .before .before .before .before .before .before .before .before .before .before .before .before .before .before .before .before .before .before .before .before .before .before .before .before .before .loop .inv .going .few, c .before .before .before .before .before .before .before .before .before .before .before .before .before .before .before .before .before .before .before .before .before .before .before .before .before .before .before .before .before .before .before .before .before .before .loop-test .taken, log-fits (c .before .before .before .before .before .before .before .before .before .before .before .before .before .before .before .before .before .before .before .before .before .before .before .before .before .before .before .before .before .before .before .before .before .before .before .before .before .before .before .before .before .before .before .before .before))
 
 loop-less : tie.Need-loop-less Inv-loop μ-loop
 loop-less c = omega (arith, c .before .before .before .before .before .before .before .before .before .before .before .before .before .before .before .before .before .before .before .before .before .before .before .before .before .before .before .before .before .before .before .before .before .before .loop-test .taken)
@@ -151,7 +151,7 @@ loop-less c = omega (arith, c .before .before .before .before .before .before .b
 loop-again : tie.Need-loop-again Inv-loop μ-loop
 loop-again c =
     let o = c .before .before .before .before .before .before .before .before .before .before .before .before .before .before .before .before .before .before .before .observe-turn in
-    turns-more (c .before .before .before .before .before .before .before .before .before .before .before .before .before .before .before .before .before .before .before .before .before .before .before .before .before .before .before .before .before .before .before .before .before .before .before .before .before .before .before .before .before .before .before .before .args .held) (c .before .before .before .before .before .before .before .before .before .before .before .before .before .before .before .before .before .before .before .before .before .before .before .before .before .before .before .before .before .before .before .before .before .before .before .loop .turned) (c .before .before .before .before .before .before .before .before .before .before .before .before .before .before .before .before .before .before .before .before .before .before .before .before .before .before .before .before .before .before .before .before .before .before .before .loop .inv) (c .before .before .before .before .before .before .before .before .before .before .before .before .before .before .before .before .before .before .before .before .before .before .before .before .before .before .before .before .before .before .before .before .before .before .loop-test .taken) (c .before .before .before .before .before .before .before .before .before .before .before .before .before .before .before .before .before .before .before .before .before .before .before .before .before .before .before .before .before .before .before .before .before .record-at .ensures) (c .before .before .before .before .before .before .before .before .before .before .before .before .before .before .before .before .before .before .before .before .before .before .before .before .before .before .before .before .before .before .before .len .given .1) (log-bytes (c .before .before .before .before .before .before .before .before .before .before .before .before .before .before .before .before .before .before .before .before .before .before .before .before .before .before .before .before .before .before .before .before .before .before .before .before .before .before .before .before .before .before .before)) (o .result) _ _ _ (o .ensures .0) (c .before .enum-told3 .given .1) (o .ensures .1)
+    turns-more (c .before .before .before .before .before .before .before .before .before .before .before .before .before .before .before .before .before .before .before .before .before .before .before .before .before .before .before .before .before .before .before .before .before .before .before .before .before .before .before .before .before .before .before .before .before .args .held) (c .before .before .before .before .before .before .before .before .before .before .before .before .before .before .before .before .before .before .before .before .before .before .before .before .before .before .before .before .before .before .before .before .before .before .before .loop .turned) (c .before .before .before .before .before .before .before .before .before .before .before .before .before .before .before .before .before .before .before .before .before .before .before .before .before .before .before .before .before .before .before .before .before .before .before .loop .inv) (c .before .before .before .before .before .before .before .before .before .before .before .before .before .before .before .before .before .before .before .before .before .before .before .before .before .before .before .before .before .before .before .before .before .before .loop-test .taken) (c .before .before .before .before .before .before .before .before .before .before .before .before .before .before .before .before .before .before .before .before .before .before .before .before .before .before .before .before .before .before .before .before .before .record-at .ensures) (c .before .before .before .before .before .before .before .before .before .before .before .before .before .before .before .before .before .before .before .before .before .before .before .before .before .before .before .before .before .before .before .len .given .1) (log-bytes (c .before .before .before .before .before .before .before .before .before .before .before .before .before .before .before .before .before .before .before .before .before .before .before .before .before .before .before .before .before .before .before .before .before .before .before .before .before .before .before .before .before .before .before .before)) (o .result) _ _ _ (o .ensures .0) (c .before .enum-told3 .given .1) (o .ensures .1)
 
 same-length-19 : tie.Need-same-length-19 Inv-loop μ-loop
 same-length-19 c = search needs

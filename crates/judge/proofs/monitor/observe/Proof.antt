@@ -1,69 +1,144 @@
--- `observe` meets its contract: the refusals are tried in turn, and an accepted instant is worked on. Assumes nothing.
+-- `observe` meets its contract: those held are stored in rows, observed there, and read back. Assumes nothing.
+use mathlib.Core.Bool.{false}
+use mathlib.Core.Path.{refl, sym}
 use native.Mathlib.Omega.{arith}
-use borrow.Author.Needs.{needs}
 use denote.Ref.{now}
-use Rattle.judge.proofs.monitor.Bytes.{all-bytes}
-use Rattle.judge.proofs.monitor.Arrays.{eight-each}
-use Rattle.judge.proofs.monitor.Called.{called-outside, called-unread, called-full, can-work, called}
+use lib.ListN.{length-replicate}
+use Rattle.judge.specs.Rows.{rows}
+use Rattle.judge.proofs.kept.Laws.{within-stored, inside, few-lines, has-room}
+use Rattle.judge.proofs.monitor.Limits.{limits-of}
+use Rattle.judge.proofs.monitor.Called.{called-outside}
+use Rattle.judge.proofs.monitor.InRows.{refused-rows, small-after, answered-rows}
+use Rattle.judge.proofs.work.Listed.{blank-rows}
+use borrow.Author.Needs.{needs}
 use Rattle.judge.proofs.monitor.observe.Statement.{statement}
 use Rattle.judge.proofs.monitor.observe.Tie as tie
-use Rattle.judge.proofs.monitor.observe.Reads as reads
-use Rattle.judge.proofs.monitor.observe.Lts as lts
-use Rattle.judge.proofs.limits.is_within.Reads as is-within-reads
-use Rattle.judge.proofs.monitor.accept.Reads as accept-reads
-use Rattle.judge.proofs.monitor.refuse.Reads as refuse-reads
-use Rattle.records.proofs.instant.read_instant.Reads as read-instant-reads
 
--- src/monitor.rt:123:9
 is-within-requires : tie.Need-is-within-requires
 is-within-requires c κs = search needs
 
--- src/monitor.rt:124:9
 refuse-requires : tie.Need-refuse-requires
 refuse-requires c κs = search needs
 
--- src/monitor.rt:124:9
 returns : tie.Need-returns
 returns c = called-outside (c .before .before .before .before .args .monitor) (now (c .before .before .before .before .args .bytes)) (c .refuse .result) (c .before .before .is-within .ensures) (c .before .if1 .taken) (c .refuse .ensures)
 
--- src/monitor.rt:128:9
-read-instant-requires : tie.Need-read-instant-requires
-read-instant-requires c κs = search needs
+slice-aggregate-plan-of : tie.Need-slice-aggregate-plan-of
+slice-aggregate-plan-of c = search needs
 
--- src/monitor.rt:131:25
-enum-known-answer : tie.Need-enum-known-answer
-enum-known-answer c = search needs
+plan-of-requires : tie.Need-plan-of-requires
+plan-of-requires c κs = (few-lines (c .before .before .before .before .before .before .before .before .args .monitor) (inside (c .before .before .before .before .before .before .is-within .ensures) (c .before .before .before .before .before .if1 .left)), refl)
 
--- src/monitor.rt:131:31
+slice-aggregate-keep-held : tie.Need-slice-aggregate-keep-held
+slice-aggregate-keep-held c = search needs
+
+slice-aggregate-keep-held-2 : tie.Need-slice-aggregate-keep-held-2
+slice-aggregate-keep-held-2 c = search needs
+
+slice-aggregate-keep-held-3 : tie.Need-slice-aggregate-keep-held-3
+slice-aggregate-keep-held-3 c = search needs
+
+slice-aggregate-keep-held-4 : tie.Need-slice-aggregate-keep-held-4
+slice-aggregate-keep-held-4 c = search needs
+
+keep-held-requires : tie.Need-keep-held-requires
+keep-held-requires c κs = (has-room (c .before .before .before .before .before .before .before .before .before .before .before .before .before .before .args .monitor) (inside (c .before .before .before .before .before .before .before .before .before .before .before .before .is-within .ensures) (c .before .before .before .before .before .before .before .before .before .before .before .if1 .left)), blank-rows)
+
+slice-aggregate-observe-rows : tie.Need-slice-aggregate-observe-rows
+slice-aggregate-observe-rows c = search needs
+
+slice-aggregate-observe-rows-2 : tie.Need-slice-aggregate-observe-rows-2
+slice-aggregate-observe-rows-2 c = search needs
+
+slice-aggregate-observe-rows-3 : tie.Need-slice-aggregate-observe-rows-3
+slice-aggregate-observe-rows-3 c = search needs
+
+slice-aggregate-observe-rows-4 : tie.Need-slice-aggregate-observe-rows-4
+slice-aggregate-observe-rows-4 c = search needs
+
+slice-aggregate-observe-rows-5 : tie.Need-slice-aggregate-observe-rows-5
+slice-aggregate-observe-rows-5 c = search needs
+
+slice-aggregate-observe-rows-6 : tie.Need-slice-aggregate-observe-rows-6
+slice-aggregate-observe-rows-6 c = search needs
+
+slice-aggregate-observe-rows-7 : tie.Need-slice-aggregate-observe-rows-7
+slice-aggregate-observe-rows-7 c = search needs
+
+slice-aggregate-observe-rows-8 : tie.Need-slice-aggregate-observe-rows-8
+slice-aggregate-observe-rows-8 c = search needs
+
+slice-aggregate-observe-rows-9 : tie.Need-slice-aggregate-observe-rows-9
+slice-aggregate-observe-rows-9 c = search needs
+
+slice-aggregate-observe-rows-10 : tie.Need-slice-aggregate-observe-rows-10
+slice-aggregate-observe-rows-10 c = search needs
+
+observe-rows-requires : tie.Need-observe-rows-requires
+observe-rows-requires c κs =
+    let m = c .before .before .before .before .before .before .before .before .before .before .before .before .before .before .before .before .before .before .before .before .before .before .before .before .before .before .before .before .before .args .monitor in
+    let l = inside (c .before .before .before .before .before .before .before .before .before .before .before .before .before .before .before .before .before .before .before .before .before .before .before .before .before .before .before .is-within .ensures) (c .before .before .before .before .before .before .before .before .before .before .before .before .before .before .before .before .before .before .before .before .before .before .before .before .before .before .if1 .left) in
+    let k = c .before .before .before .before .before .before .before .before .before .before .before .before .before .before .keep-held in
+    let h = k .last .1 .1 in
+    (record { value = l .value refl; plan = c .before .before .before .before .before .before .before .before .before .before .before .before .before .before .before .before .before .before .before .before .plan-of .ensures }, (within-stored m (rows (h .0) (h .1 .0) (h .1 .1 .0) (h .1 .1 .1 .0)) (k .ensures .1 .0) (k .ensures .1 .1) (sym (l .answer)), (k .ensures .0, (blank-rows, length-replicate 2048 false))))
+
+enum-known-reply : tie.Need-enum-known-reply
+enum-known-reply c = search needs
+
 refuse-requires-2 : tie.Need-refuse-requires-2
 refuse-requires-2 c κs = search needs
 
--- src/monitor.rt:133:17
 enum-told : tie.Need-enum-told
 enum-told c = search needs
 
--- src/monitor.rt:135:17
-refuse-requires-3 : tie.Need-refuse-requires-3
-refuse-requires-3 c κs = search needs
+slice-aggregate-from-rows : tie.Need-slice-aggregate-from-rows
+slice-aggregate-from-rows c = search needs
 
--- src/monitor.rt:135:17
+slice-aggregate-from-rows-2 : tie.Need-slice-aggregate-from-rows-2
+slice-aggregate-from-rows-2 c = search needs
+
+slice-aggregate-from-rows-3 : tie.Need-slice-aggregate-from-rows-3
+slice-aggregate-from-rows-3 c = search needs
+
+slice-aggregate-from-rows-4 : tie.Need-slice-aggregate-from-rows-4
+slice-aggregate-from-rows-4 c = search needs
+
+from-rows-requires : tie.Need-from-rows-requires
+from-rows-requires c κs =
+    let m = c .before .before .before .before .before .before .before .before .before .before .before .before .before .before .before .before .before .before .before .before .before .before .before .before .before .before .before .before .before .before .before .before .before .before .before .before .before .before .before .before .before .args .monitor in
+    let l = inside (c .before .before .before .before .before .before .before .before .before .before .before .before .before .before .before .before .before .before .before .before .before .before .before .before .before .before .before .before .before .before .before .before .before .before .before .before .before .before .before .is-within .ensures) (c .before .before .before .before .before .before .before .before .before .before .before .before .before .before .before .before .before .before .before .before .before .before .before .before .before .before .before .before .before .before .before .before .before .before .before .before .before .before .if1 .left) in
+    let k = c .before .before .before .before .before .before .before .before .before .before .before .before .before .before .before .before .before .before .before .before .before .before .before .before .before .before .keep-held in
+    let h = k .last .1 .1 in
+    let o = c .before .before .before .before .before .before .before .before .before .before .before .observe-rows in
+    let q = o .last .1 .1 .1 .1 .1 .1 .1 .1 .1 .1 .1 in
+    (o .ensures .1 .0, small-after m l (rows (h .0) (h .1 .0) (h .1 .1 .0) (h .1 .1 .1 .0)) (k .ensures .1 .0) (k .ensures .1 .1) (now (c .before .before .before .before .before .before .before .before .before .before .before .before .before .before .before .before .before .before .before .before .before .before .before .before .before .before .before .before .before .before .before .before .before .before .before .before .before .before .before .before .before .args .bytes)) (o .result) (rows (q .0) (q .1 .0) (q .1 .1 .0) (q .1 .1 .1 .0)) (o .ensures .0) (c .before .before .before .before .enum-told .given .1))
+
+add-t70 : tie.Need-add-t70
+add-t70 c =
+    let m = c .before .before .before .before .before .before .before .before .before .before .before .before .before .before .before .before .before .before .before .before .before .before .before .before .before .before .before .before .before .before .before .before .before .before .before .before .before .before .before .before .before .before .before .args .monitor in
+    let l = inside (c .before .before .before .before .before .before .before .before .before .before .before .before .before .before .before .before .before .before .before .before .before .before .before .before .before .before .before .before .before .before .before .before .before .before .before .before .before .before .before .before .before .is-within .ensures) (c .before .before .before .before .before .before .before .before .before .before .before .before .before .before .before .before .before .before .before .before .before .before .before .before .before .before .before .before .before .before .before .before .before .before .before .before .before .before .before .before .if1 .left) in
+    omega (arith, limits-of m (l .value refl) (sym (l .answer)) .instants)
+
 returns-2 : tie.Need-returns-2
-returns-2 c = called-full (c .before .before .before .before .before .before .before .before .before .args .monitor) (now (c .before .before .before .before .before .before .before .before .before .args .bytes)) (c .before .before .before .before .before .before .before .is-within .ensures) (c .before .before .before .before .before .before .if1 .left) (c .before .before .before .before .read-instant .ensures) (c .before .before .enum-told .given .1) (c .before .if2 .taken) (c .refuse3 .ensures)
+returns-2 c =
+    let m = c .before .before .before .before .before .before .before .before .before .before .before .before .before .before .before .before .before .before .before .before .before .before .before .before .before .before .before .before .before .before .before .before .before .before .before .before .before .before .before .args .monitor in
+    let l = inside (c .before .before .before .before .before .before .before .before .before .before .before .before .before .before .before .before .before .before .before .before .before .before .before .before .before .before .before .before .before .before .before .before .before .before .before .before .before .is-within .ensures) (c .before .before .before .before .before .before .before .before .before .before .before .before .before .before .before .before .before .before .before .before .before .before .before .before .before .before .before .before .before .before .before .before .before .before .before .before .if1 .left) in
+    let k = c .before .before .before .before .before .before .before .before .before .before .before .before .before .before .before .before .before .before .before .before .before .before .before .before .keep-held in
+    let h = k .last .1 .1 in
+    let o = c .before .before .before .before .before .before .before .before .before .observe-rows in
+    let q = o .last .1 .1 .1 .1 .1 .1 .1 .1 .1 .1 .1 in
+    refused-rows m l (rows (h .0) (h .1 .0) (h .1 .1 .0) (h .1 .1 .1 .0)) (k .ensures .1 .0) (k .ensures .1 .1) (now (c .before .before .before .before .before .before .before .before .before .before .before .before .before .before .before .before .before .before .before .before .before .before .before .before .before .before .before .before .before .before .before .before .before .before .before .before .before .before .before .args .bytes)) (o .result) (rows (q .0) (q .1 .0) (q .1 .1 .0) (q .1 .1 .1 .0)) (o .ensures .0) (c .before .before .reply .given .1) (c .refuse2 .ensures)
 
--- src/monitor.rt:138:13
-accept-requires : tie.Need-accept-requires
-accept-requires c κs = can-work (c .before .before .before .before .before .before .before .before .before .args .monitor) (now (c .before .before .before .before .before .before .before .before .before .args .bytes)) (c .before .before .before .before .before .before .before .is-within .ensures) (c .before .before .before .before .before .before .if1 .left) (c .before .before .before .before .read-instant .ensures) (c .before .before .enum-told .given .1) (omega arith)
-
--- src/monitor.rt:120:1
 returns-3 : tie.Need-returns-3
-returns-3 c = called-unread (c .before .before .before .before .before .before .before .before .before .args .monitor) (now (c .before .before .before .before .before .before .before .before .before .args .bytes)) (c .before .before .before .before .before .before .before .is-within .ensures) (c .before .before .before .before .before .before .if1 .left) (c .before .before .before .before .read-instant .ensures) (search needs) (c .refuse2 .ensures)
-
--- src/monitor.rt:120:1
-returns-4 : tie.Need-returns-4
-returns-4 c =
-    let s = c .before .before .before .before .before .before .before .before .before .before in
-    called (s .args .monitor) (now (s .args .bytes)) (c .before .before .before .before .before .before .before .before .is-within .ensures) (c .before .before .before .before .before .before .before .if1 .left) (c .before .before .before .before .before .read-instant .ensures) (c .before .before .before .enum-told .given .1)
-    (all-bytes (now (s .args .bytes)) (λ i. c .before .before .before .before .before .before .before .before .before .shared-slice-known .given i .fits)) (eight-each (s .args .monitor .held .remainders) _ (s .good .0 .1 .1 .1 .1 .1 .0 .1 .1 .1 .0 .1 .1)) (omega arith) (c .accept .ensures)
+returns-3 c =
+    let m = c .before .before .before .before .before .before .before .before .before .before .before .before .before .before .before .before .before .before .before .before .before .before .before .before .before .before .before .before .before .before .before .before .before .before .before .before .before .before .before .before .before .before .before .args .monitor in
+    let l = inside (c .before .before .before .before .before .before .before .before .before .before .before .before .before .before .before .before .before .before .before .before .before .before .before .before .before .before .before .before .before .before .before .before .before .before .before .before .before .before .before .before .before .is-within .ensures) (c .before .before .before .before .before .before .before .before .before .before .before .before .before .before .before .before .before .before .before .before .before .before .before .before .before .before .before .before .before .before .before .before .before .before .before .before .before .before .before .before .if1 .left) in
+    let k = c .before .before .before .before .before .before .before .before .before .before .before .before .before .before .before .before .before .before .before .before .before .before .before .before .before .before .before .before .keep-held in
+    let h = k .last .1 .1 in
+    let o = c .before .before .before .before .before .before .before .before .before .before .before .before .before .observe-rows in
+    let q = o .last .1 .1 .1 .1 .1 .1 .1 .1 .1 .1 .1 in
+    let g = c .before .from-rows in
+    answered-rows m l (rows (h .0) (h .1 .0) (h .1 .1 .0) (h .1 .1 .1 .0)) (k .ensures .1 .0) (k .ensures .1 .1) (now (c .before .before .before .before .before .before .before .before .before .before .before .before .before .before .before .before .before .before .before .before .before .before .before .before .before .before .before .before .before .before .before .before .before .before .before .before .before .before .before .before .before .before .before .args .bytes)) (o .result) (rows (q .0) (q .1 .0) (q .1 .1 .0) (q .1 .1 .1 .0)) (o .ensures .0) (c .before .before .before .before .before .before .enum-told .given .1) (g .result) (g .ensures .0) (g .ensures .1)
 
 pub observe-spec : {M : Type 1} → statement M
 observe-spec =
@@ -72,12 +147,32 @@ observe-spec =
     is-within-requires
     refuse-requires
     returns
-    read-instant-requires
-    enum-known-answer
+    slice-aggregate-plan-of
+    plan-of-requires
+    slice-aggregate-keep-held
+    slice-aggregate-keep-held-2
+    slice-aggregate-keep-held-3
+    slice-aggregate-keep-held-4
+    keep-held-requires
+    slice-aggregate-observe-rows
+    slice-aggregate-observe-rows-2
+    slice-aggregate-observe-rows-3
+    slice-aggregate-observe-rows-4
+    slice-aggregate-observe-rows-5
+    slice-aggregate-observe-rows-6
+    slice-aggregate-observe-rows-7
+    slice-aggregate-observe-rows-8
+    slice-aggregate-observe-rows-9
+    slice-aggregate-observe-rows-10
+    observe-rows-requires
+    enum-known-reply
     refuse-requires-2
     enum-told
-    refuse-requires-3
+    slice-aggregate-from-rows
+    slice-aggregate-from-rows-2
+    slice-aggregate-from-rows-3
+    slice-aggregate-from-rows-4
+    from-rows-requires
+    add-t70
     returns-2
-    accept-requires
-    returns-3
-    returns-4)
+    returns-3)

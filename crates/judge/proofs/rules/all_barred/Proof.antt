@@ -2,36 +2,32 @@
 use mathlib.Core.Bool.{false}
 use mathlib.Core.Path.{_≡_, refl}
 use Prim.Native.Nat.{_-_, _≤_}
+use native.Mathlib.Nat.{sub-zero}
 use native.Mathlib.Omega.{arith}
-use lib.ListN.{length, length-map, replicate}
-use Rattle.judge.specs.Rules.{rulesIn}
-use Rattle.judge.specs.Carried.{barredBy, allBarred}
-use Rattle.judge.proofs.rules.Folds.{rulesFrom, fold-end, fold-more}
+use lib.ListN.{replicate}
 use borrow.Author.Needs.{needs}
+use Rattle.records.specs.Lists.{listedFrom}
+use Rattle.judge.specs.Carried.{barredBy, allBarred}
+use Rattle.judge.specs.Plan.{linesIn}
+use Rattle.judge.proofs.rules.Laws.{ruleIn}
+use Rattle.judge.proofs.rules.Folds.{fold-end, fold-more}
 use Rattle.judge.proofs.rules.all_barred.Statement.{statement}
 use Rattle.judge.proofs.rules.all_barred.Tie as tie
 
 abbrev Inv-loop : tie.InvT-loop
-Inv-loop ticks r n barred₀ i₀ barred i = (i ≤ n) × (allBarred ticks (rulesIn r) (replicate 8 false) ≡ allBarred ticks (rulesFrom (r .rules) n i) barred)
+Inv-loop lines n ticks barred₀ i₀ barred i = (i ≤ n) × (allBarred ticks (linesIn lines 32 n) (replicate 8 false) ≡ allBarred ticks (listedFrom (ruleIn lines) i (n - i)) barred)
 
 abbrev μ-loop : tie.MeasureT-loop
-μ-loop ticks r n barred₀ i₀ barred i = n - i
-
--- the array's length, from what the parameter's type tells
-sixteen : (c : tie.Start Inv-loop μ-loop) → length (c .args .t1 .rules) ≡ 16
-sixteen c = simp length-map at (c .good .0 .1 .1 .1 .0 .1 .0 .1)
+μ-loop lines n ticks barred₀ i₀ barred i = n - i
 
 loop-holds : tie.Need-loop-holds Inv-loop μ-loop
-loop-holds c = (omega arith, refl)
+loop-holds c = (omega arith, rw sub-zero)
 
-mul-rule : tie.Need-mul-rule Inv-loop μ-loop
-mul-rule c = search needs
+add-line-in : tie.Need-add-line-in Inv-loop μ-loop
+add-line-in c = search needs
 
-element-copy-out-rule : tie.Need-element-copy-out-rule Inv-loop μ-loop
-element-copy-out-rule c = search needs
-
-line-of-requires : tie.Need-line-of-requires Inv-loop μ-loop
-line-of-requires c κs = search needs
+line-in-requires : tie.Need-line-in-requires Inv-loop μ-loop
+line-in-requires c κs = search needs
 
 barred-by-requires : tie.Need-barred-by-requires Inv-loop μ-loop
 barred-by-requires c κs = search needs
@@ -44,16 +40,16 @@ loop-less c = search needs
 
 loop-again : tie.Need-loop-again Inv-loop μ-loop
 loop-again c =
-    let at = c .before .before .before .before in
-    let a = at .before .args in
-    let l = sixteen (at .before) in
-    (omega arith, fold-more (barredBy (a .ticks)) (allBarred (a .ticks)) (λ x. refl) (λ l ls x. refl) (a .t1 .rules) (a .t1 .count) (at .loop .i) (at .loop .barred) (at .loop .inv .1) (omega arith) (omega arith) (c .before .line-of .result) (c .before .line-of .ensures) (c .barred-by .result) (c .barred-by .ensures))
+    let l = c .before .line-in in
+    let at = c .before .before .before in
+    let a = at .before .before .args in
+    (omega arith, fold-more (barredBy (a .ticks)) (allBarred (a .ticks)) (λ x. refl) (λ l ls x. refl) (ruleIn (a .lines .now)) (a .n) (at .loop .i) (at .loop .barred) (at .loop .inv .1) (omega arith) (l .result) (l .ensures) (c .barred-by .result) (c .barred-by .ensures))
 
 returns : tie.Need-returns Inv-loop μ-loop
 returns c =
     let at = c .before in
-    let a = at .before .args in
-    fold-end (barredBy (a .ticks)) (allBarred (a .ticks)) (λ x. refl) (λ l ls x. refl) (a .t1 .rules) (a .t1 .count) (at .loop .i) (at .loop .barred) (at .loop .inv .1) (omega arith)
+    let a = at .before .before .args in
+    fold-end (barredBy (a .ticks)) (allBarred (a .ticks)) (λ x. refl) (λ l ls x. refl) (ruleIn (a .lines .now)) (a .n) (at .loop .i) (at .loop .barred) (at .loop .inv .1) (omega arith)
 
 pub all-barred-spec : {M : Type 1} → statement M
 all-barred-spec =
@@ -62,9 +58,8 @@ all-barred-spec =
     Inv-loop
     μ-loop
     loop-holds
-    mul-rule
-    element-copy-out-rule
-    line-of-requires
+    add-line-in
+    line-in-requires
     barred-by-requires
     add-i
     loop-less

@@ -15,17 +15,17 @@ use Rattle.judge.proofs.settle.settle_all.Statement.{statement}
 use Rattle.judge.proofs.settle.settle_all.Tie as tie
 
 abbrev Inv-loop : tie.InvT-loop
-Inv-loop room s rules reach precede tags m list n marks dues leads stopped outmarks₀ outdues₀ outleads₀ outstopped₀ live₀ f₀ outmarks outdues outleads outstopped live f =
+Inv-loop room s plan lines tags m list n marks dues leads stopped outmarks₀ outdues₀ outleads₀ outstopped₀ live₀ f₀ outmarks outdues outleads outstopped live f =
     (f ≤ m) × (live ≤ room) × Roomy (rows outmarks outdues outleads outstopped) × Small live outmarks
     × (takenBy (settling room (sheetValue s) tags (rowsOf (sheetValue s) n (rows marks dues leads stopped))) (fillingsIn list m) (some [])
     ≡ takenFrom room (sheetValue s) tags (rowsOf (sheetValue s) n (rows marks dues leads stopped)) list m f (some (rowsOf (sheetValue s) live (rows outmarks outdues outleads outstopped))))
 
 abbrev μ-loop : tie.MeasureT-loop
-μ-loop room s rules reach precede tags m list n marks dues leads stopped outmarks₀ outdues₀ outleads₀ outstopped₀ live₀ f₀ outmarks outdues outleads outstopped live f = m - f
+μ-loop room s plan lines tags m list n marks dues leads stopped outmarks₀ outdues₀ outleads₀ outstopped₀ live₀ f₀ outmarks outdues outleads outstopped live f = m - f
 
 -- the call, its sheet, the rows given, the arrays to fill, and what is asked
 abbrev start : tie.At-loop Inv-loop μ-loop → tie.Start Inv-loop μ-loop
-start at = at .before .before .before .before .before .before .before .before
+start at = at .before .before .before .before .before .before .before .before .before
 
 abbrev sheet : tie.Start Inv-loop μ-loop → SheetValue
 sheet e = sheetValue (e .args .s)
@@ -37,7 +37,7 @@ abbrev arrays : tie.Start Inv-loop μ-loop → Rows
 arrays e = rows (e .args .outmarks .now) (e .args .outdues .now) (e .args .outleads .now) (e .args .outstopped .now)
 
 had : (e : tie.Start Inv-loop μ-loop) → Roomy (arrays e)
-had e = e .pre .1 .1 .1 .1 .1 .1 .1 .1 .1 .1 .1 .1 .1 .0
+had e = e .pre .1 .1 .1 .1 .1 .1 .1 .1 .1 .1 .0
 
 abbrev wanted : tie.Start Inv-loop μ-loop → Option (List Remainder)
 wanted e = takenBy (settling (e .args .room) (sheet e) (e .args .tags) (given e)) (fillingsIn (e .args .list .now) (e .args .m)) (some [])
@@ -50,7 +50,7 @@ abbrev found : tie.At-loop Inv-loop μ-loop → Option (List Remainder)
 found at = some (rowsOf (sheet (start at)) (at .loop .live) (rows (at .loop .outmarks) (at .loop .outdues) (at .loop .outleads) (at .loop .outstopped)))
 
 abbrev after : tie.After-settle Inv-loop μ-loop → Rows
-after c = rows (c .settle .last .1 .1 .1 .1 .1 .1 .1 .1 .1 .1 .1 .1 .1 .0) (c .settle .last .1 .1 .1 .1 .1 .1 .1 .1 .1 .1 .1 .1 .1 .1 .0) (c .settle .last .1 .1 .1 .1 .1 .1 .1 .1 .1 .1 .1 .1 .1 .1 .1 .0) (c .settle .last .1 .1 .1 .1 .1 .1 .1 .1 .1 .1 .1 .1 .1 .1 .1 .1 .0)
+after c = let l = c .settle .last .1 .1 .1 .1 .1 .1 .1 .1 .1 .1 .1 .1 in rows (l .0) (l .1 .0) (l .1 .1 .0) (l .1 .1 .1 .0)
 
 has : (c : tie.After-settle Inv-loop μ-loop) → Roomy (after c)
 has c = c .settle .ensures .1 .0
@@ -60,7 +60,7 @@ turn c = c .before .before .before .before .before .before .before
 
 loop-holds : tie.Need-loop-holds Inv-loop μ-loop
 loop-holds c =
-    let e = c .before .before .before .before .before .before .before in
+    let e = c .before .before .before .before .before .before .before .before in
     (omega arith, omega arith, had e, λ i h. absurd (omega arith), taken-start (e .args .room) (sheet e) (e .args .tags) (given e) (e .args .list .now) (e .args .m) (arrays e))
 
 flags-at-requires : tie.Need-flags-at-requires Inv-loop μ-loop
@@ -74,8 +74,8 @@ settle-requires c κs =
     let at = c .before .before .before .before .before .before in
     let p = start at .pre in
     let q = p .1 .1 .1 .1 in
-    let r = q .1 .1 .1 .1 in
-    (p .0, (p .1 .0, (p .1 .1 .0, (p .1 .1 .1 .0, (q .0, (q .1 .1 .0, (at .loop .inv .1, (q .1 .0, (r .0, (r .1 .1 .0, (r .1 .1 .1 .0, (r .1 .1 .1 .1 .0, (at .loop .inv .2, (at .loop .inv .3, r .1 .1 .1 .1 .1 .1))))))))))))))
+    let r = q .1 .1 .1 in
+    (p .0, (p .1 .0, (p .1 .1 .0, (p .1 .1 .1 .0, (q .1 .1 .0, (at .loop .inv .1, (r .0, (r .1 .0, (r .1 .1 .0, (at .loop .inv .2, (at .loop .inv .3, r .1 .1 .1 .1)))))))))))
 
 -- what is asked is what the filling made of those found, and then the rest
 turned : (c : tie.After-settle Inv-loop μ-loop) → wanted (start (turn c)) ≡ leftFrom (start (turn c)) (turn c .loop .f + 1) (foundIn (sheet (start (turn c))) (c .settle .result) (after c))

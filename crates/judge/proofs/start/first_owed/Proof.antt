@@ -1,18 +1,20 @@
 -- `first_owed` meets its contract. The invariant: what all lines owe is added once what those from i on owe is added to what there is. Assumes nothing.
-use mathlib.Core.Path.{_≡_}
+use mathlib.Core.Option.{none, some}
+use mathlib.Core.Path.{_≡_, _∙_}
 use Prim.Native.Nat.{_≤_, _-_}
 use native.Mathlib.Omega.{arith}
 use borrow.Author.Needs.{needs}
+use Rattle.records.specs.Sheet.{lineAt}
 use Rattle.tesl.specs.Fits.{owedAtStart}
-use Rattle.judge.specs.View.{owedIn}
+use Rattle.judge.specs.View.{owedIn, addedOf}
 use Rattle.judge.specs.Work.{addedAll}
-use Rattle.judge.proofs.started.Laws.{begunFrom}
-use Rattle.judge.proofs.start.Laws.{allAdded, first-start, first-end, first-none, first-over, first-more}
+use Rattle.judge.proofs.owed.Laws.{begunFrom, adding-end, adding-nothing, adding-over, adding-more}
+use Rattle.judge.proofs.start.Laws.{allAdded, first-start}
 use Rattle.judge.proofs.start.first_owed.Statement.{statement}
 use Rattle.judge.proofs.start.first_owed.Tie as tie
 
 abbrev Inv-loop : tie.InvT-loop
-Inv-loop s n owed₀ i₀ owed i = (i ≤ n) × ((allAdded s ≡ addedAll (begunFrom owedAtStart s n i) (owedIn owed)) × (owed .count ≤ 8))
+Inv-loop s n owed₀ i₀ owed i = (i ≤ n) × ((allAdded s ≡ addedAll (begunFrom owedAtStart (lineAt s) n i) (owedIn owed)) × (owed .count ≤ 8))
 
 abbrev μ-loop : tie.MeasureT-loop
 μ-loop s n owed₀ i₀ owed i = n - i
@@ -46,8 +48,8 @@ loop-again c =
     let s = at .before .before .args .s in
     let l = c .before .before .before .line-at in
     let b = c .before .before .owed-at-start in
-    let none = first-none s (s .count) (at .loop .i) (owedIn (at .loop .owed)) (at .loop .inv .1 .0) (omega arith) (l .result) (l .ensures) (b .result) (b .ensures) in
-    (omega arith, (none (c .enum-told .given .1), at .loop .inv .1 .1))
+    let same = adding-nothing owedAtStart (lineAt s) (s .count) (at .loop .i) (owedIn (at .loop .owed)) (at .loop .inv .1 .0) (omega arith) (l .result) (l .ensures) (b .result) (b .ensures) in
+    (omega arith, (same (c .enum-told .given .1), at .loop .inv .1 .1))
 
 enum-known-o : tie.Need-enum-known-o Inv-loop μ-loop
 enum-known-o c = search needs
@@ -63,8 +65,9 @@ returns c =
     let b = c .before .before .before .before .before .owed-at-start in
     let o = c .before .before .before .o .given in
     let a = c .before .add in
-    let by = first-over s (s .count) (at .loop .i) (owedIn (at .loop .owed)) (at .loop .inv .1 .0) (omega arith) (l .result) (l .ensures) (b .result) (b .ensures) (o .0 .0) (o .1) (a .result) (a .ensures .0) in
-    (by (c .if1 .taken), a .ensures .1)
+    let t : addedOf (a .result) ≡ none = rw (c .if1 .taken) in
+    let all = adding-over owedAtStart (lineAt s) (s .count) (at .loop .i) (owedIn (at .loop .owed)) (at .loop .inv .1 .0) (omega arith) (l .result) (l .ensures) (b .result) (b .ensures) (o .0 .0) (o .1) (a .ensures .0) t in
+    (t ∙ all, a .ensures .1)
 
 loop-less-2 : tie.Need-loop-less-2 Inv-loop μ-loop
 loop-less-2 c = search needs
@@ -77,14 +80,15 @@ loop-again-2 c =
     let b = c .before .before .before .before .before .before .owed-at-start in
     let o = c .before .before .before .before .o .given in
     let a = c .before .before .add in
-    let by = first-more s (s .count) (at .loop .i) (owedIn (at .loop .owed)) (at .loop .inv .1 .0) (omega arith) (l .result) (l .ensures) (b .result) (b .ensures) (o .0 .0) (o .1) (a .result) (a .ensures .0) in
-    (omega arith, (by (c .before .if1 .left), a .ensures .1))
+    let t : addedOf (a .result) ≡ some (owedIn (a .result .owed)) = rw (c .before .if1 .left) in
+    let all = adding-more owedAtStart (lineAt s) (s .count) (at .loop .i) (owedIn (at .loop .owed)) (at .loop .inv .1 .0) (omega arith) (l .result) (l .ensures) (b .result) (b .ensures) (o .0 .0) (o .1) (a .ensures .0) t in
+    (omega arith, (all, a .ensures .1))
 
 returns-2 : tie.Need-returns-2 Inv-loop μ-loop
 returns-2 c =
     let at = c .before in
     let s = at .before .before .args .s in
-    (first-end s (s .count) (at .loop .i) (owedIn (at .loop .owed)) (at .loop .inv .1 .0) (omega arith), at .loop .inv .1 .1)
+    (adding-end owedAtStart (lineAt s) (s .count) (at .loop .i) (owedIn (at .loop .owed)) (at .loop .inv .1 .0) (omega arith), at .loop .inv .1 .1)
 
 pub first-owed-spec : {M : Type 1} → statement M
 first-owed-spec =

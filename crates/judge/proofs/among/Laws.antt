@@ -1,0 +1,159 @@
+-- A row compared with another, test by test as the code makes them: they are equal in every sheet of these clocks and precedes lines, or in none. Assumes nothing.
+use mathlib.Core.Bool.{Bool, true, false, not, _&&_, _||_, Bool·beq, and-false}
+use mathlib.Core.List.{List, [], _∷_}
+use mathlib.Core.Path.{_≡_, refl, sym, ap, ap₂, _∙_}
+use Prim.Native.Nat.{ℕ, zero, suc, _<_, _≤_}
+use native.Mathlib.Omega.{arith}
+use lib.Dec.{eqb}
+use lib.ListN.{length, take, getD, List·getD-eq-default}
+use lib.Seq.{length-take-le, getD-take}
+use borrow.Author.Tests.{lt-ltb, le-ltb, eq-eqb, ne-eqb, not-true, not-false}
+use Rattle.records.specs.declared.line.Line.{Line}
+use Rattle.records.specs.declared.line.Line.the-variants.{Sporadic, Relation, Implies, Excludes, Delayed, Weakly, Strictly, Kills}
+use Rattle.records.specs.Line.{blankLine}
+use Rattle.records.specs.Lists.{listed}
+use Rattle.records.specs.Sheet.{SheetValue}
+use Rattle.records.proofs.Lists.{length-listed}
+use Rattle.tesl.specs.Lists.{any, below, sameList}
+use Rattle.tesl.specs.Fits.{Obligation}
+use Rattle.tesl.specs.Remainder.{sameObligation}
+use Rattle.theory.specs.Step.{nextLeads}
+use Rattle.judge.specs.View.{inUse, cut}
+use Rattle.judge.specs.Work.{sameCounted}
+use Rattle.judge.specs.Rows.{Rows, rowCount, rowObligation, rowOwed, rowLead, rowStop, rowOf, rowsOf, isPrecedes, Leading}
+use Rattle.judge.proofs.Below.{below-ext, below-miss, below-front, below-either}
+use Rattle.judge.proofs.Listing.{listed-at, all-listed, any-listed}
+
+-- ---- lists compared place by place
+module _ {A : Type 0} (same : A → A → Bool) (d : A) where
+  same-places : (xs ys : List A) → length xs ≡ length ys → sameList same xs ys ≡ below (length xs) (λ k. same (getD xs k d) (getD ys k d))
+  same-places [] [] e = refl
+  same-places [] (y ∷ ys) e = absurd (omega arith)
+  same-places (x ∷ xs) [] e = absurd (omega arith)
+  same-places (x ∷ xs) (y ∷ ys) e =
+      ap (λ (b : Bool). same x y && b) (same-places xs ys (omega arith)) ∙ sym (below-front (λ k. same (getD (x ∷ xs) k d) (getD (y ∷ ys) k d)) (length xs))
+
+  -- the first n of what is listed
+  same-first : (n m : ℕ) (f g : ℕ → A) → n ≤ m → sameList same (take n (listed f m)) (take n (listed g m)) ≡ below n (λ k. same (f k) (g k))
+  same-first n m f g h =
+      let l = length-take-le n (listed f m) (omega (arith, length-listed f m)) in
+      let r = length-take-le n (listed g m) (omega (arith, length-listed g m)) in
+      same-places (take n (listed f m)) (take n (listed g m)) (l ∙ sym r)
+      ∙ ap (λ (j : ℕ). below j (λ k. same (getD (take n (listed f m)) k d) (getD (take n (listed g m)) k d))) l
+      ∙ below-ext n _ _ (λ k t. rw (getD-take n (listed f m) k d t, getD-take n (listed g m) k d t, listed-at f d m k (omega arith), listed-at g d m k (omega arith)))
+
+-- ---- the leads in use
+length-used : (ls : List Line) (xs : List ℕ) → length (nextLeads inUse ls xs) ≡ length ls
+length-used [] xs = refl
+length-used (l ∷ ls) [] = ap suc (length-used ls [])
+length-used (l ∷ ls) (n ∷ xs) = ap suc (length-used ls xs)
+
+used-at : (ls : List Line) (xs : List ℕ) (k : ℕ) → getD (nextLeads inUse ls xs) k 0 ≡ inUse (getD ls k blankLine) (getD xs k 0)
+used-at [] xs k = refl
+used-at (l ∷ ls) [] zero = refl
+used-at (l ∷ ls) [] (suc k) = used-at ls [] k
+used-at (l ∷ ls) (n ∷ xs) zero = refl
+used-at (l ∷ ls) (n ∷ xs) (suc k) = used-at ls xs k
+
+same-lead : (l : Line) (a b : ℕ) → eqb (inUse l a) (inUse l b) ≡ (not (isPrecedes l) || eqb a b)
+same-lead (Weakly A B) a b = refl
+same-lead (Strictly A B) a b = refl
+same-lead (Sporadic A B t) a b = refl
+same-lead (Relation A B p q) a b = refl
+same-lead (Implies A B) a b = refl
+same-lead (Excludes A B) a b = refl
+same-lead (Delayed A B D d) a b = refl
+same-lead (Kills A B) a b = refl
+
+module _ (v : SheetValue) (reach : ℕ) (precede : List Bool) (leading : Leading v reach precede) (f g : ℕ → ℕ) where
+  abbrev xs : List ℕ
+  xs = listed f 16
+
+  abbrev ys : List ℕ
+  ys = listed g 16
+
+  -- line k has no lead in use, or the same
+  abbrev sameAt : ℕ → Bool
+  sameAt k = not (isPrecedes (getD (v .lines) k blankLine)) || eqb (getD xs k 0) (getD ys k 0)
+
+  past-lines : (k : ℕ) → length (v .lines) ≤ k → sameAt k ≡ true
+  past-lines k h = rw (List·getD-eq-default (v .lines) blankLine {n = k} h)
+
+  past-reach : (k : ℕ) → reach ≤ k → sameAt k ≡ true
+  past-reach k h = rw (leading .1 k, le-ltb k reach h)
+
+  within-reach : (k : ℕ) → k < reach → sameAt k ≡ (not (getD precede k false) || eqb (f k) (g k))
+  within-reach k h =
+      let l : k < 16 = omega (arith, leading .0) in
+      rw (leading .1 k, lt-ltb k reach h, listed-at f 0 16 k l, listed-at g 0 16 k l)
+
+  same-leads : sameList eqb (nextLeads inUse (v .lines) xs) (nextLeads inUse (v .lines) ys) ≡ below reach (λ k. not (getD precede k false) || eqb (f k) (g k))
+  same-leads =
+      let l = length-used (v .lines) xs in
+      same-places eqb 0 (nextLeads inUse (v .lines) xs) (nextLeads inUse (v .lines) ys) (l ∙ sym (length-used (v .lines) ys))
+      ∙ ap (λ (j : ℕ). below j (λ k. eqb (getD (nextLeads inUse (v .lines) xs) k 0) (getD (nextLeads inUse (v .lines) ys) k 0))) l
+      ∙ below-ext (length (v .lines)) _ sameAt (λ k t. ap₂ eqb (used-at (v .lines) xs k) (used-at (v .lines) ys k) ∙ same-lead (getD (v .lines) k blankLine) (getD xs k 0) (getD ys k 0))
+      ∙ below-either sameAt (length (v .lines)) reach past-lines past-reach
+      ∙ below-ext reach sameAt _ within-reach
+
+-- ---- rows n and i
+
+-- row n owes obligation j of row i
+abbrev pub owesAt : Rows → ℕ → ℕ → ℕ → Bool
+owesAt r n i j = any (sameObligation (rowObligation (r .marks) (r .dues) i j)) (rowOwed (r .marks) (r .dues) n)
+
+pub owes-here : (r : Rows) (n i j : ℕ) {o : Obligation} {os : List Obligation} {b : Bool} → o ≡ rowObligation (r .marks) (r .dues) i j → os ≡ rowOwed (r .marks) (r .dues) n → b ≡ any (sameObligation o) os → owesAt r n i j ≡ b
+owes-here r n i j e w f = rw (sym e, sym w) (sym f)
+
+module _ (clocks reach : ℕ) (precede : List Bool) (r : Rows) (n : ℕ) where
+  abbrev stopsSame : ℕ → Bool
+  stopsSame i = below clocks (λ k. Bool·beq (rowStop (r .stopped) n k) (rowStop (r .stopped) i k))
+
+  abbrev leadsSame : ℕ → Bool
+  leadsSame i = below reach (λ k. not (getD precede k false) || eqb (rowLead (r .leads) n k) (rowLead (r .leads) i k))
+
+  -- the tests in turn
+  unfoldable pub sameRow : ℕ → Bool
+  sameRow i = eqb (rowCount (r .marks) n) (rowCount (r .marks) i) && (stopsSame i && (leadsSame i && below (rowCount (r .marks) i) (owesAt r n i)))
+
+  -- none of the first m rows is row n
+  abbrev pub noneSame : ℕ → Bool
+  noneSame m = below m (λ i. not (sameRow i))
+
+  module _ (i : ℕ) where
+    pub other-count : (rowCount (r .marks) i ≡ rowCount (r .marks) n → ⊥) → sameRow i ≡ false
+    unfolding sameRow
+    other-count q = rw (ne-eqb (rowCount (r .marks) n) (rowCount (r .marks) i) (λ e. q (sym e)))
+
+    pub other-stops : {b : Bool} → b ≡ stopsSame i → not b ≡ true → sameRow i ≡ false
+    unfolding sameRow
+    other-stops {b} e q = rw (sym e, not-true b q) (and-false (eqb (rowCount (r .marks) n) (rowCount (r .marks) i)))
+
+    pub other-leads : {b : Bool} → b ≡ leadsSame i → not b ≡ true → sameRow i ≡ false
+    unfolding sameRow
+    other-leads {b} e q = rw (sym e, not-true b q, and-false (stopsSame i)) (and-false (eqb (rowCount (r .marks) n) (rowCount (r .marks) i)))
+
+    pub other-owed : (j : ℕ) → j < rowCount (r .marks) i → owesAt r n i j ≡ false → sameRow i ≡ false
+    unfolding sameRow
+    other-owed j h q = rw (below-miss (owesAt r n i) (rowCount (r .marks) i) j h q, and-false (leadsSame i), and-false (stopsSame i)) (and-false (eqb (rowCount (r .marks) n) (rowCount (r .marks) i)))
+
+    pub equal : {s l : Bool} → rowCount (r .marks) i ≡ rowCount (r .marks) n → s ≡ stopsSame i → not s ≡ false → l ≡ leadsSame i → not l ≡ false → below (rowCount (r .marks) i) (owesAt r n i) ≡ true → sameRow i ≡ true
+    unfolding sameRow
+    equal {s} {l} z e q f g o = rw (eq-eqb (rowCount (r .marks) n) (rowCount (r .marks) i) (sym z), sym e, not-false s q, sym f, not-false l g, o)
+
+  -- in any sheet of these clocks and precedes lines
+  module _ (c : clocks ≤ 8) (v : SheetValue) (e : v .clocks ≡ clocks) (leading : Leading v reach precede) where
+    same-row : (i : ℕ) → sameCounted (cut v (rowOf r n)) (cut v (rowOf r i)) ≡ sameRow i
+    unfolding sameCounted sameRow
+    same-row i =
+        rw (
+          e,
+          length-listed (rowObligation (r .marks) (r .dues) n) (rowCount (r .marks) n),
+          length-listed (rowObligation (r .marks) (r .dues) i) (rowCount (r .marks) i),
+          same-first Bool·beq false clocks 8 (rowStop (r .stopped) n) (rowStop (r .stopped) i) c,
+          same-leads v reach precede leading (rowLead (r .leads) n) (rowLead (r .leads) i),
+          all-listed (rowObligation (r .marks) (r .dues) i) (λ o. any (sameObligation o) (rowOwed (r .marks) (r .dues) n)) (rowCount (r .marks) i),
+        )
+
+    pub among : any (sameCounted (cut v (rowOf r n))) (rowsOf v n r) ≡ not (noneSame n)
+    among = any-listed (λ i. cut v (rowOf r i)) (sameCounted (cut v (rowOf r n))) n ∙ ap not (below-ext n _ _ (λ i h. ap not (same-row i)))
