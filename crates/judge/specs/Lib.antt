@@ -5,6 +5,8 @@ pub mod Questions
 pub mod Lines
 pub mod Carried
 pub mod Owed
+pub mod Once
+pub mod Begun
 pub mod Work
 pub mod Rules
 pub mod Fillings

@@ -1,12 +1,10 @@
 // What a filled instant makes of a row: whether the row fits, and the row that it becomes, built in place in a second set of arrays.
-use crate::line::Begun;
-use crate::line::begins;
+use crate::begun::begun_at;
+use crate::begun::begun_count;
 use crate::obligation::Obligation;
 use crate::obligation::is_late;
 use crate::obligation::is_met;
 use crate::obligation::same_obligation;
-use crate::plan::DELAYS;
-use crate::plan::line_in;
 use crate::rows::obligation_at;
 use crate::rows::put_obligation;
 use crate::rows::row_count;
@@ -15,14 +13,13 @@ ghost use mathlib.Core.Bool.{true};
 ghost use Prim.Native.Nat.{ℕ, _+_, _-_, _≤_, _<_};
 ghost use lib.Dec.{leb};
 ghost use lib.ListN.{length, getD};
-ghost use Rattle.tesl.specs.Lists.{any, below, flatMap};
-ghost use Rattle.tesl.specs.Fits.{owedFrom};
+ghost use Rattle.tesl.specs.Lists.{any, below};
 ghost use Rattle.tesl.specs.Remainder.{sameObligation};
 ghost use Rattle.judge.specs.View.{obligationOf, filledOf};
 ghost use Rattle.judge.specs.Carried.{overlap, either};
 ghost use Rattle.judge.specs.Owed.{added, kept};
 ghost use Rattle.judge.specs.Work.{addedAll};
-ghost use Rattle.judge.specs.Plan.{linesIn};
+ghost use Rattle.judge.specs.Begun.{begunCount, begunIn};
 ghost use Rattle.judge.specs.Rows.{rowCount, rowOwed, rowLead, rowLeads, rowStopped, provided, OwedStays};
 
 // A clock among these is stopped in row i.
@@ -125,33 +122,25 @@ fn add_row(marks: &mut [u8], dues: &mut [i32], i: usize, o: Obligation) -> bool
     true
 }
 
-// Row i with the obligations that n delay lines begin; the rows before stay. False: one had no room.
+// Row i with the obligations that were begun; the rows before stay. False: one had no room.
 pub(crate) fn begin_row(
-    lines: &[u16],
-    n: usize,
-    ticks: [bool; 8],
-    tags: [i16; 8],
+    begun: &[u8],
+    begundues: &[i32],
     marks: &mut [u8],
     dues: &mut [i32],
     i: usize,
 ) -> bool
-    requires { ⌜ (length (now lines) ≡ 320) × ((n ≤ 16) × ((length (now marks) ≡ 561) × ((length (now dues) ≡ 264) × ((i < 33) × (rowCount (now marks) i ≤ 8))))) ⌝ }
-    ensures { λ r. ⌜ (length (now (marks .exit)) ≡ 561) × ((length (now (dues .exit)) ≡ 264) × ((provided r (rowOwed (now (marks .exit)) (now (dues .exit)) i) ≡ addedAll (flatMap (owedFrom (filledOf ticks tags)) (linesIn (now (lines .entry)) 48 n)) (rowOwed (now (marks .entry)) (now (dues .entry)) i)) × ((rowCount (now (marks .exit)) i ≤ 8) × OwedStays i (now (marks .entry)) (now (dues .entry)) (now (marks .exit)) (now (dues .exit))))) ⌝ }
+    requires { ⌜ (length (now begun) ≡ 33) × ((length (now begundues) ≡ 16) × ((begunCount (now begun) ≤ 16) × ((length (now marks) ≡ 561) × ((length (now dues) ≡ 264) × ((i < 33) × (rowCount (now marks) i ≤ 8)))))) ⌝ }
+    ensures { λ r. ⌜ (length (now (marks .exit)) ≡ 561) × ((length (now (dues .exit)) ≡ 264) × ((provided r (rowOwed (now (marks .exit)) (now (dues .exit)) i) ≡ addedAll (begunIn (now (begun .entry)) (now (begundues .entry))) (rowOwed (now (marks .entry)) (now (dues .entry)) i)) × ((rowCount (now (marks .exit)) i ≤ 8) × OwedStays i (now (marks .entry)) (now (dues .entry)) (now (marks .exit)) (now (dues .exit))))) ⌝ }
 {
+    let n = begun_count(begun);
     let mut j = 0;
     while j < n {
-        let l = line_in(lines, DELAYS + j);
-        j += 1;
-        match begins(l, ticks, tags) {
-            Begun::Nothing => {
-                continue;
-            }
-            Begun::Owed(o) => {
-                if !add_row(marks, dues, i, o) {
-                    return false;
-                }
-            }
+        let o = begun_at(begun, begundues, j);
+        if !add_row(marks, dues, i, o) {
+            return false;
         }
+        j += 1;
     }
     true
 }

@@ -2,6 +2,7 @@
 mod advance;
 mod among;
 pub mod answer;
+mod begun;
 mod clock;
 mod fill;
 mod heed;

@@ -6,6 +6,7 @@ use crate::advance::leads_hold;
 use crate::advance::leads_on;
 use crate::advance::stopped_on;
 use crate::among::is_among;
+use crate::begun::begin_all;
 use crate::held::Count;
 use crate::held::Held;
 use crate::held::clocks_of;
@@ -75,6 +76,9 @@ fn settle(
     let delays = plan.delays;
     let barred = all_barred(lines, rules, ticks);
     let stops = all_stops(lines, rules, ticks);
+    let mut begun = [0u8; 33];
+    let mut begundues = [0i32; 16];
+    begin_all(lines, delays, ticks, tags, &mut begun, &mut begundues);
     let mut asks = [0u16; 48];
     ask_leads(lines, reach, ticks, &mut asks);
     let mut live = found;
@@ -91,7 +95,7 @@ fn settle(
         if !keep_row(marks, dues, at, ticks, tags, outmarks, outdues, live) {
             continue;
         }
-        if !begin_row(lines, delays, ticks, tags, outmarks, outdues, live) {
+        if !begin_row(&begun, &begundues, outmarks, outdues, live) {
             return Count::Exhausted;
         }
         leads_on(reach, &asks, leads, at, outleads, live);

@@ -21,6 +21,21 @@ use Rattle.judge.specs.View.{obligationOf, begunOf, owedIn, addedOf}
 use Rattle.judge.specs.Owed.{added, left, kept}
 use Rattle.judge.specs.Work.{onward, addedAll}
 
+-- ---- obligations: all is added once the rest is added to what is owed so far
+module _ (rest q : List Obligation) {whole : Option (List Obligation)} (w : whole ≡ addedAll rest q) where
+  pub rest-end : rest ≡ [] → some q ≡ whole
+  rest-end e = sym (w ∙ rw e)
+
+  module _ (o : code.Obligation) (more : List Obligation) (e : rest ≡ obligationOf o ∷ more) {sum : Option (List Obligation)} (a : sum ≡ added q (obligationOf o)) where
+    one : whole ≡ onward (addedAll more) sum
+    one = w ∙ rw (e, a)
+
+    pub rest-over : sum ≡ none → none ≡ whole
+    rest-over t = sym (one ∙ rw t)
+
+    pub rest-more : {os : List Obligation} → sum ≡ some os → whole ≡ addedAll more os
+    rest-more t = one ∙ rw t
+
 -- ---- what lines begin: those from place i on
 module _ (begins : Line → List Obligation) (f : ℕ → Line) where
   abbrev pub begunFrom : ℕ → ℕ → List Obligation
@@ -29,10 +44,9 @@ module _ (begins : Line → List Obligation) (f : ℕ → Line) where
   pub begun-start : (n : ℕ) → flatMap begins (listed f n) ≡ begunFrom n 0
   begun-start n = let k : n - 0 ≡ n = omega arith in rw k
 
-  -- all is added once what they begin is added to what is owed so far
   module _ (n i : ℕ) (q : List Obligation) {whole : Option (List Obligation)} (w : whole ≡ addedAll (begunFrom n i) q) where
     pub adding-end : n ≤ i → some q ≡ whole
-    adding-end h = sym (w ∙ rw (listed-end f n i h))
+    adding-end h = rest-end (begunFrom n i) q w (rw (listed-end f n i h))
 
     module _ (h : i < n) (l : Line) (e : l ≡ f i) (b : Begun) (g : begunOf b ≡ begins l) where
       turn : begunFrom n i ≡ begunOf b ++ begunFrom n (i + 1)
@@ -42,14 +56,11 @@ module _ (begins : Line → List Obligation) (f : ℕ → Line) where
       adding-nothing k = w ∙ rw (turn, k)
 
       module _ (o : code.Obligation) (k : b ≡ Owed o) {sum : Option (List Obligation)} (a : sum ≡ added q (obligationOf o)) where
-        one : whole ≡ onward (addedAll (begunFrom n (i + 1))) sum
-        one = w ∙ rw (turn, k, a)
-
         pub adding-over : sum ≡ none → none ≡ whole
-        adding-over t = sym (one ∙ rw t)
+        adding-over t = rest-over (begunFrom n i) q w o (begunFrom n (i + 1)) (rw (turn, k)) a t
 
         pub adding-more : {os : List Obligation} → sum ≡ some os → whole ≡ addedAll (begunFrom n (i + 1)) os
-        adding-more t = one ∙ rw t
+        adding-more t = rest-more (begunFrom n i) q w o (begunFrom n (i + 1)) (rw (turn, k)) a t
 
 -- what was added, where there was room
 pub added-owed : (a : Added) {os : List Obligation} → addedOf a ≡ some os → owedIn (a .owed) ≡ os

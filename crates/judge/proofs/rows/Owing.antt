@@ -29,10 +29,10 @@ Storing i was wasd m ds = (length m ≡ 561) × (length ds ≡ 264) × Kept 0 (1
 abbrev marked : List ℕ → ℕ → ℕ → code.Obligation → List ℕ
 marked m i j o = set (set m (17 * i + 1 + j) (o .clock)) (17 * i + 9 + j) (o .on)
 
-two-stores : {A : Type 0} (d : A) (l : List A) (p q r : ℕ) (a b : A) → (r ≡ p → ⊥) → (r ≡ q → ⊥) → getD (set (set l p a) q b) r d ≡ getD l r d
+pub two-stores : {A : Type 0} (d : A) (l : List A) (p q r : ℕ) (a b : A) → (r ≡ p → ⊥) → (r ≡ q → ⊥) → getD (set (set l p a) q b) r d ≡ getD l r d
 two-stores d l p q r a b f g = getD-set-other (set l p a) q r b d g ∙ getD-set-other l p r a d f
 
-same-obligation : {c c′ o o′ : ℕ} {t t′ : ℤ} → c ≡ c′ → t ≡ t′ → o ≡ o′ → _≡_ {A = Obligation} (record { clock = c; due = t; on = o }) (record { clock = c′; due = t′; on = o′ })
+pub same-obligation : {c c′ o o′ : ℕ} {t t′ : ℤ} → c ≡ c′ → t ≡ t′ → o ≡ o′ → _≡_ {A = Obligation} (record { clock = c; due = t; on = o }) (record { clock = c′; due = t′; on = o′ })
 same-obligation a b c = rw (a, b, c)
 
 module _ (i : ℕ) (m : List ℕ) (ds : List ℤ) where

@@ -19,6 +19,7 @@ use Rattle.judge.specs.View.{filledOf, inUse, cut}
 use Rattle.judge.specs.Questions.{carriedHolds, leadAfter}
 use Rattle.judge.specs.Lines.{allStopped, smallLeads}
 use Rattle.judge.specs.Owed.{owing, kept}
+use Rattle.judge.specs.Once.{onceEach}
 use Rattle.judge.specs.Plan.{isRule}
 use Rattle.judge.specs.Carried.{allBarred, overlap, either, needOf, gainOf, lossOf}
 use Rattle.judge.specs.Rows.{Rows, Leading, rowOwed, rowLead, rowLeads, rowStop, rowStopped, rowOf, provided}
@@ -33,7 +34,7 @@ pub record Asked (v : SheetValue) (clocks reach : ℕ) (precede ticks : List Boo
   pub few-clocks : v .clocks ≤ 8
   pub well : T (wellFormed v)
   pub leading : Leading v reach precede
-  pub begins : begun ≡ flatMap (owedFrom (filledOf ticks tags)) (v .lines)
+  pub begins : begun ≡ onceEach (flatMap (owedFrom (filledOf ticks tags)) (v .lines))
   pub bars : barred ≡ allBarred ticks (filter isRule (v .lines)) (replicate 8 false)
   pub ends : stops ≡ allStopped ticks (filter isRule (v .lines)) (replicate 8 false)
   pub moves : (k : ℕ) → k < reach → (getD asks k 0 ≡ needOf ticks (sheetLine v k)) × ((getD asks (16 + k) 0 ≡ gainOf ticks (sheetLine v k)) × (getD asks (32 + k) 0 ≡ lossOf ticks (sheetLine v k)))

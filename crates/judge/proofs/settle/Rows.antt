@@ -20,11 +20,13 @@ use Rattle.judge.specs.declared.held.Count.the-variants.{Exhausted, Live
 use Rattle.judge.specs.Advanced.{Advanced, fails, over, onto}
 use Rattle.judge.specs.View.{filledOf, cut}
 use Rattle.judge.specs.Lines.{smallLeads}
+use Rattle.judge.specs.Once.{onceEach}
 use Rattle.judge.specs.Work.{sameCounted, inserted, took, advanced, settledAll}
 use Rattle.judge.specs.Fillings.{flagsIn, fillingsIn, takenBy, settling}
 use Rattle.judge.specs.Rows.{Rows, rowOf, rowsOf, foundIn}
 use Rattle.judge.proofs.Listing.{one-of}
 use Rattle.judge.proofs.work.Heed.{took-none}
+use Rattle.judge.proofs.work.Once.{settled-once}
 
 -- ---- a row
 pub row-small : (v : SheetValue) (R : Rows) (n i : ℕ) → i < n → T (all smallLeads (rowsOf v n R)) → T (smallLeads (cut v (rowOf R i)))
@@ -41,8 +43,9 @@ module _ (room : ℕ) (v : SheetValue) (f : Filled) (begun : List Obligation) (R
   abbrev pub settledFrom : ℕ → Option (List Remainder) → Option (List Remainder)
   settledFrom i = settledAll room v f begun (listedFrom (λ k. cut v (rowOf R k)) i (n - i))
 
-  pub settled-start : begun ≡ flatMap (owedFrom f) (v .lines) → (found : Option (List Remainder)) → settledAll room v f (flatMap (owedFrom f) (v .lines)) (rowsOf v n R) found ≡ settledFrom 0 found
-  settled-start e found = let z : n - 0 ≡ n = omega arith in rw (z, e)
+  -- each obligation begun once is all of them
+  pub settled-start : begun ≡ onceEach (flatMap (owedFrom f) (v .lines)) → (found : Option (List Remainder)) → settledAll room v f (flatMap (owedFrom f) (v .lines)) (rowsOf v n R) found ≡ settledFrom 0 found
+  settled-start e found = let z : n - 0 ≡ n = omega arith in rw (z, e) (sym (settled-once v f (flatMap (owedFrom f) (v .lines)) room (rowsOf v n R) found))
 
   module _ (i : ℕ) (O : Rows) (live : ℕ) {whole : Option (List Remainder)} (w : whole ≡ settledFrom i (some (rowsOf v live O))) where
     pub settled-end : n ≤ i → some (rowsOf v live O) ≡ whole

@@ -6,13 +6,14 @@ use Prim.Native.Nat.{ℕ, _+_, _-_, _*_, _≤_, _<_}
 use native.Mathlib.Omega.{arith}
 use borrow.Author.Tests.{not-false}
 use Rattle.records.specs.Sheet.{SheetValue, sheetValue}
-use Rattle.tesl.specs.Lists.{any, flatMap}
-use Rattle.tesl.specs.Fits.{Obligation, owedFrom}
+use Rattle.tesl.specs.Lists.{any}
+use Rattle.tesl.specs.Fits.{Obligation}
 use Rattle.tesl.specs.Remainder.{Remainder}
 use Rattle.judge.specs.Advanced.{Advanced, onto}
 use Rattle.judge.specs.View.{filledOf, cut}
 use Rattle.judge.specs.Carried.{needOf, gainOf, lossOf}
-use Rattle.judge.specs.Plan.{Planned, lineIn, linesIn}
+use Rattle.judge.specs.Plan.{Planned, lineIn}
+use Rattle.judge.specs.Begun.{begunIn}
 use Rattle.judge.specs.Rows.{Rows, rows, Roomy, rowOwed, rowOf, rowsOf, Small}
 use Rattle.judge.specs.Work.{sameCounted, advanced}
 use Rattle.judge.specs.Fillings.{settling}
@@ -26,19 +27,19 @@ use Rattle.judge.proofs.settle.settle.Statement.{statement}
 use Rattle.judge.proofs.settle.settle.Tie as tie
 
 abbrev Inv-loop : tie.InvT-loop
-Inv-loop room lines ticks tags n marks dues leads stopped found outmarks₀ outdues₀ outleads₀ outstopped₀ clocks reach precede rules delays barred stops asks live₀ i₀ outmarks outdues outleads outstopped live i =
+Inv-loop room lines ticks tags n marks dues leads stopped found outmarks₀ outdues₀ outleads₀ outstopped₀ clocks reach precede rules delays barred stops begun begundues asks live₀ i₀ outmarks outdues outleads outstopped live i =
     (i ≤ n) × (live ≤ room) × Roomy (rows outmarks outdues outleads outstopped) × Small live outmarks
-    × ((v : SheetValue) → Asked v clocks reach precede ticks tags (flatMap (owedFrom (filledOf ticks tags)) (linesIn lines 48 delays)) barred stops asks
+    × ((v : SheetValue) → Asked v clocks reach precede ticks tags (begunIn begun begundues) barred stops asks
     → settling room v tags (rowsOf v n (rows marks dues leads stopped)) (some (rowsOf v found (rows outmarks₀ outdues₀ outleads₀ outstopped₀))) ticks
-    ≡ settledFrom room v (filledOf ticks tags) (flatMap (owedFrom (filledOf ticks tags)) (linesIn lines 48 delays)) (rows marks dues leads stopped) n i (some (rowsOf v live (rows outmarks outdues outleads outstopped))))
+    ≡ settledFrom room v (filledOf ticks tags) (begunIn begun begundues) (rows marks dues leads stopped) n i (some (rowsOf v live (rows outmarks outdues outleads outstopped))))
 
 abbrev μ-loop : tie.MeasureT-loop
-μ-loop room lines ticks tags n marks dues leads stopped found outmarks₀ outdues₀ outleads₀ outstopped₀ clocks reach precede rules delays barred stops asks live₀ i₀ outmarks outdues outleads outstopped live i =
+μ-loop room lines ticks tags n marks dues leads stopped found outmarks₀ outdues₀ outleads₀ outstopped₀ clocks reach precede rules delays barred stops begun begundues asks live₀ i₀ outmarks outdues outleads outstopped live i =
     n - i
 
 -- the call, its sheet, its plan, the rows given, and the arrays to fill
 abbrev start : tie.At-loop Inv-loop μ-loop → tie.Start Inv-loop μ-loop
-start at = at .before .before .before .before .before .before .before .before .before .before .before .before .before .before .before
+start at = at .before .before .before .before .before .before .before .before .before .before .before .before .before .before .before .before .before .before .before .before
 
 abbrev sheet : tie.At-loop Inv-loop μ-loop → SheetValue
 sheet at = sheetValue (start at .args .s)
@@ -55,15 +56,15 @@ arrays e = rows (e .args .outmarks .now) (e .args .outdues .now) (e .args .outle
 had : (e : tie.Start Inv-loop μ-loop) → Roomy (given e) × Roomy (arrays e)
 had e = let p = e .pre .1 .1 .1 .1 .1 .1 in (p .0, p .1 .1 .1 .0)
 
--- what the delay lines begin
+-- what the filling begins
 abbrev begun : tie.At-loop Inv-loop μ-loop → List Obligation
-begun at = let a = start at .args in flatMap (owedFrom (filledOf (a .ticks) (a .tags))) (linesIn (a .lines .now) 48 (a .plan .delays))
+begun at = let l = at .before .before .before .before .before .before .begin-all .last .1 .1 .1 .1 in begunIn (l .0) (l .1 .0)
 
 -- what was computed of the filling is what a sheet's lines make of it; so it is for this sheet
 abbrev AskedOf : tie.At-loop Inv-loop μ-loop → SheetValue → Type 0
 AskedOf at v =
     let a = start at .args in
-    Asked v (at .before .before .before .before .before .before .before .clocks-of .result) (a .plan .reach) (a .plan .precede) (a .ticks) (a .tags) (begun at) (at .before .before .before .before .before .all-barred .result) (at .before .before .before .before .all-stops .result) (at .before .before .ask-leads .last .1 .1 .1 .0)
+    Asked v (at .before .before .before .before .before .before .before .before .before .before .before .before .clocks-of .result) (a .plan .reach) (a .plan .precede) (a .ticks) (a .tags) (begun at) (at .before .before .before .before .before .before .before .before .before .before .all-barred .result) (at .before .before .before .before .before .before .before .before .before .all-stops .result) (at .before .before .ask-leads .last .1 .1 .1 .0)
 
 line-at : (e : tie.Start Inv-loop μ-loop) (k : ℕ) → k < e .args .plan .reach → lineIn (e .args .lines .now) k ≡ sheetLine (sheetValue (e .args .s)) k
 line-at e k h = planned e .all k (omega (arith, h, planned e .far))
@@ -75,13 +76,13 @@ asked at =
     let plan = planned e in
     let asks = at .before .before .ask-leads .ensures .1 in
     record {
-      as-many = sym (at .before .before .before .before .before .before .before .clocks-of .ensures);
+      as-many = sym (at .before .before .before .before .before .before .before .before .before .before .before .before .clocks-of .ensures);
       few-clocks = p .1 .0;
       well = p .1 .1 .1 .1 .1 .1 .1 .1 .1 .1;
       leading = plan .leading;
-      begins = rw (plan .delays) (delays-enough (filledOf (e .args .ticks) (e .args .tags)) (sheet at .lines));
-      bars = at .before .before .before .before .before .all-barred .ensures ∙ rw (plan .rules);
-      ends = at .before .before .before .before .all-stops .ensures ∙ rw (plan .rules);
+      begins = rw (at .before .before .before .before .before .before .begin-all .ensures .1 .1 .1, plan .delays, delays-enough (filledOf (e .args .ticks) (e .args .tags)) (sheet at .lines));
+      bars = rw (← plan .rules) (at .before .before .before .before .before .before .before .before .before .before .all-barred .ensures);
+      ends = rw (← plan .rules) (at .before .before .before .before .before .before .before .before .before .all-stops .ensures);
       moves = λ k h. (asks k h .0 ∙ ap (needOf (e .args .ticks)) (line-at e k h), (asks k h .1 .0 ∙ ap (gainOf (e .args .ticks)) (line-at e k h), asks k h .1 .1 ∙ ap (lossOf (e .args .ticks)) (line-at e k h)));
     }
 
@@ -117,7 +118,7 @@ abbrev taken : (c : tie.After-keep-row Inv-loop μ-loop) → turn c .loop .i < s
 taken c = c .before .before .before .before .before .before .before .before .loop-test .taken
 
 abbrev keeping : tie.After-begin-row Inv-loop μ-loop → tie.After-keep-row Inv-loop μ-loop
-keeping c = c .before .before .before .before .before .before .before
+keeping c = c .before .before .before .before .before .before .before .before .before
 
 abbrev beginning : tie.After-stopped-on Inv-loop μ-loop → tie.After-begin-row Inv-loop μ-loop
 beginning c = c .before .before .before .before .before .before .before .before .before .before .before
@@ -130,7 +131,7 @@ abbrev keptRows : tie.After-keep-row Inv-loop μ-loop → Rows
 keptRows c = let l = c .keep-row .last .1 .1 .1 .1 .1 in rows (l .0) (l .1 .0) (turn c .loop .outleads) (turn c .loop .outstopped)
 
 abbrev begunRows : tie.After-begin-row Inv-loop μ-loop → Rows
-begunRows c = let l = c .begin-row .last .1 .1 .1 .1 in rows (l .0) (l .1 .0) (turn (keeping c) .loop .outleads) (turn (keeping c) .loop .outstopped)
+begunRows c = let l = c .begin-row .last .1 .1 in rows (l .0) (l .1 .0) (turn (keeping c) .loop .outleads) (turn (keeping c) .loop .outstopped)
 
 abbrev nextRows : tie.After-stopped-on Inv-loop μ-loop → Rows
 nextRows c = rows (begunRows (beginning c) .marks) (begunRows (beginning c) .dues) (c .before .before .before .before .leads-on .last .1 .1 .1 .1 .0) (c .stopped-on .last .1 .1 .1 .0)
@@ -185,7 +186,7 @@ goes-on c v a =
     let k = keeping b in
     let at = turn k in
     let l = c .before .before .before .before in
-    row-onto a (given (start at)) (at .loop .i) (k .before .before .before .before .before .before .before .is-barred .ensures) (k .before .before .before .before .before .before .if1 .left) (k .before .before .before .before .leads-hold .ensures) (k .before .before .before .if2 .left) (k .keep-row .result) (keptOwed k) (k .keep-row .ensures .1 .1 .0) (b .before .before .before .if3 .left) (b .begin-row .result) (begunOwed b) (b .begin-row .ensures .1 .1 .0) (l .before .before .before .if4 .left) (nextRows c .leads) (nextRows c .stopped) (at .loop .live) (l .leads-on .ensures .1 .0) (c .stopped-on .ensures .1 .0)
+    row-onto a (given (start at)) (at .loop .i) (k .before .before .before .before .before .before .before .is-barred .ensures) (k .before .before .before .before .before .before .if1 .left) (k .before .before .before .before .leads-hold .ensures) (k .before .before .before .if2 .left) (k .keep-row .result) (keptOwed k) (k .keep-row .ensures .1 .1 .0) (b .before .before .before .before .before .if3 .left) (b .begin-row .result) (begunOwed b) (b .begin-row .ensures .1 .1 .0) (l .before .before .before .if4 .left) (nextRows c .leads) (nextRows c .stopped) (at .loop .live) (l .leads-on .ensures .1 .0) (c .stopped-on .ensures .1 .0)
 
 -- whether it was found already
 among : (c : tie.After-is-among Inv-loop μ-loop) (v : SheetValue) → AskedOf (turnOf (c .before .before .before .before .before .before .before)) v
@@ -203,15 +204,24 @@ all-barred-requires c κs = let p = planned (c .before .before .before .before .
 all-stops-requires : tie.Need-all-stops-requires Inv-loop μ-loop
 all-stops-requires c κs = let p = planned (c .before .before .before .before .before .before .before .before .before .before) in (p .size, p .few-rules)
 
+slice-aggregate-begin-all : tie.Need-slice-aggregate-begin-all Inv-loop μ-loop
+slice-aggregate-begin-all c = search needs
+
+slice-aggregate-begin-all-2 : tie.Need-slice-aggregate-begin-all-2 Inv-loop μ-loop
+slice-aggregate-begin-all-2 c = search needs
+
+begin-all-requires : tie.Need-begin-all-requires Inv-loop μ-loop
+begin-all-requires c κs = let p = planned (c .before .before .before .before .before .before .before .before .before .before .before .before .before) in (p .size, (p .few-delays, (refl, refl)))
+
 slice-aggregate-ask-leads : tie.Need-slice-aggregate-ask-leads Inv-loop μ-loop
 slice-aggregate-ask-leads c = search needs
 
 ask-leads-requires : tie.Need-ask-leads-requires Inv-loop μ-loop
-ask-leads-requires c κs = let p = planned (c .before .before .before .before .before .before .before .before .before .before .before .before) in (p .size, (p .leading .0, refl))
+ask-leads-requires c κs = let p = planned (c .before .before .before .before .before .before .before .before .before .before .before .before .before .before .before .before .before) in (p .size, (p .leading .0, refl))
 
 loop-holds : tie.Need-loop-holds Inv-loop μ-loop
 loop-holds c =
-    let e = c .before .before .before .before .before .before .before .before .before .before .before .before .before .before in
+    let e = c .before .before .before .before .before .before .before .before .before .before .before .before .before .before .before .before .before .before .before in
     let p = e .pre .1 .1 .1 .1 .1 in
     (omega arith, p .0, had e .1, p .1 .1 .1 .1 .1 .0, λ v a. settled-start _ v _ _ (given e) _ (a .begins) _)
 
@@ -272,12 +282,18 @@ loop-again-3 c =
       λ v a. settled-fails _ v _ _ (given e) _ _ (keptRows k) (at .loop .live) (settled-stays _ v _ _ (given e) _ _ (soFar at) (at .loop .live) (at .loop .inv .4 v a) (keptRows k) (kept-stays k .1 v)) (taken k) (row-late a (given e) (at .loop .i) (k .before .before .before .before .before .before .before .is-barred .ensures) (k .before .before .before .before .before .before .if1 .left) (k .before .before .before .before .leads-hold .ensures) (k .before .before .before .if2 .left) (k .keep-row .result) (keptOwed k) (k .keep-row .ensures .1 .1 .0) (c .if3 .taken)),
     )
 
+slice-aggregate-begin-row : tie.Need-slice-aggregate-begin-row Inv-loop μ-loop
+slice-aggregate-begin-row c = search needs
+
+slice-aggregate-begin-row-2 : tie.Need-slice-aggregate-begin-row-2 Inv-loop μ-loop
+slice-aggregate-begin-row-2 c = search needs
+
 begin-row-requires : tie.Need-begin-row-requires Inv-loop μ-loop
 begin-row-requires c κs =
-    let k = c .before .before .before .before .before .before in
-    let p = planned (start (turn k)) in
+    let k = c .before .before .before .before .before .before .before .before in
+    let b = turn k .before .before .before .before .before .before .begin-all .ensures in
     let r = kept-roomy k in
-    (p .size, (p .few-delays, (r .marks, (r .dues, (has-row (turn k), k .keep-row .ensures .1 .1 .1 .0 (not-false (k .keep-row .result) (c .before .before .if3 .left)))))))
+    (b .0, (b .1 .0, (b .1 .1 .0, (r .marks, (r .dues, (has-row (turn k), k .keep-row .ensures .1 .1 .1 .0 (not-false (k .keep-row .result) (c .before .before .before .before .if3 .left))))))))
 
 same-length : tie.Need-same-length Inv-loop μ-loop
 same-length c = let b = c .before .before .before .before in begun-roomy b .marks ∙ sym (had (start (turn (keeping b))) .1 .marks)
@@ -298,7 +314,7 @@ returns c =
     let at = turn k in
     let e = start at in
     let v = sheet at in
-    (settled-over _ v _ _ (given e) _ _ (soFar at) (at .loop .live) (at .loop .inv .4 v (asked at)) (taken k) (row-over (asked at) (given e) (at .loop .i) (k .before .before .before .before .before .before .before .is-barred .ensures) (k .before .before .before .before .before .before .if1 .left) (k .before .before .before .before .leads-hold .ensures) (k .before .before .before .if2 .left) (k .keep-row .result) (keptOwed k) (k .keep-row .ensures .1 .1 .0) (b .before .before .before .if3 .left) (b .begin-row .result) (begunOwed b) (b .begin-row .ensures .1 .1 .0) (c .if4 .taken)), (begun-roomy b, λ i h. absurd (omega arith)))
+    (settled-over _ v _ _ (given e) _ _ (soFar at) (at .loop .live) (at .loop .inv .4 v (asked at)) (taken k) (row-over (asked at) (given e) (at .loop .i) (k .before .before .before .before .before .before .before .is-barred .ensures) (k .before .before .before .before .before .before .if1 .left) (k .before .before .before .before .leads-hold .ensures) (k .before .before .before .if2 .left) (k .keep-row .result) (keptOwed k) (k .keep-row .ensures .1 .1 .0) (b .before .before .before .before .before .if3 .left) (b .begin-row .result) (begunOwed b) (b .begin-row .ensures .1 .1 .0) (c .if4 .taken)), (begun-roomy b, λ i h. absurd (omega arith)))
 
 slice-aggregate-leads-on : tie.Need-slice-aggregate-leads-on Inv-loop μ-loop
 slice-aggregate-leads-on c = search needs
@@ -310,7 +326,7 @@ leads-on-requires c κs =
     let e = start at in
     let p = e .pre .1 .1 .1 .1 .1 .1 .1 .1 in
     let r = asked at .leading .0 in
-    (r, (at .before .before .ask-leads .ensures .0, (had e .0 .leads, (in-rows at (taken k), (at .loop .inv .2 .leads, (has-row at, λ j l. row-gain (sheet at) (e .args .ticks) (given e) (at .loop .i) (row-small (sheet at) (given e) (e .args .n) (at .loop .i) (taken k) (p .0)) j (omega (arith, r, l)) (at .before .before .before .before .before .before .before .before .before .before .before .before .shared-slice-known3 .given (16 * at .loop .i + j) .fits) (asked at .moves j l .1 .0)))))))
+    (r, (at .before .before .ask-leads .ensures .0, (had e .0 .leads, (in-rows at (taken k), (at .loop .inv .2 .leads, (has-row at, λ j l. row-gain (sheet at) (e .args .ticks) (given e) (at .loop .i) (row-small (sheet at) (given e) (e .args .n) (at .loop .i) (taken k) (p .0)) j (omega (arith, r, l)) (at .before .before .before .before .before .before .before .before .before .before .before .before .before .before .before .before .before .shared-slice-known3 .given (16 * at .loop .i + j) .fits) (asked at .moves j l .1 .0)))))))
 
 stopped-on-requires : tie.Need-stopped-on-requires Inv-loop μ-loop
 stopped-on-requires c κs =
@@ -323,7 +339,7 @@ is-among-requires c κs =
     let s = c .before .before .before .before .before .before in
     let at = turnOf s in
     let p = start at .pre in
-    (omega (arith, at .before .before .before .before .before .before .before .clocks-of .ensures, p .1 .1 .0), (asked at .leading .0, (next-roomy s, (omega (arith, p .0, at .loop .inv .1), next-small s))))
+    (omega (arith, at .before .before .before .before .before .before .before .before .before .before .before .before .clocks-of .ensures, p .1 .1 .0), (asked at .leading .0, (next-roomy s, (omega (arith, p .0, at .loop .inv .1), next-small s))))
 
 loop-less-4 : tie.Need-loop-less-4 Inv-loop μ-loop
 loop-less-4 c = omega (arith, taken (keeping (beginning (c .before .before .before .before .before .before .before .before))))
@@ -397,6 +413,9 @@ settle-spec =
     clocks-of-requires
     all-barred-requires
     all-stops-requires
+    slice-aggregate-begin-all
+    slice-aggregate-begin-all-2
+    begin-all-requires
     slice-aggregate-ask-leads
     ask-leads-requires
     loop-holds
@@ -411,6 +430,8 @@ settle-spec =
     keep-row-requires
     loop-less-3
     loop-again-3
+    slice-aggregate-begin-row
+    slice-aggregate-begin-row-2
     begin-row-requires
     same-length
     same-length-2
