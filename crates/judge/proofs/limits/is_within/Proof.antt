@@ -5,31 +5,24 @@ use Rattle.judge.proofs.limits.Within.{few-lines, within-not, within-ma
 use Rattle.judge.proofs.limits.is_within.Statement.{statement}
 use Rattle.judge.proofs.limits.is_within.Tie as tie
 
--- src/limits.rt:147:11
 check-sheet-requires : tie.Need-check-sheet-requires
 check-sheet-requires c κs = search needs
 
--- src/limits.rt:148:31
 enum-told : tie.Need-enum-told
 enum-told c = search needs
 
--- src/limits.rt:150:17
 enum-told-2 : tie.Need-enum-told-2
 enum-told-2 c = search needs
 
--- src/limits.rt:152:17
 returns : tie.Need-returns
 returns c = within-many (c .before .before .before .before .before .args .m) (c .before .before .before .check-sheet .result) (c .before .before .before .check-sheet .ensures) (search needs) (c .if1 .taken)
 
--- src/limits.rt:155:13
 held-within-requires : tie.Need-held-within-requires
 held-within-requires c κs = few-lines (c .before .before .before .before .before .before .args .m) (c .before .before .before .before .check-sheet .result) (c .before .before .before .before .check-sheet .ensures) (search needs)
 
--- src/limits.rt:143:1
 returns-2 : tie.Need-returns-2
 returns-2 c = within-not (c .before .before .before .before .args .m) (c .before .before .check-sheet .result) (c .before .before .check-sheet .ensures) (c .enum-told .given .1)
 
--- src/limits.rt:143:1
 returns-3 : tie.Need-returns-3
 returns-3 c = within-held (c .before .before .before .before .before .before .before .args .m) (c .before .before .before .before .before .check-sheet .result) (c .before .before .before .before .before .check-sheet .ensures) (search needs) (omega arith) (c .held-within .ensures)
 
