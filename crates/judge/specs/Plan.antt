@@ -31,7 +31,7 @@ isRelation (Weakly A B) = false
 isRelation (Strictly A B) = false
 isRelation (Kills A B) = false
 
--- implies, excludes and kills: they ask of the ticks of an instant alone
+-- implies, excludes and kills: what they ask of the ticks of an instant is asked once per filling
 abbrev pub isRule : Line → Bool
 isRule (Implies A B) = true
 isRule (Excludes A B) = true

@@ -1,4 +1,4 @@
-// A monitor kept in rows from one instant to the next: what `observe` does, with its remainders in lent arrays.
+// An instant taken by a monitor whose remainders stand in lent arrays: for `observe`, and for the loop over a log, where they stay there from one instant to the next.
 use crate::answer::Reply;
 use crate::answer::say_rows;
 use crate::fill::work_rows;

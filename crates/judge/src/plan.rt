@@ -53,7 +53,7 @@ fn is_relation(l: Line) -> bool
     }
 }
 
-// A line that asks of the ticks of an instant alone.
+// Implies, excludes or kills: what it asks of the ticks of an instant is asked once per filling.
 fn is_rule(l: Line) -> bool
     ensures { λ r. ⌜ r ≡ isRule l ⌝ }
 {

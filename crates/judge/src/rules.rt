@@ -1,4 +1,4 @@
-// What n rules, the lines that ask of the ticks of an instant alone, say of a filling.
+// What n rules, the implies, excludes and kills lines of a sheet, say of a filling.
 use crate::clock::stop;
 use crate::clock::ticks_at;
 use crate::line::stopped_after;
