@@ -18,11 +18,11 @@ use Rattle.tesl.specs.Run.{Instant, runFillings}
 use Rattle.tesl.specs.Fits.{fits}
 use Rattle.tesl.specs.Remainder.{Remainder, remainder, sameRemainder}
 use Rattle.tesl.specs.Answer.{Answer, exhausted, broken, holding, Standing, remainders, tooMany, judged, answer}
-use Rattle.tesl.specs.Machine.{unlessFull, accepts, listAfter, reply, machine, session, concluded, judgeLog}
+use Rattle.tesl.specs.Machine.{unlessFull, accepts, listAfter, reply, machine, session, concluded, callsOf, judgeLog}
 use Rattle.theory.proofs.Sets.{distinct-apart}
 use Rattle.theory.proofs.Respect.{remainder-equivalence}
 use Rattle.theory.proofs.Answers.{held-few}
-use Rattle.gateway.specs.Result.{liveCode, unlessRefused, callsOf, answersTaken, entry}
+use Rattle.gateway.specs.Result.{liveCode, unlessRefused, answersTaken, entry}
 use Rattle.gateway.specs.Inner.{Small}
 
 -- ---- live is at most 32

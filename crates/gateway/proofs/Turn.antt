@@ -13,7 +13,7 @@ use Rattle.records.proofs.record.Cut.{no-pieces}
 use Rattle.records.proofs.record.Inverse.{pieces-record}
 use Rattle.tesl.specs.Run.{Instant}
 use Rattle.tesl.specs.Answer.{Answer}
-use Rattle.tesl.specs.Machine.{accepts, listAfter, reply, machine, held, concluded, callOf}
+use Rattle.tesl.specs.Machine.{accepts, listAfter, reply, machine, held, concluded, callOf, callsOf}
 use Rattle.judge.specs.declared.monitor.Monitor.{Monitor}
 use Rattle.judge.specs.declared.monitor.Given.{Given}
 use Rattle.judge.specs.declared.answer.Reply.{Reply}
@@ -21,7 +21,7 @@ use Rattle.judge.specs.Answer.{replyOf}
 use Rattle.judge.specs.Promises.{Follows, Observed}
 use Rattle.judge.specs.Log.{Concludes}
 use Rattle.judge.proofs.Demands.{observing-follows}
-use Rattle.gateway.specs.Result.{callsOf, answersTaken}
+use Rattle.gateway.specs.Result.{answersTaken}
 use Rattle.gateway.specs.Inner.{answersFrom}
 use Rattle.gateway.proofs.Machine.{lastSaid, last-snoc, concluded-said, answers-said}
 

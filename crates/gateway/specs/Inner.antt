@@ -11,14 +11,14 @@ use Rattle.records.specs.Store.{puts}
 use Rattle.tesl.specs.Lists.{flatMap}
 use Rattle.tesl.specs.Run.{Instant}
 use Rattle.tesl.specs.Answer.{Answer}
-use Rattle.tesl.specs.Machine.{machine, held, LogResult, judgeLog}
+use Rattle.tesl.specs.Machine.{machine, held, LogResult, callsOf, judgeLog}
 use Rattle.judge.specs.declared.monitor.Given.{Given}
 use Rattle.judge.specs.declared.log.Judged.{Judged}
 use Rattle.judge.specs.Answer.{replyOf}
 use Rattle.judge.specs.Promises.{Follows}
 use Rattle.judge.specs.Log.{judgedOf, Concludes}
 use Rattle.gateway.specs.declared.follow.Last.{Last}
-use Rattle.gateway.specs.Result.{liveCode, unlessRefused, callsOf, answersTaken, entry, owingIn}
+use Rattle.gateway.specs.Result.{liveCode, unlessRefused, answersTaken, entry, owingIn}
 
 -- the number of what reading refuses
 abbrev pub readingNumber : reading.Answer → ℕ

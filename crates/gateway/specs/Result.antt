@@ -1,16 +1,15 @@
 -- What the exported calls return, as numbers and bytes of the plain machine's answers.
 use mathlib.Core.Bool.{cond}
-use mathlib.Core.List.{List, [], _∷_, _++_, map}
+use mathlib.Core.List.{List, [], _∷_, _++_}
 use Prim.Native.Nat.{ℕ, _+_, _*_}
 use lib.Dec.{ltb}
 use lib.ListN.{length, drop}
 use Rattle.records.specs.Outcome.{Outcome, taken, refused}
-use Rattle.records.specs.Record.{pieces}
 use Rattle.records.specs.Sheet.{SheetValue, readSheet}
 use Rattle.tesl.specs.Lists.{count, flatMap}
 use Rattle.tesl.specs.Run.{Instant}
 use Rattle.tesl.specs.Answer.{Answer, exhausted, broken, holding, clear, owed, remainders, answer}
-use Rattle.tesl.specs.Machine.{held, session, LogResult, callOf, judgeLog}
+use Rattle.tesl.specs.Machine.{held, session, LogResult, callsOf, judgeLog}
 use Rattle.panel.specs.Panel.{owesClock}
 
 -- ---- numbers
@@ -52,10 +51,6 @@ packed number code live isClear instants = number + 256 * code + 65536 * live + 
 abbrev pub judgedCode : LogResult → ℕ
 judgedCode r =
     packed (numberOf (r .outcome)) (unlessRefused answerCode (r .outcome)) (unlessRefused liveCode (r .outcome)) (unlessRefused clearCode (r .outcome)) (r .instants)
-
--- a log is handed over record by record
-abbrev pub callsOf : List ℕ → List (List ℕ)
-callsOf log = map callOf (pieces log)
 
 -- ---- the answers to the instants taken
 

@@ -38,6 +38,11 @@ unfoldable pub held : SheetValue → List Instant → List (List ℕ) → List I
 held s run [] = run
 held s run (bytes ∷ calls) = held s (listAfter run (accepts s run bytes)) calls
 
+-- what each of a list of calls is taken for
+unfoldable pub acceptsEach : SheetValue → List Instant → List (List ℕ) → List (Outcome Instant)
+acceptsEach s run [] = []
+acceptsEach s run (bytes ∷ calls) = accepts s run bytes ∷ acceptsEach s (listAfter run (accepts s run bytes)) calls
+
 -- what opening answers, and every call after it; opening refused yields no monitor to call
 pub record Session : Type 0 where
   pub opening : Outcome Answer
@@ -68,5 +73,8 @@ abbrev pub callOf : Piece → List ℕ
 callOf (whole kind body) = recordBytes kind body
 callOf torn = []
 
+abbrev pub callsOf : List ℕ → List (List ℕ)
+callsOf log = map callOf (pieces log)
+
 unfoldable pub judgeLog : List ℕ → List ℕ → LogResult
-judgeLog sheet log = let s = session sheet (map callOf (pieces log)) in concluded (s .opening) 0 (s .replies)
+judgeLog sheet log = let s = session sheet (callsOf log) in concluded (s .opening) 0 (s .replies)

@@ -15,8 +15,7 @@ use Rattle.records.specs.Sheet.{SheetValue}
 use Rattle.records.specs.Instant.{readInstant, instantRead}
 use Rattle.records.proofs.record.Cut.{no-pieces}
 use Rattle.tesl.specs.Run.{Instant}
-use Rattle.tesl.specs.Machine.{accepts, machine}
-use Rattle.gateway.specs.Result.{callsOf}
+use Rattle.tesl.specs.Machine.{accepts, machine, callsOf}
 use Rattle.gateway.specs.Inner.{answersFrom, Counted}
 use Rattle.gateway.proofs.Machine.{answers-few}
 use Rattle.gateway.proofs.Turn.{next-replies}

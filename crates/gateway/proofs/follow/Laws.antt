@@ -13,7 +13,7 @@ use Rattle.records.proofs.Lists.{refused-taken}
 use Rattle.tesl.specs.Lists.{count}
 use Rattle.tesl.specs.Run.{Instant}
 use Rattle.tesl.specs.Answer.{Answer, exhausted, broken, holding, remainders, answer}
-use Rattle.tesl.specs.Machine.{held, session, LogResult, judgeLog}
+use Rattle.tesl.specs.Machine.{held, session, LogResult, callsOf, judgeLog}
 use Rattle.judge.specs.declared.answer.Answer as code
 use Rattle.judge.specs.declared.answer.Reply.{Reply}
 use Rattle.judge.specs.declared.answer.Reply.the-variants as reply
@@ -27,7 +27,7 @@ use Rattle.panel.specs.declared.Panel.the-variants as shown
 use Rattle.panel.specs.Panel.{owesClock, panelOf, panelCount}
 use Rattle.panel.proofs.Run.{panel-of-run}
 use Rattle.gateway.specs.declared.follow.Last.{Last}
-use Rattle.gateway.specs.Result.{numberOf, packed, callsOf, unlessRefused, unlessExhausted, owingIn, owingOf, shownCode}
+use Rattle.gateway.specs.Result.{numberOf, packed, unlessRefused, unlessExhausted, owingIn, owingOf, shownCode}
 use Rattle.gateway.specs.Inner.{judgedLast, FollowsAll, FollowsLog, Kept, OwingAfter}
 use Rattle.gateway.proofs.Machine.{few-remainders, judged-small}
 use Rattle.gateway.proofs.Turn.{Watching, ended, ended-follows, stopped}

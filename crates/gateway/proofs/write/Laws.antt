@@ -14,7 +14,7 @@ use Rattle.records.proofs.Lists.{refused-taken}
 use Rattle.records.proofs.Store.{puts-both, length-puts, puts-front}
 use Rattle.tesl.specs.Lists.{flatMap}
 use Rattle.tesl.specs.Answer.{Answer, answer}
-use Rattle.tesl.specs.Machine.{machine, session, judgeLog}
+use Rattle.tesl.specs.Machine.{machine, session, callsOf, judgeLog}
 use Rattle.judge.specs.declared.answer.Answer as code
 use Rattle.judge.specs.declared.answer.Reply.{Reply}
 use Rattle.judge.specs.declared.answer.Reply.the-variants as reply
@@ -25,7 +25,7 @@ use Rattle.judge.specs.Answer.{answerOf, replyOf}
 use Rattle.judge.specs.Promises.{Opened, Observed}
 use Rattle.judge.specs.Log.{judgedOf}
 use Rattle.judge.proofs.log.Laws.{judged-refused, judged-opened}
-use Rattle.gateway.specs.Result.{answerCode, liveCode, clearCode, packed, judgedCode, callsOf, entry, entries, watchedAs, watched}
+use Rattle.gateway.specs.Result.{answerCode, liveCode, clearCode, packed, judgedCode, entry, entries, watchedAs, watched}
 use Rattle.gateway.specs.Inner.{Small, answersFrom, Counted, Room, Writes}
 use Rattle.gateway.proofs.Machine.{answers-small, concluded-count, judged-small, length-entries, entries-snoc}
 use Rattle.gateway.proofs.Turn.{Watching, watching-start, watching-more, more-answers, ended, ended-answers, stopped, stopped-answers}

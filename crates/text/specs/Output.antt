@@ -1,0 +1,51 @@
+-- Document 01, 'Programs': all that *watch* and *columns* print for the bytes of a sheet and of a log.
+use mathlib.Core.List.{List, [], _∷_, _++_}
+use mathlib.Core.Path.{_≡_}
+use Prim.Native.Nat.{ℕ, suc}
+use lib.ListN.{length, take, drop}
+use Rattle.records.specs.Outcome.{Outcome, taken, refused}
+use Rattle.records.specs.Sheet.{SheetValue, readSheet}
+use Rattle.records.specs.Types.{IsBytes}
+use Rattle.tesl.specs.Lists.{flatMap}
+use Rattle.tesl.specs.Run.{Instant, tagsOf}
+use Rattle.tesl.specs.Answer.{Answer}
+use Rattle.tesl.specs.Machine.{acceptsEach, Session, session, callsOf}
+use Rattle.text.specs.Text.{answerLine, refusalLine, columnLine}
+
+-- the lines of what came of each record, numbered from n on, up to the first refusal, whose line ends the text
+unfoldable pub linesFrom : {A : Type 0} → (ℕ → A → List ℕ) → ℕ → List (Outcome A) → List ℕ
+linesFrom lines n [] = []
+linesFrom lines n (taken x ∷ more) = lines n x ++ linesFrom lines (suc n) more
+linesFrom lines n (refused m ∷ more) = refusalLine m
+
+-- ---- *watch*: a line per instant, the machine's replies to the log's records; a refused sheet has one line
+
+abbrev pub watchOf : Outcome Answer → List (Outcome Answer) → List ℕ
+watchOf (taken a) replies = linesFrom answerLine 1 replies
+watchOf (refused n) replies = refusalLine n
+
+unfoldable pub watchText : List ℕ → List ℕ → List ℕ
+watchText sheet log = let s = session sheet (callsOf log) in watchOf (s .opening) (s .replies)
+
+-- ---- *columns*: a line per tag, instants in order and clocks from 0; refusals as in *watch*
+
+-- an instant's lines; its number is not printed
+abbrev pub tagLines : ℕ → Instant → List ℕ
+tagLines n i = flatMap columnLine (tagsOf i)
+
+abbrev pub columnsOf : List (List ℕ) → Outcome SheetValue → List ℕ
+columnsOf calls (taken s) = linesFrom tagLines 1 (acceptsEach s [] calls)
+columnsOf calls (refused n) = refusalLine n
+
+unfoldable pub columnsText : List ℕ → List ℕ → List ℕ
+columnsText sheet log = columnsOf (callsOf log) (readSheet sheet)
+
+-- ---- a text in a lent buffer: its length, and the text at the front, later bytes as they were
+pub record Printed (text buffer : List ℕ) (n : ℕ) (after : List ℕ) : Type 0 where
+  pub size : n ≡ length text
+  pub bytes : after ≡ text ++ drop (length text) buffer
+
+-- ---- how much of a file decides: whatever stands behind the first a bytes of a sheet and the first b of a log, the same is printed
+pub record FrontDecides (a b : ℕ) : Type 0 where
+  pub watch : (sheet log : List ℕ) → IsBytes sheet → IsBytes log → watchText (take a sheet) (take b log) ≡ watchText sheet log
+  pub columns : (sheet log : List ℕ) → IsBytes sheet → IsBytes log → columnsText (take a sheet) (take b log) ≡ columnsText sheet log
