@@ -4,6 +4,8 @@ use crate::remainder::Remainder;
 use crate::remainder::no_remainder;
 use crate::remainder::owed_count;
 use crate::remainder::owes;
+use crate::remainder::owes_tick;
+use crate::sentence::one_if;
 ghost use Prim.Native.Nat.{_≤_};
 
 // over: one of them has more than 8 obligations. Those past the 33rd are dropped: 33 are already too many.
@@ -139,4 +141,17 @@ pub(crate) fn is_clear(found: Found) -> bool {
         i += 1;
     }
     false
+}
+
+// How many of them owe this clock a tick.
+pub(crate) fn owing_count(found: Found, clock: u8) -> usize {
+    let n = found_count(found);
+    let mut count = 0;
+    let mut i = 0;
+    while i < n {
+        let r = found.list[i];
+        count += one_if(owes_tick(r.owed, clock));
+        i += 1;
+    }
+    count
 }

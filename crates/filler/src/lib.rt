@@ -2,9 +2,9 @@
 mod fits;
 mod found;
 mod history;
-pub mod judge;
 mod obligation;
 mod remainder;
 pub mod run;
 mod sentence;
 pub mod verdict;
+pub mod whole_run;

@@ -46,6 +46,20 @@ pub(crate) fn owes(owed: Owed, o: Obligation) -> bool {
     false
 }
 
+// One of them wants a tick of this clock.
+pub(crate) fn owes_tick(owed: Owed, clock: u8) -> bool {
+    let n = owed_count(owed);
+    let mut i = 0;
+    while i < n {
+        let o = owed.list[i];
+        if o.clock == clock {
+            return true;
+        }
+        i += 1;
+    }
+    false
+}
+
 // With one obligation more, which counts once.
 fn with_obligation(owed: Owed, o: Obligation) -> Owed {
     if owes(owed, o) {

@@ -1,11 +1,31 @@
 // A run of at most 16 instants, in the order in which they happened.
 use records::instant::Instant;
 use records::instant::Tick;
+use records::instant::TickSlot;
 ghost use Prim.Native.Nat.{_≤_, _<_};
 
 pub struct Run {
     pub count: usize,
     pub instants: [Instant; 16],
+}
+
+pub fn no_instants() -> Run {
+    let ticks = [TickSlot { tick: Tick::Idle }; 8];
+    let tags = [0i16; 8];
+    let instants = [Instant { ticks, tags }; 16];
+    Run { count: 0, instants }
+}
+
+// A run with one instant more; a seventeenth is left out.
+pub fn with_instant(r: Run, v: Instant) -> Run {
+    let at = r.count;
+    if at < 16 {
+        let mut next = r;
+        next.instants[at] = v;
+        next.count = at + 1;
+        return next;
+    }
+    r
 }
 
 // How many instants a run has.

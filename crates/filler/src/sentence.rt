@@ -102,7 +102,7 @@ pub(crate) fn kills(n: usize, a: Clock, b: Clock) -> bool
     true
 }
 
-fn one_if(b: bool) -> usize
+pub(crate) fn one_if(b: bool) -> usize
     ensures { λ r. ⌜ r ≤ 1 ⌝ }
 {
     if b { 1 } else { 0 }

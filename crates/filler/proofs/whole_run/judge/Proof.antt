@@ -1,8 +1,8 @@
 -- `judge` is safe and ends: each turn leaves one beginning less. Assumes nothing.
 use borrow.Author.Needs.{needs}
 use Prim.Native.Nat.{_-_}
-use Rattle.filler.proofs.judge.judge.Statement.{statement}
-use Rattle.filler.proofs.judge.judge.Tie as tie
+use Rattle.filler.proofs.whole_run.judge.Statement.{statement}
+use Rattle.filler.proofs.whole_run.judge.Tie as tie
 
 abbrev Inv-loop : tie.InvT-loop
 Inv-loop sheet run n k₀ k = Unit

@@ -1,8 +1,8 @@
 -- `remainders_of` is safe and ends: each turn leaves one filling less. Assumes nothing.
 use borrow.Author.Needs.{needs}
 use Prim.Native.Nat.{_-_}
-use Rattle.filler.proofs.judge.remainders_of.Statement.{statement}
-use Rattle.filler.proofs.judge.remainders_of.Tie as tie
+use Rattle.filler.proofs.whole_run.remainders_of.Statement.{statement}
+use Rattle.filler.proofs.whole_run.remainders_of.Tie as tie
 
 abbrev Inv-loop : tie.InvT-loop
 Inv-loop s run n end found₀ filling₀ found filling = Unit

@@ -5,6 +5,7 @@ use crate::found::found_count;
 use crate::found::is_clear;
 use crate::found::is_exhausted;
 use crate::found::none_found;
+use crate::found::owing_count;
 use crate::found::with_remainder;
 use crate::history::Filled;
 use crate::history::fill;
@@ -71,4 +72,26 @@ pub fn judge(sheet: Sheet, run: Run) -> Verdict {
         k += 1;
     }
     verdict_of(remainders_of(sheet, run, n))
+}
+
+// How many of the remainders owe each clock a tick.
+fn owing_counts(found: Found) -> [usize; 8] {
+    let mut counts = [0usize; 8];
+    let mut k = 0;
+    while k < 8 {
+        counts[k] = owing_count(found, k as u8);
+        k += 1;
+    }
+    counts
+}
+
+// How many of the run's distinct remainders owe each clock a tick; 0 unless the judge says holding.
+pub fn owing(sheet: Sheet, run: Run) -> [usize; 8] {
+    match judge(sheet, run) {
+        Verdict::Holding { live: _, clear: _ } => {
+            let n = instant_count(run);
+            owing_counts(remainders_of(sheet, run, n))
+        }
+        _ => [0usize; 8],
+    }
 }
