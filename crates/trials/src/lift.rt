@@ -1,17 +1,17 @@
 // Document 01's lift examples L2 to L11, and some at the limits; a row each, with the answers of opening and of every instant.
-use crate::course::idle_instant;
-use crate::course::with_clock;
-use crate::plan::delayed;
-use crate::plan::empty_sheet;
-use crate::plan::pair;
-use crate::plan::relation;
-use crate::plan::sporadic;
-use crate::plan::with;
 use crate::text::answer;
 use crate::text::say;
 use crate::trial::Trial;
 use crate::trial::opened;
 use crate::trial::taken;
+use cases::course::idle_instant;
+use cases::course::with_clock;
+use cases::plan::delayed;
+use cases::plan::empty_sheet;
+use cases::plan::pair;
+use cases::plan::relation;
+use cases::plan::sporadic;
+use cases::plan::with;
 use records::instant::Instant;
 use records::instant::Tick;
 use records::line::Line;
@@ -48,7 +48,7 @@ fn instant_of(b: &[u8]) -> Instant {
     with_clock(v, 1, tick_of(b[2]), tag_of_byte(b[3]))
 }
 
-fn start(name: &[u8], s: Sheet, tally: [u64; 20]) -> Trial {
+fn start(name: &[u8], s: Sheet, tally: [u64; 40]) -> Trial {
     let t = opened(s, tally);
     say(b"  ");
     say(name);
@@ -67,7 +67,7 @@ fn then(t: Trial, v: Instant) -> Trial {
 }
 
 // A sheet and its instants, four bytes each.
-fn example(name: &[u8], s: Sheet, log: &[u8], tally: [u64; 20]) -> [u64; 20] {
+fn example(name: &[u8], s: Sheet, log: &[u8], tally: [u64; 40]) -> [u64; 40] {
     let mut t = start(name, s, tally);
     let mut at = 0;
     while at < log.len() {
@@ -80,11 +80,11 @@ fn example(name: &[u8], s: Sheet, log: &[u8], tally: [u64; 20]) -> [u64; 20] {
 }
 
 // An example of two clocks and one line.
-fn of_line(name: &[u8], line: Line, log: &[u8], t: [u64; 20]) -> [u64; 20] {
+fn of_line(name: &[u8], line: Line, log: &[u8], t: [u64; 40]) -> [u64; 40] {
     example(name, with(empty_sheet(2), line), log, t)
 }
 
-fn l2_l3(t: [u64; 20]) -> [u64; 20] {
+fn l2_l3(t: [u64; 40]) -> [u64; 40] {
     let t = of_line(b"L2 sporadic", sporadic(0, 1, ZERO), b"", t);
     let t = of_line(
         b"L3 0 excludes 0, a tick",
@@ -100,7 +100,7 @@ fn l2_l3(t: [u64; 20]) -> [u64; 20] {
     )
 }
 
-fn l4_l5(t: [u64; 20]) -> [u64; 20] {
+fn l4_l5(t: [u64; 40]) -> [u64; 40] {
     let both = b"\x01\x00\x01\x00";
     let kills = pair(23, 0, 1);
     let t = of_line(b"L4 weakly, both tick", pair(21, 0, 1), both, t);
@@ -109,7 +109,7 @@ fn l4_l5(t: [u64; 20]) -> [u64; 20] {
     of_line(b"L5 0 kills 1, 1 unseen", kills, b"\x01\x00\x02\x00", t)
 }
 
-fn l6_l7(t: [u64; 20]) -> [u64; 20] {
+fn l6_l7(t: [u64; 40]) -> [u64; 40] {
     let times_60 = relation(0, 1, 60, 0);
     let due = sporadic(0, 1, ZERO - 1);
     let t = of_line(b"L6 -60 = 60 x -1", times_60, b"\x00\xC4\x00\xFF", t);
@@ -128,7 +128,7 @@ fn l6_l7(t: [u64; 20]) -> [u64; 20] {
     )
 }
 
-fn l8_l11(t: [u64; 20]) -> [u64; 20] {
+fn l8_l11(t: [u64; 40]) -> [u64; 40] {
     let by_100 = delayed(0, 100, 0, 1);
     let t = of_line(
         b"L8 d = 0, both tick",
@@ -157,7 +157,7 @@ fn l8_l11(t: [u64; 20]) -> [u64; 20] {
 }
 
 // 31: a tick of 1 has one of 0 before it. 33: 1 may tick where 0 never did.
-fn lives(t: [u64; 20]) -> [u64; 20] {
+fn lives(t: [u64; 40]) -> [u64; 40] {
     let by_100 = with(empty_sheet(2), delayed(0, 100, 0, 1));
     let weakly = with(by_100, pair(21, 0, 1));
     let kills = with(with(by_100, pair(23, 0, 1)), delayed(1, 100, 0, 0));
@@ -176,7 +176,7 @@ fn lives(t: [u64; 20]) -> [u64; 20] {
 }
 
 // A ninth obligation begins where one of eight is met, or is late.
-fn ninths(t: [u64; 20]) -> [u64; 20] {
+fn ninths(t: [u64; 40]) -> [u64; 40] {
     let by_8 = delayed(0, 8, 0, 1);
     let t = of_line(
         b"a ninth, one met",
@@ -192,7 +192,7 @@ fn ninths(t: [u64; 20]) -> [u64; 20] {
     )
 }
 
-pub fn all(t: [u64; 20]) -> [u64; 20] {
+pub fn all(t: [u64; 40]) -> [u64; 40] {
     say(b"Lift examples, and some at the limits\n");
     let t = l8_l11(l6_l7(l4_l5(l2_l3(t))));
     ninths(lives(t))

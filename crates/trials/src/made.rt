@@ -1,39 +1,29 @@
 // The made cases.
-use crate::course;
-use crate::course::Course;
-use crate::families;
-use crate::generic;
-use crate::plan::Plan;
-use crate::random::below;
-use crate::random::draw;
-use crate::random::one_in;
 use crate::tally;
-use crate::tally::count;
 use crate::trial::Trial;
 use crate::trial::live_of;
 use crate::trial::opened;
 use crate::trial::refused;
 use crate::trial::taken;
+use cases::course;
+use cases::course::Course;
+use cases::course::unseen_from;
+use cases::made::instants_of;
+use cases::made::plan_of;
+use cases::plan::Plan;
+use cases::random::below;
+use cases::random::draw;
+use cases::random::one_in;
+use cases::tally::count;
+use cases::tally::count_if;
 use records::instant::Instant;
 use records::line::Line;
 use records::sheet::Sheet;
 use records::sheet::line_at;
-ghost use Prim.Native.Nat.{_≤_};
 
-const CASES: u64 = 24000;
+const NARROW_CASES: u64 = 24000;
 
-// A case by its number; more than half are of every kind of line.
-fn plan_of(number: u64, d: [u64; 48]) -> Plan {
-    match number % 48 {
-        0..=3 => families::sets(d),
-        4 => families::leads(d),
-        5..=9 => families::owed(d),
-        10..=13 => families::on_clocks(d),
-        14..=17 => families::ends(d),
-        18..=21 => families::products(d),
-        _ => generic::plan(d),
-    }
-}
+const WIDE_CASES: u64 = 4800;
 
 // The place of a line's kind in the tally.
 fn kind_place(l: Line) -> usize {
@@ -60,7 +50,7 @@ fn kind_place(l: Line) -> usize {
 }
 
 // The lines of a sheet by their kind.
-fn with_kinds(tally: [u64; 20], s: Sheet) -> [u64; 20] {
+fn with_kinds(tally: [u64; 40], s: Sheet) -> [u64; 40] {
     let n = s.count;
     let mut t = tally;
     let mut i = 0;
@@ -94,16 +84,31 @@ struct Stand {
 // The last number drawn, and what was counted.
 struct Ended {
     last: u64,
-    tally: [u64; 20],
+    tally: [u64; 40],
 }
 
-fn begin(plan: Plan, last: u64, tally: [u64; 20]) -> Stand {
+// A sheet by its lines and its clocks.
+fn with_sheet(tally: [u64; 40], s: Sheet) -> [u64; 40] {
+    count_if(s.clocks == 8, with_kinds(tally, s), tally::EIGHT)
+}
+
+fn begin(plan: Plan, last: u64, tally: [u64; 40]) -> Stand {
     let sheet = plan.sheet;
     Stand {
-        trial: opened(sheet, with_kinds(tally, sheet)),
+        trial: opened(sheet, with_sheet(tally, sheet)),
         course: course::begin(plan),
         last,
     }
+}
+
+// An instant by its unseen ticks.
+fn with_unseen(t: Trial, v: Instant) -> Trial {
+    let told = t.tally;
+    let told = count_if(0 < unseen_from(v, 4), told, tally::HIGH_UNSEEN);
+    let told = count_if(unseen_from(v, 0) == 8, told, tally::ALL_UNSEEN);
+    let mut next = t;
+    next.tally = told;
+    next
 }
 
 // One instant more, calls with damaged ones before it.
@@ -115,7 +120,7 @@ fn step(plan: Plan, s: Stand) -> Stand {
     let t = s.trial;
     let v = course.instant;
     Stand {
-        trial: taken(with_refusals(t, v, d), v),
+        trial: taken(with_refusals(with_unseen(t, v), v, d), v),
         course,
         last: drawn.last,
     }
@@ -137,19 +142,11 @@ fn is_holding(s: Stand) -> bool {
     0 < live_of(a)
 }
 
-// How many instants, at most 16.
-fn instants_of(plan: Plan) -> u64
-    ensures { λ r. ⌜ r ≤ 16 ⌝ }
-{
-    let n = plan.instants;
-    if n < 16 { n } else { 16 }
-}
-
 // Runs a case from a number of the sequence; after an answer that isn't holding comes one instant more.
-fn case(number: u64, from: u64, tally: [u64; 20]) -> Ended {
+fn case(is_wide: bool, number: u64, from: u64, tally: [u64; 40]) -> Ended {
     let drawn = draw(from);
     let d = drawn.numbers;
-    let plan = plan_of(number, d);
+    let plan = plan_of(is_wide, number, d);
     let n = instants_of(plan);
     let mut s = begin(plan, drawn.last, tally);
     let mut i = 0;
@@ -164,14 +161,25 @@ fn case(number: u64, from: u64, tally: [u64; 20]) -> Ended {
     end(s)
 }
 
-pub fn all(tally: [u64; 20]) -> [u64; 20] {
+// So many cases, from the first number of the sequence.
+fn all(is_wide: bool, cases: u64, tally: [u64; 40]) -> [u64; 40] {
     let mut e = Ended { last: 1, tally };
     let mut i = 0;
-    while i < CASES {
+    while i < cases {
         let told = e.tally;
-        e = case(i, e.last, told);
+        e = case(is_wide, i, e.last, told);
         i += 1;
     }
     let told = e.tally;
     told
+}
+
+// Cases of at most four clocks.
+pub fn narrow(tally: [u64; 40]) -> [u64; 40] {
+    all(false, NARROW_CASES, tally)
+}
+
+// Cases of five to eight clocks.
+pub fn wide(tally: [u64; 40]) -> [u64; 40] {
+    all(true, WIDE_CASES, tally)
 }

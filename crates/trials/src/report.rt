@@ -1,11 +1,11 @@
-// The table of what was counted.
+// The tables of what was counted.
 use crate::tally;
-use crate::tally::counted;
 use crate::text::number;
 use crate::text::say;
+use cases::tally::counted;
 
 // A row: what is counted, and how often.
-fn line(t: [u64; 20], what: &[u8], at: usize) {
+fn line(t: [u64; 40], what: &[u8], at: usize) {
     say(b"  ");
     say(what);
     say(b": ");
@@ -13,8 +13,7 @@ fn line(t: [u64; 20], what: &[u8], at: usize) {
     say(b"\n");
 }
 
-fn kinds(t: [u64; 20]) {
-    say(b"Lines of the made sheets\n");
+fn kinds(t: [u64; 40]) {
     line(t, b"sporadic", tally::SPORADIC);
     line(t, b"relation", tally::RELATION);
     line(t, b"implies", tally::IMPLIES);
@@ -25,8 +24,7 @@ fn kinds(t: [u64; 20]) {
     line(t, b"kills", tally::KILLS);
 }
 
-fn answers(t: [u64; 20]) {
-    say(b"Answers to opening and observing\n");
+fn answers(t: [u64; 40]) {
     line(t, b"holding, clear", tally::CLEAR);
     line(t, b"holding, owed", tally::OWED);
     line(t, b"broken", tally::BROKEN);
@@ -34,24 +32,47 @@ fn answers(t: [u64; 20]) {
     line(t, b"refused, as due", tally::REFUSED);
 }
 
-fn limits(t: [u64; 20]) {
-    say(b"Limits met\n");
+fn lives(t: [u64; 40]) {
     line(t, b"live 31", tally::LIVE_31);
     line(t, b"live 32", tally::LIVE_32);
     line(t, b"first remainder owes eight", tally::FULL);
-    line(t, b"exhausted after live 1", tally::BY_OWED);
-    line(t, b"exhausted after live 17 to 32", tally::BY_LIVE);
 }
 
-pub fn table(t: [u64; 20]) {
-    kinds(t);
-    answers(t);
-    limits(t);
-    say(b"Cases and differences\n");
-    line(t, b"cases", tally::CASES);
+fn differences(t: [u64; 40]) {
     line(
         t,
         b"answers unlike the judge's of the whole run",
         tally::DIFFERENT,
     );
+}
+
+pub fn table(t: [u64; 40]) {
+    say(b"Lines of the made sheets\n");
+    kinds(t);
+    say(b"Answers to opening and observing\n");
+    answers(t);
+    say(b"Limits met\n");
+    lives(t);
+    line(t, b"exhausted after live 1", tally::BY_OWED);
+    line(t, b"exhausted after live 17 to 32", tally::BY_LIVE);
+    say(b"Cases and differences\n");
+    line(t, b"cases", tally::CASES);
+    differences(t);
+}
+
+// Of more than four clocks, exhausted after live 1 has either reason: it is left out.
+pub fn wide_table(t: [u64; 40]) {
+    say(b"Wide sheets, five to eight clocks\n");
+    line(t, b"cases", tally::CASES);
+    line(t, b"cases of eight clocks", tally::EIGHT);
+    line(
+        t,
+        b"instants with clock 4, 5, 6 or 7 unseen",
+        tally::HIGH_UNSEEN,
+    );
+    line(t, b"instants with eight clocks unseen", tally::ALL_UNSEEN);
+    kinds(t);
+    answers(t);
+    lives(t);
+    differences(t);
 }

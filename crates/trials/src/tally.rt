@@ -1,4 +1,4 @@
-// How often what was met.
+// The places of what is counted.
 
 pub const CASES: usize = 0;
 
@@ -40,27 +40,8 @@ pub const STRICTLY: usize = 18;
 
 pub const KILLS: usize = 19;
 
-// One more at a place.
-pub fn count(t: [u64; 20], at: usize) -> [u64; 20] {
-    if 20 <= at {
-        return t;
-    }
-    let n = t[at];
-    if n < 18446744073709551615 {
-        let mut next = t;
-        next[at] = n + 1;
-        return next;
-    }
-    t
-}
+pub const EIGHT: usize = 20;
 
-pub fn count_if(wanted: bool, t: [u64; 20], at: usize) -> [u64; 20] {
-    if wanted {
-        return count(t, at);
-    }
-    t
-}
+pub const HIGH_UNSEEN: usize = 21;
 
-pub fn counted(t: [u64; 20], at: usize) -> u64 {
-    if at < 20 { t[at] } else { 0 }
-}
+pub const ALL_UNSEEN: usize = 22;

@@ -1,14 +1,15 @@
 // A case under way: the monitor is called, and what it answers is held against the judge of the whole run.
-use crate::course::idle_instant;
-use crate::damage::Record;
-use crate::damage::damaged;
-use crate::damage::whole;
 use crate::tally;
-use crate::tally::count;
-use crate::tally::count_if;
-use filler::judge::judge as verdict_of;
+use cases::damage::Record;
+use cases::damage::damaged;
+use cases::damage::whole;
+use cases::tally::count;
+use cases::tally::count_if;
 use filler::run::Run;
+use filler::run::no_instants;
+use filler::run::with_instant;
 use filler::verdict::Verdict;
+use filler::whole_run::judge as verdict_of;
 use judge::answer::Answer;
 use judge::answer::Reply;
 use judge::held::Count;
@@ -27,7 +28,7 @@ pub struct Trial {
     pub run: Run,
     pub monitor: Monitor,
     pub answer: Answer,
-    pub tally: [u64; 20],
+    pub tally: [u64; 40],
 }
 
 // The first n bytes, or all where there are fewer.
@@ -70,7 +71,7 @@ pub fn live_of(a: Answer) -> usize {
 }
 
 // An answer by its kind.
-fn counted(t: [u64; 20], a: Answer) -> [u64; 20] {
+fn counted(t: [u64; 40], a: Answer) -> [u64; 40] {
     match a {
         Answer::Exhausted => count(t, tally::EXHAUSTED),
         Answer::Broken => count(t, tally::BROKEN),
@@ -83,8 +84,8 @@ fn counted(t: [u64; 20], a: Answer) -> [u64; 20] {
     }
 }
 
-// Cases that became exhausted. Of four clocks an instant has at most 16 fillings: where live was 1, it was nine owed.
-fn counted_end(t: [u64; 20], before: usize, a: Answer) -> [u64; 20] {
+// Cases that became exhausted. Of at most four clocks an instant has at most 16 fillings: where live was 1, it was nine owed.
+fn counted_end(t: [u64; 40], before: usize, a: Answer) -> [u64; 40] {
     match a {
         Answer::Exhausted => {
             let t = count_if(before == 1, t, tally::BY_OWED);
@@ -111,7 +112,7 @@ fn is_full(m: Monitor) -> bool {
 }
 
 // What is counted of an answer.
-fn tallied(t: [u64; 20], before: usize, a: Answer, m: Monitor) -> [u64; 20] {
+fn tallied(t: [u64; 40], before: usize, a: Answer, m: Monitor) -> [u64; 40] {
     let live = live_of(a);
     let t = counted(t, a);
     let t = count_if(live == 31, t, tally::LIVE_31);
@@ -149,28 +150,15 @@ fn answered(t: Trial, run: Run, g: Given) -> Trial {
     }
 }
 
-// A run with one instant more; a seventeenth is left out.
-fn with_instant(r: Run, v: Instant) -> Run {
-    let at = r.count;
-    if at < 16 {
-        let mut next = r;
-        next.instants[at] = v;
-        next.count = at + 1;
-        return next;
-    }
-    r
-}
-
 // Opens a sheet; one that can't be written counts as a difference.
-pub fn opened(sheet: Sheet, tally: [u64; 20]) -> Trial {
+pub fn opened(sheet: Sheet, tally: [u64; 40]) -> Trial {
     let mut bytes = [0u8; 192];
     let written = write_sheet(sheet, &mut bytes);
     let len = match written {
         Written::Refused(_) => 0,
         Written::Bytes(n) => n,
     };
-    let instants = [idle_instant(); 16];
-    let run = Run { count: 0, instants };
+    let run = no_instants();
     let g = open(front(&bytes, len));
     let monitor = g.monitor;
     let t = Trial {

@@ -5,10 +5,10 @@ use Rattle.trials.proofs.made.all.Statement.{statement}
 use Rattle.trials.proofs.made.all.Tie as tie
 
 abbrev Inv-loop : tie.InvT-loop
-Inv-loop e₀ i₀ e i = Unit
+Inv-loop is-wide cases e₀ i₀ e i = Unit
 
 abbrev μ-loop : tie.MeasureT-loop
-μ-loop e₀ i₀ e i = 24000 - i
+μ-loop is-wide cases e₀ i₀ e i = cases - i
 
 loop-holds : tie.Need-loop-holds Inv-loop μ-loop
 loop-holds c = search needs

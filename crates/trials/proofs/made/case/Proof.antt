@@ -6,10 +6,10 @@ use Rattle.trials.proofs.made.case.Statement.{statement}
 use Rattle.trials.proofs.made.case.Tie as tie
 
 abbrev Inv-loop : tie.InvT-loop
-Inv-loop number from plan n s₀ i₀ s i = n ≤ 16
+Inv-loop is-wide number from plan n s₀ i₀ s i = n ≤ 16
 
 abbrev μ-loop : tie.MeasureT-loop
-μ-loop number from plan n s₀ i₀ s i = n - i
+μ-loop is-wide number from plan n s₀ i₀ s i = n - i
 
 draw-requires : tie.Need-draw-requires Inv-loop μ-loop
 draw-requires c κs = search needs

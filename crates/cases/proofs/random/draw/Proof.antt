@@ -1,8 +1,8 @@
--- `trials::random::draw` is safe and ends: each turn leaves one number less. Assumes nothing.
+-- `cases::random::draw` is safe and ends: each turn leaves one number less. Assumes nothing.
 use borrow.Author.Needs.{needs}
 use Prim.Native.Nat.{_-_}
-use Rattle.trials.proofs.random.draw.Statement.{statement}
-use Rattle.trials.proofs.random.draw.Tie as tie
+use Rattle.cases.proofs.random.draw.Statement.{statement}
+use Rattle.cases.proofs.random.draw.Tie as tie
 
 abbrev Inv-loop : tie.InvT-loop
 Inv-loop x numbers₀ last₀ i₀ numbers last i = Unit

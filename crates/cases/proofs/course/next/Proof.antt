@@ -1,8 +1,8 @@
--- `trials::course::next` is safe and ends: each turn leaves one clock less. Assumes nothing.
+-- `cases::course::next` is safe and ends: each turn leaves one clock less. Assumes nothing.
 use borrow.Author.Needs.{needs}
 use Prim.Native.Nat.{_-_}
-use Rattle.trials.proofs.course.next.Statement.{statement}
-use Rattle.trials.proofs.course.next.Tie as tie
+use Rattle.cases.proofs.course.next.Statement.{statement}
+use Rattle.cases.proofs.course.next.Tie as tie
 
 abbrev Inv-loop : tie.InvT-loop
 Inv-loop p d clocks n now₀ k₀ now k = Unit

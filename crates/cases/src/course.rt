@@ -8,10 +8,11 @@ use records::instant::Instant;
 use records::instant::Tick;
 use records::instant::TickSlot;
 use records::word::tag_of;
+ghost use Prim.Native.Nat.{_≤_};
 
 // The last instant, its tags counted from the least tag, and how many unseen ticks are left to draw.
 pub struct Course {
-    pub above: [u64; 4],
+    pub above: [u64; 8],
     pub unseen: u64,
     pub instant: Instant,
 }
@@ -24,7 +25,7 @@ pub fn idle_instant() -> Instant {
 
 pub fn begin(p: Plan) -> Course {
     Course {
-        above: [p.first; 4],
+        above: [p.first; 8],
         unseen: p.unseen,
         instant: idle_instant(),
     }
@@ -40,6 +41,28 @@ pub fn with_clock(v: Instant, at: usize, tick: Tick, tag: i16) -> Instant {
         return Instant { ticks, tags };
     }
     v
+}
+
+fn one_if_unseen(t: Tick) -> usize
+    ensures { λ r. ⌜ r ≤ 1 ⌝ }
+{
+    match t {
+        Tick::Unseen => 1,
+        _ => 0,
+    }
+}
+
+// How many clocks are unseen in an instant, from a clock on.
+pub fn unseen_from(v: Instant, from: usize) -> usize {
+    let mut n = 0;
+    let mut k = from;
+    while k < 8 {
+        let slot = v.ticks[k];
+        let tick = slot.tick;
+        n += one_if_unseen(tick);
+        k += 1;
+    }
+    n
 }
 
 // A tag's place with a rise, up to the greatest tag.
@@ -90,7 +113,7 @@ fn rise(h: Habit, together: bool, alone: u64, all: u64) -> u64 {
 
 // The next tick and tag of a clock.
 fn with_next(p: Plan, c: Course, d: [u64; 48], k: usize) -> Course {
-    if 4 <= k {
+    if 8 <= k {
         return c;
     }
     let habits = p.habits;

@@ -10,9 +10,9 @@ pub struct Record {
     pub refusal: u8,
 }
 
-// A clock count with one clock more, up to 8.
-fn one_more(clocks: u8) -> u8 {
-    if clocks < 8 { clocks + 1 } else { 8 }
+// A clock count with one clock more, for eight with one less.
+fn another(clocks: u8) -> u8 {
+    if clocks < 8 { clocks + 1 } else { 7 }
 }
 
 // The record of an instant; an instant that is refused has none.
@@ -71,7 +71,7 @@ pub fn damaged(v: Instant, clocks: u8, how: u64) -> Record {
         2 => with_len(with_byte(r, 2, 31, 13), n + 1),
         3 => with_byte(with_byte(r, 4, 3, 15), 2, 31, 13),
         4 => with_byte(r, 3, 1, 13),
-        5 => with_byte(whole(v, one_more(clocks)), 4, 3, 14),
+        5 => with_byte(whole(v, another(clocks)), 4, 3, 14),
         6 => with_byte(r, 4, 3, 15),
         _ => with_byte(r, n - 3, 255, 15),
     }

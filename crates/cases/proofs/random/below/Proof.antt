@@ -1,8 +1,8 @@
--- `trials::random::below` is safe, and a remainder by n is below n. Assumes nothing.
+-- `cases::random::below` is safe, and a remainder by n is below n. Assumes nothing.
 use borrow.Author.Needs.{needs}
 use native.Mathlib.Nat.{le-of-lt, mod-lt}
-use Rattle.trials.proofs.random.below.Statement.{statement}
-use Rattle.trials.proofs.random.below.Tie as tie
+use Rattle.cases.proofs.random.below.Statement.{statement}
+use Rattle.cases.proofs.random.below.Tie as tie
 
 mul-result : tie.Need-mul-result
 mul-result c = search needs

@@ -1,14 +1,14 @@
--- `trials::families::sporadics` is safe and ends: each turn leaves one line less. Assumes nothing.
+-- `cases::generic::sheet` is safe and ends: each turn leaves one line less. Assumes nothing.
 use borrow.Author.Needs.{needs}
 use Prim.Native.Nat.{_-_}
-use Rattle.trials.proofs.families.sporadics.Statement.{statement}
-use Rattle.trials.proofs.families.sporadics.Tie as tie
+use Rattle.cases.proofs.generic.sheet.Statement.{statement}
+use Rattle.cases.proofs.generic.sheet.Tie as tie
 
 abbrev Inv-loop : tie.InvT-loop
-Inv-loop d n s₀ i₀ s i = Unit
+Inv-loop d clocks lines n s₀ i₀ s i = Unit
 
 abbrev μ-loop : tie.MeasureT-loop
-μ-loop d n s₀ i₀ s i = n - i
+μ-loop d clocks lines n s₀ i₀ s i = n - i
 
 empty-sheet-requires : tie.Need-empty-sheet-requires Inv-loop μ-loop
 empty-sheet-requires c κs = search needs
@@ -16,8 +16,8 @@ empty-sheet-requires c κs = search needs
 loop-holds : tie.Need-loop-holds Inv-loop μ-loop
 loop-holds c = search needs
 
-sporadic-at-requires : tie.Need-sporadic-at-requires Inv-loop μ-loop
-sporadic-at-requires c κs = search needs
+line-requires : tie.Need-line-requires Inv-loop μ-loop
+line-requires c κs = search needs
 
 with-requires : tie.Need-with-requires Inv-loop μ-loop
 with-requires c κs = search needs
@@ -34,15 +34,15 @@ loop-again c = search needs
 returns : tie.Need-returns Inv-loop μ-loop
 returns c = search needs
 
-pub sporadics-spec : {M : Type 1} → statement M
-sporadics-spec =
+pub sheet-spec : {M : Type 1} → statement M
+sheet-spec =
     tie.close
     (tie.spec
     Inv-loop
     μ-loop
     empty-sheet-requires
     loop-holds
-    sporadic-at-requires
+    line-requires
     with-requires
     add-i
     loop-less

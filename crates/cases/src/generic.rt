@@ -1,4 +1,4 @@
-// Cases of every kind of line: 1 to 4 clocks, 0 to 6 lines.
+// Cases of every kind of line, 0 to 6 lines.
 use crate::plan::Habit;
 use crate::plan::Plan;
 use crate::plan::delayed;
@@ -69,16 +69,15 @@ fn sheet(d: [u64; 48], clocks: u64, lines: u64) -> Sheet {
     s
 }
 
-pub fn plan(d: [u64; 48]) -> Plan {
-    let clocks = below(d, 0, 4) + 1;
+pub(crate) fn plan(d: [u64; 48], clocks: u64, unseen: u64) -> Plan {
     let lines = below(d, 1, 7);
     let each = Habit(below(d, 2, 5), 5, 0, 2);
     Plan {
         sheet: sheet(d, clocks, lines),
-        habits: [each; 4],
+        habits: [each; 8],
         first: FIRST,
         instants: 8,
-        unseen: below(d, 3, 8),
+        unseen,
         together: one_in(d, 4, 2),
         follows: false,
         p: 0,

@@ -1,10 +1,10 @@
--- `trials::course::wrapped` is safe: a product of two words and a word fit in 64 bits. Assumes nothing.
+-- `cases::course::wrapped` is safe: a product of two words and a word fit in 64 bits. Assumes nothing.
 use borrow.Author.Needs.{needs}
 use native.Mathlib.Omega.{arith}
 use native.Mathlib.Nat.{mul-le-mul}
 use Prim.Native.Nat.{ℕ, _*_, _%_, _≤_}
-use Rattle.trials.proofs.course.wrapped.Statement.{statement}
-use Rattle.trials.proofs.course.wrapped.Tie as tie
+use Rattle.cases.proofs.course.wrapped.Statement.{statement}
+use Rattle.cases.proofs.course.wrapped.Tie as tie
 
 mod-le : (a : ℕ) → a % 65536 ≤ 65535
 mod-le a = omega arith

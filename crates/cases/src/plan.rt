@@ -11,7 +11,7 @@ pub struct Habit(pub u64, pub u64, pub u64, pub u64);
 // The first tag of every clock, counted from the least tag; how many instants, and how many unseen ticks in all; together: the tags of all clocks rise alike; follows: clock 0's tag is p × clock 1's + q in 16 bits.
 pub struct Plan {
     pub sheet: Sheet,
-    pub habits: [Habit; 4],
+    pub habits: [Habit; 8],
     pub first: u64,
     pub instants: u64,
     pub unseen: u64,

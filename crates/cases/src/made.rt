@@ -1,0 +1,48 @@
+// The plan of a case, by its number.
+use crate::families;
+use crate::generic;
+use crate::plan::Plan;
+use crate::random::below;
+use crate::wide;
+ghost use Prim.Native.Nat.{_≤_};
+
+// At most four clocks; more than half are of every kind of line.
+fn narrow(number: u64, d: [u64; 48]) -> Plan {
+    match number % 48 {
+        0..=3 => families::sets(d),
+        4 => families::leads(d),
+        5..=9 => families::owed(d),
+        10..=13 => families::on_clocks(d),
+        14..=17 => families::ends(d),
+        18..=21 => families::products(d),
+        _ => generic::plan(d, below(d, 0, 4) + 1, below(d, 3, 8)),
+    }
+}
+
+// Five to eight clocks.
+fn wide(number: u64, d: [u64; 48]) -> Plan {
+    match number % 24 {
+        0 => wide::moved(families::sets(d), 5, d),
+        1 => wide::moved(families::leads(d), 4, d),
+        2..=3 => wide::moved(families::owed(d), 3 + below(d, 40, 3), d),
+        4..=5 => wide::moved(families::on_clocks(d), 1 + below(d, 40, 4), d),
+        6..=7 => wide::moved(families::ends(d), 2 + below(d, 40, 4), d),
+        8..=11 => wide::unseen(d),
+        _ => generic::plan(d, below(d, 0, 4) + 5, below(d, 3, 9)),
+    }
+}
+
+pub fn plan_of(is_wide: bool, number: u64, d: [u64; 48]) -> Plan {
+    if is_wide {
+        return wide(number, d);
+    }
+    narrow(number, d)
+}
+
+// How many instants, at most 16.
+pub fn instants_of(plan: Plan) -> u64
+    ensures { λ r. ⌜ r ≤ 16 ⌝ }
+{
+    let n = plan.instants;
+    if n < 16 { n } else { 16 }
+}
