@@ -1,0 +1,248 @@
+// The made cases: a whole log, a beginning of it, a log with a damaged record, and a damaged sheet.
+use crate::compare::compare;
+use crate::compare::held;
+use crate::compare::with_number;
+use crate::due::Due;
+use crate::due::beginning;
+use crate::due::entries_of;
+use crate::faulty::faulty_sheet;
+use crate::tally;
+use crate::tape::Tape;
+use crate::tape::front;
+use crate::tape::no_bytes;
+use crate::tape::sheet_tape;
+use crate::tape::with_record;
+use cases::course;
+use cases::course::idle_instant;
+use cases::damage::Record;
+use cases::damage::damaged;
+use cases::damage::whole;
+use cases::made::instants_of;
+use cases::made::plan_of;
+use cases::plan::Plan;
+use cases::random::below;
+use cases::random::draw;
+use cases::tally::count;
+use filler::run::Run;
+use filler::run::no_instants;
+use filler::run::with_instant;
+use filler::whole_run::owing;
+use gateway::lift_instant_number;
+use gateway::lift_sheet_number;
+use records::instant::Instant;
+use records::sheet::Sheet;
+
+const NARROW_CASES: u64 = 3000;
+
+const WIDE_CASES: u64 = 1000;
+
+// A sheet and its bytes, a run, and the entries due of opening and of each instant.
+struct Made {
+    sheet: Sheet,
+    tape: Tape,
+    run: Run,
+    entries: [u8; 51],
+}
+
+// The last number drawn, and a run.
+struct Drawn {
+    last: u64,
+    run: Run,
+}
+
+// The last number drawn, and what was counted.
+struct Ended {
+    last: u64,
+    tally: [u64; 40],
+}
+
+fn run_of(plan: Plan, from: u64) -> Drawn {
+    let n = instants_of(plan);
+    let mut c = course::begin(plan);
+    let mut run = no_instants();
+    let mut last = from;
+    let mut i = 0;
+    while i < n {
+        let drawn = draw(last);
+        let d = drawn.numbers;
+        c = course::next(plan, c, d);
+        let v = c.instant;
+        run = with_instant(run, v);
+        last = drawn.last;
+        i += 1;
+    }
+    Drawn { last, run }
+}
+
+// The instant at a place below 16.
+fn instant_at(run: Run, i: usize) -> Instant {
+    if i < 16 {
+        return run.instants[i];
+    }
+    idle_instant()
+}
+
+// A log with the records of the instants from one place to before another.
+fn with_records(log: Tape, clocks: u8, run: Run, from: usize, to: usize) -> Tape {
+    let mut all = log;
+    let mut i = from;
+    while i < to {
+        let r = whole(instant_at(run, i), clocks);
+        all = with_record(all, r);
+        i += 1;
+    }
+    all
+}
+
+fn compared(sheet: Tape, log: Tape, due: Due, t: [u64; 40]) -> [u64; 40] {
+    let a = sheet.bytes;
+    let b = log.bytes;
+    compare(front(&a, sheet.len), front(&b, log.len), due, t)
+}
+
+// A log of the first n instants.
+fn taken(c: Made, n: usize, t: [u64; 40]) -> [u64; 40] {
+    let sheet = c.sheet;
+    let run = c.run;
+    let entries = c.entries;
+    let tape = c.tape;
+    let log = with_records(no_bytes(), sheet.clocks, run, 0, n);
+    let counts = owing(sheet, beginning(run, n));
+    let due = Due {
+        number: 0,
+        taken: n,
+        entries,
+        owing: counts,
+    };
+    compared(tape, log, due, t)
+}
+
+// What is due where a record or the sheet is refused.
+fn refused(number: u8, n: usize, entries: [u8; 51]) -> Due {
+    let owing = [0usize; 8];
+    Due {
+        number,
+        taken: n,
+        entries,
+        owing,
+    }
+}
+
+// A record with a byte too many is refused by its kind: the byte counts to the next.
+fn number_in_log(r: Record, how: u64) -> u8 {
+    if how == 2 {
+        return 13;
+    }
+    r.refusal
+}
+
+// A damaged record after the first n instants; then the others, unless it is torn.
+fn damaged_log(c: Made, n: usize, how: u64, t: [u64; 40]) -> [u64; 40] {
+    let sheet = c.sheet;
+    let clocks = sheet.clocks;
+    let run = c.run;
+    let entries = c.entries;
+    let tape = c.tape;
+    let r = damaged(instant_at(run, n), clocks, how);
+    let log = with_record(with_records(no_bytes(), clocks, run, 0, n), r);
+    let due = refused(number_in_log(r, how), n, entries);
+    if how < 2 {
+        return compared(tape, log, due, t);
+    }
+    let longer = with_records(log, clocks, run, n, run.count);
+    compared(tape, longer, due, t)
+}
+
+fn sheet_number(tape: Tape, wanted: u8, t: [u64; 40]) -> [u64; 40] {
+    let bytes = tape.bytes;
+    let n = lift_sheet_number(front(&bytes, tape.len));
+    held(n == wanted, with_number(n, t), tally::SHEET_NUMBER)
+}
+
+// The sheet as it is, then damaged, with a log of the first n instants.
+fn damaged_sheet(c: Made, n: usize, how: u64, t: [u64; 40]) -> [u64; 40] {
+    let sheet = c.sheet;
+    let clocks = sheet.clocks;
+    let run = c.run;
+    let entries = c.entries;
+    let tape = c.tape;
+    let t = sheet_number(tape, 0, t);
+    let f = faulty_sheet(tape, clocks, how);
+    let bad = f.tape;
+    let t = sheet_number(bad, f.number, t);
+    let log = with_records(no_bytes(), clocks, run, 0, n);
+    compared(bad, log, refused(f.number, 0, entries), t)
+}
+
+fn instant_number(r: Record, clocks: u8, wanted: u8, t: [u64; 40]) -> [u64; 40] {
+    let bytes = r.bytes;
+    let n = lift_instant_number(front(&bytes, r.len), clocks);
+    held(n == wanted, with_number(n, t), tally::INSTANT_NUMBER)
+}
+
+// An instant's record as it is, for clock counts that no sheet has, and damaged.
+fn instant_numbers(v: Instant, clocks: u8, how: u64, t: [u64; 40]) -> [u64; 40] {
+    let r = whole(v, clocks);
+    let t = instant_number(r, clocks, 0, t);
+    let t = instant_number(r, 0, 4, t);
+    let t = instant_number(r, 9, 4, t);
+    let bad = damaged(v, clocks, how);
+    instant_number(bad, clocks, bad.refusal, t)
+}
+
+// All that is compared of a case, with a place in it and two ways of damage drawn.
+fn tried(c: Made, d: [u64; 48], t: [u64; 40]) -> [u64; 40] {
+    let sheet = c.sheet;
+    let run = c.run;
+    let all = run.count;
+    let n = below(d, 0, all as u64) as usize;
+    let how = below(d, 1, 8);
+    let t = taken(c, all, t);
+    let t = taken(c, n, t);
+    let t = damaged_log(c, n, how, t);
+    let t = damaged_sheet(c, n, below(d, 2, 11), t);
+    instant_numbers(instant_at(run, n), sheet.clocks, how, t)
+}
+
+fn case(is_wide: bool, number: u64, from: u64, tally: [u64; 40]) -> Ended {
+    let first = draw(from);
+    let d = first.numbers;
+    let plan = plan_of(is_wide, number, d);
+    let sheet = plan.sheet;
+    let made = run_of(plan, first.last);
+    let run = made.run;
+    let tape = sheet_tape(sheet);
+    let entries = entries_of(sheet, run);
+    let c = Made {
+        sheet,
+        tape,
+        run,
+        entries,
+    };
+    let drawn = draw(made.last);
+    let e = drawn.numbers;
+    let place = if is_wide { tally::WIDE } else { tally::NARROW };
+    let told = tried(c, e, count(tally, place));
+    Ended {
+        last: drawn.last,
+        tally: told,
+    }
+}
+
+// So many cases, from the first number of the sequence.
+fn cases_of(is_wide: bool, cases: u64, tally: [u64; 40]) -> [u64; 40] {
+    let mut e = Ended { last: 1, tally };
+    let mut i = 0;
+    while i < cases {
+        let told = e.tally;
+        e = case(is_wide, i, e.last, told);
+        i += 1;
+    }
+    let told = e.tally;
+    told
+}
+
+pub fn all(tally: [u64; 40]) -> [u64; 40] {
+    let t = cases_of(false, NARROW_CASES, tally);
+    cases_of(true, WIDE_CASES, t)
+}
