@@ -8,7 +8,7 @@ use native.Mathlib.Nat.{add-zero, zero-add}
 use native.Mathlib.Numerals.{add-one}
 use lib.ListN.{length, getD, take, drop, set, length-append, length-map, List·getD-append, List·getD-map}
 use lib.Seq.{take-length, set-append-seam, append-snoc}
-use Rattle.records.specs.Outcome.{taken, refused, Check, decide}
+use Rattle.records.specs.Outcome.{Outcome, taken, refused, Check, decide}
 use Rattle.records.specs.Lists.{listedFrom, listed, filled}
 use Rattle.records.specs.Types.{All}
 
@@ -63,6 +63,27 @@ module _ {A : Type 0} (ds : List Check) (v : A) where
       by-test true ih e = cc
       by-test false ih e = ih e
 
+-- checks pass, or refuse whatever checks stand behind them
+pub data Decided (A : Type 0) (cs : List Check) : Type 0 where
+  passes : Passed cs → Decided A cs
+  stops : (n : ℕ) → ((ds : List Check) (v : A) → decide (cs ++ ds) v ≡ refused n) → Decided A cs
+
+pub decided : {A : Type 0} (cs : List Check) → Decided A cs
+decided {A} cs = by-outcome (decide cs tt) refl
+  where
+    by-outcome : (o : Outcome (Unit {0})) → decide cs tt ≡ o → Decided A cs
+    by-outcome (taken x) e = passes (taken-passed cs e .0)
+    by-outcome (refused n) e = stops n (λ ds v. decide-refused ds v cs tt e)
+
+-- what holds of the number of each check holds of a refusal's
+pub refused-number : {A : Type 0} (P : ℕ → Type 0) (cs : List Check) (v : A) {n : ℕ} → All (λ (c : Check). P (c .number)) cs → decide cs v ≡ refused n → P n
+refused-number P [] v h e = refused-taken (sym e)
+refused-number P (c ∷ cs) v {n} h e = by-test (c .holds) (refused-number P cs v (h .1)) e
+  where
+    by-test : (t : Bool) → (decide cs v ≡ refused n → P n) → cond t (refused (c .number)) (decide cs v) ≡ refused n → P n
+    by-test true ih e = let k : c .number ≡ n = cc in rw k at (h .0)
+    by-test false ih e = ih e
+
 module _ {A : Type 0} where
   -- ---- what holds of each element
   module _ (P : A → Type 0) where
@@ -75,6 +96,10 @@ module _ {A : Type 0} where
     all-drop zero xs h = h
     all-drop (suc n) [] h = tt
     all-drop (suc n) (x ∷ xs) h = all-drop n xs (h .1)
+
+    pub all-append : (xs ys : List A) → All P xs → All P ys → All P (xs ++ ys)
+    all-append [] ys h g = g
+    all-append (x ∷ xs) ys h g = (h .0, all-append xs ys (h .1) g)
 
     pub all-snoc : (xs : List A) {x : A} → All P xs → P x → All P (xs ++ (x ∷ []))
     all-snoc [] h p = (p, tt)

@@ -1,4 +1,5 @@
 pub mod Cut
+pub mod Front
 pub mod Inverse
 pub mod Laws
 pub mod Span

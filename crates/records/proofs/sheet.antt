@@ -1,3 +1,4 @@
+pub mod Front
 pub mod Pieces
 pub mod Reading
 pub mod RoundTrip

@@ -36,6 +36,18 @@ two-clocks k h = rw h (least (eqb k 16) (eqb k 17) (eqb k 20))
     least false false true = omega arith
     least false false false = omega arith
 
+-- no line's body is longer than 6
+pub length-most : (k : ℕ) → lengthOf k ≤ 6
+unfolding lengthOf
+length-most k = most (eqb k 16) (eqb k 17) (eqb k 20) (isLine k)
+  where
+    most : (x y z t : Bool) → cond x 4 (cond y 6 (cond z 5 (cond t 2 0))) ≤ 6
+    most true y z t = omega arith
+    most false true z t = omega arith
+    most false false true t = omega arith
+    most false false false true = omega arith
+    most false false false false = omega arith
+
 -- a body has room for its clocks
 pub clocks-within : (k : ℕ) → clocksOf k ≤ lengthOf k
 unfolding lengthOf clocksOf
