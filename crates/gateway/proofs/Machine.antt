@@ -1,47 +1,23 @@
 -- The machine's answers to a log: how many there are and how large they get, what they come to, and their bytes. Assumes nothing.
-use mathlib.Core.Bool.{Bool, true, false, cond}
 use mathlib.Core.List.{List, [], _∷_, _++_, map}
-use mathlib.Core.Logic.{_≢_}
 use mathlib.Core.Path.{_≡_, refl, sym, ap, _∙_}
-use Prim.Native.Nat.{ℕ, suc, _+_, _*_, _≤_, _<_}
+use Prim.Native.Nat.{ℕ, suc, _+_, _*_, _≤_}
 use native.Mathlib.Omega.{arith}
 use native.Mathlib.Nat.{add-zero}
-use lib.Dec.{leb}
 use lib.ListN.{length, length-append}
-use borrow.Author.Tests.{leb-false}
 use Rattle.records.specs.Outcome.{Outcome, taken, refused}
 use Rattle.records.specs.Sheet.{SheetValue, readSheet}
 use Rattle.records.specs.Types.{All}
-use Rattle.records.specs.Instant.{readInstant}
-use Rattle.tesl.specs.Lists.{any, filter, beginnings, flatMap}
-use Rattle.tesl.specs.Run.{Instant, runFillings}
-use Rattle.tesl.specs.Fits.{fits}
-use Rattle.tesl.specs.Remainder.{Remainder, remainder, sameRemainder}
-use Rattle.tesl.specs.Answer.{Answer, exhausted, broken, holding, Standing, remainders, tooMany, judged, answer}
-use Rattle.tesl.specs.Machine.{unlessFull, accepts, listAfter, reply, machine, session, concluded, callsOf, judgeLog}
-use Rattle.theory.proofs.Sets.{distinct-apart}
-use Rattle.theory.proofs.Respect.{remainder-equivalence}
-use Rattle.theory.proofs.Answers.{held-few}
+use Rattle.tesl.specs.Lists.{flatMap}
+use Rattle.tesl.specs.Run.{Instant}
+use Rattle.tesl.specs.Answer.{Answer, exhausted, broken, holding, answer}
+use Rattle.tesl.specs.Machine.{accepts, listAfter, reply, machine, session, concluded, callsOf, judgeLog}
+use Rattle.theory.proofs.Answers.{holding-few}
+use Rattle.theory.proofs.Accepted.{taken-read}
 use Rattle.gateway.specs.Result.{liveCode, unlessRefused, answersTaken, entry}
 use Rattle.gateway.specs.Inner.{Small}
 
 -- ---- live is at most 32
-
-pub few-remainders : (s : SheetValue) (run : List Instant) → answer s run ≢ exhausted → length (remainders s run) ≤ 32
-unfolding remainders
-few-remainders s run n =
-    held-few s run (remainders s run) n
-    (record { each-once = distinct-apart sameRemainder remainder-equivalence (map (remainder s) (filter (fits s) (runFillings run))); these = λ x. refl })
-    .0
-
-holding-live : (s : SheetValue) (run : List Instant) {n : ℕ} {standing : Standing} → answer s run ≡ holding n standing → n ≡ length (remainders s run)
-unfolding answer judged
-holding-live s run {n} {standing} e = by-test (any (λ (b : List Instant). tooMany (remainders s b)) (beginnings run)) (remainders s run) e
-  where
-    by-test : (b : Bool) (rs : List Remainder) → cond b exhausted (judged rs) ≡ holding n standing → n ≡ length rs
-    by-test true rs x = let z : _≡_ {A = ℕ} 0 1 = cc in absurd (omega arith)
-    by-test false [] x = let z : _≡_ {A = ℕ} 0 1 = cc in absurd (omega arith)
-    by-test false (r ∷ rs) x = cc
 
 live-small : (s : SheetValue) (run : List Instant) → liveCode (answer s run) ≤ 32
 live-small s run = by-answer (answer s run) refl
@@ -49,10 +25,7 @@ live-small s run = by-answer (answer s run) refl
     by-answer : (a : Answer) → answer s run ≡ a → liveCode a ≤ 32
     by-answer exhausted e = omega arith
     by-answer broken e = omega arith
-    by-answer (holding n standing) e =
-        let h = few-remainders s run (λ x. let z : _≡_ {A = ℕ} 0 1 = cc in absurd (omega arith)) in
-        let l = holding-live s run e in
-        omega arith
+    by-answer (holding n standing) e = holding-few s run e
 
 -- ---- the answers to a list of calls
 
@@ -67,17 +40,9 @@ answers-small s run (bytes ∷ calls) = by-outcome (accepts s run bytes) (λ run
     by-outcome (taken i) ih = (live-small s (run ++ (i ∷ [])), ih (run ++ (i ∷ [])))
     by-outcome (refused n) ih = tt
 
--- 16: a call is taken only while fewer than 4,000 are held
-taken-room : (n : ℕ) (o : Outcome Instant) {i : Instant} → unlessFull n o ≡ taken i → n < 4000
-taken-room n (refused k) e = let z : _≡_ {A = ℕ} 0 1 = cc in absurd (omega arith)
-taken-room n (taken j) {i} e = by-test (leb 4000 n) refl e
-  where
-    by-test : (t : Bool) → leb 4000 n ≡ t → cond t (refused 16) (taken j) ≡ taken i → n < 4000
-    by-test true h x = let z : _≡_ {A = ℕ} 0 1 = cc in absurd (omega arith)
-    by-test false h x = omega (arith, leb-false 4000 n h)
-
+-- fewer than 4,000 are held where a call is taken
 pub answers-few : (s : SheetValue) (run : List Instant) (calls : List (List ℕ)) → length run ≤ 4000 → length run + length (answersTaken (machine s run calls)) ≤ 4000
-unfolding machine accepts
+unfolding machine
 answers-few s run [] h = omega arith
 answers-few s run (bytes ∷ calls) h = by-outcome (accepts s run bytes) refl (λ run′ l. answers-few s run′ calls l)
   where
@@ -86,7 +51,7 @@ answers-few s run (bytes ∷ calls) h = by-outcome (accepts s run bytes) refl (�
         → length run + length (answersTaken (reply s run o ∷ machine s (listAfter run o) calls)) ≤ 4000
     by-outcome (refused n) e ih = omega arith
     by-outcome (taken i) e ih =
-        let r = taken-room (length run) (readInstant (s .clocks) bytes) e in
+        let r = taken-read s run bytes e .1 in
         let l = length-append run (i ∷ []) in
         let k = ih (run ++ (i ∷ [])) (omega arith) in
         omega arith

@@ -1,8 +1,8 @@
--- The machine's list: at most 4,000 instants, each with a cell for each clock and tags of 16 bits. Assumes nothing.
+-- The machine's list: at most 4,000 instants, each with a cell for each clock and tags of 16 bits; and what a call is taken for. Assumes nothing.
 use mathlib.Core.Bool.{Bool, true, false, cond}
 use mathlib.Core.List.{List, [], _∷_}
-use mathlib.Core.Path.{_≡_, refl}
-use Prim.Native.Nat.{ℕ}
+use mathlib.Core.Path.{_≡_, refl, sym}
+use Prim.Native.Nat.{ℕ, _≤_, _<_}
 use native.Mathlib.Omega.{arith}
 use lib.Dec.{leb}
 use lib.ListN.{length, length-append}
@@ -11,11 +11,42 @@ use Rattle.records.specs.Outcome.{Outcome, taken, refused}
 use Rattle.records.specs.Sheet.{SheetValue}
 use Rattle.records.specs.Instant.{readInstant}
 use Rattle.records.specs.Types.{All, IsBytes, IsInstant}
+use Rattle.records.proofs.Lists.{refused-taken}
+use Rattle.records.proofs.instant.Front.{read-number}
 use Rattle.records.proofs.instant.RoundTrip.{read-writes}
 use Rattle.tesl.specs.Run.{Instant}
 use Rattle.tesl.specs.Machine.{unlessFull, accepts, listAfter, held}
 use Rattle.theory.specs.Limits.{ListLimits}
 use Rattle.theory.proofs.Lists.{each-snoc}
+
+-- a call is taken as it is read, and only while fewer than 4,000 are held (16)
+pub taken-read : (s : SheetValue) (run : List Instant) (bytes : List ℕ) {i : Instant} → accepts s run bytes ≡ taken i → (readInstant (s .clocks) bytes ≡ taken i) × (length run < 4000)
+unfolding accepts
+taken-read s run bytes {i} e = by-outcome (readInstant (s .clocks) bytes) e
+  where
+    by-test : (j : Instant) (full : Bool) → leb 4000 (length run) ≡ full → cond full (refused 16) (taken j) ≡ taken i → (taken j ≡ taken i) × (length run < 4000)
+    by-test j true f x = refused-taken x
+    by-test j false f x = (x, leb-false 4000 (length run) f)
+
+    by-outcome : (o : Outcome Instant) → unlessFull (length run) o ≡ taken i → (o ≡ taken i) × (length run < 4000)
+    by-outcome (refused n) x = refused-taken x
+    by-outcome (taken j) x = by-test j (leb 4000 (length run)) refl x
+
+-- a call is refused with a number up to 16
+pub refused-number : (s : SheetValue) (run : List Instant) (bytes : List ℕ) {n : ℕ} → accepts s run bytes ≡ refused n → n ≤ 16
+unfolding accepts
+refused-number s run bytes {n} e = by-outcome (readInstant (s .clocks) bytes) refl e
+  where
+    by-test : (j : Instant) (full : Bool) → cond full (refused 16) (taken j) ≡ refused n → n ≤ 16
+    by-test j true x = let k : 16 ≡ n = cc in omega arith
+    by-test j false x = refused-taken (sym x)
+
+    by-outcome : (o : Outcome Instant) → readInstant (s .clocks) bytes ≡ o → unlessFull (length run) o ≡ refused n → n ≤ 16
+    by-outcome (refused k) f x =
+        let m : k ≡ n = cc in
+        let l = read-number (s .clocks) bytes f in
+        omega arith
+    by-outcome (taken j) f x = by-test j (leb 4000 (length run)) x
 
 pub list-after : (s : SheetValue) (run : List Instant) (bytes : List ℕ) → IsBytes bytes → ListLimits s run → ListLimits s (listAfter run (accepts s run bytes))
 unfolding accepts

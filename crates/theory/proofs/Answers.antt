@@ -1,6 +1,6 @@
 -- What to answer from what is held: exhausted and broken stay; what an observer must find to answer exhausted; and the answer else. Assumes nothing.
 use mathlib.Core.Bool.{Bool, true, false, not, cond, _||_, and-true, or-true, or-false}
-use mathlib.Core.List.{List, [], _∷_, _++_, append-assoc, append-nil}
+use mathlib.Core.List.{List, [], _∷_, _++_, map, append-assoc, append-nil}
 use mathlib.Core.Logic.{_≢_}
 use mathlib.Core.Path.{_≡_, refl, sym, ap, _∙_, subst}
 use Prim.Native.Nat.{ℕ, _≤_, _<_}
@@ -8,15 +8,18 @@ use native.Mathlib.Omega.{arith}
 use lib.Dec.{T, T-not, not-T, ltb, leb, lt→ltb, ltb→lt, leb→le, le→leb, nleb→lt, nltb→le}
 use lib.ListN.{length}
 use Rattle.records.specs.Sheet.{SheetValue}
-use Rattle.tesl.specs.Lists.{all, any, beginnings}
-use Rattle.tesl.specs.Run.{Instant}
+use Rattle.tesl.specs.Lists.{all, any, filter, beginnings}
+use Rattle.tesl.specs.Run.{Instant, runFillings}
+use Rattle.tesl.specs.Fits.{fits}
 use Rattle.tesl.specs.Remainder.{Remainder, remainder, sameRemainder, owes}
-use Rattle.tesl.specs.Answer.{Answer, exhausted, broken, holding, remainders, tooMany, judged, answer}
+use Rattle.tesl.specs.Answer.{Answer, exhausted, broken, holding, Standing, remainders, tooMany, judged, answer}
 use Rattle.theory.specs.Sets.{apart, Covers}
 use Rattle.theory.specs.Step.{lastTagsOf, wellFormed}
 use Rattle.theory.specs.Held.{Held, successors}
 use Rattle.tesl.proofs.Tests.{or-l, or-r, or-e, T→≡}
 use Rattle.theory.proofs.Lists.{F→≡, any-snoc, any-imp, all-as-any, beginnings-snoc, snoc-ind}
+use Rattle.theory.proofs.Sets.{distinct-apart}
+use Rattle.theory.proofs.Respect.{remainder-equivalence}
 use Rattle.theory.proofs.Held.{held-step, many-found, one-more-found, owed-found, held-tooMany, held-judged, held-start}
 
 -- ---- exhausted, by the beginnings
@@ -142,6 +145,29 @@ held-few s run rs n h = (
 
     not-many : T (tooMany rs) → ⊥
     not-many t = subst T (not-over s run n) (whole run (subst T (held-tooMany s run rs h) t))
+
+-- live is at most 32
+pub few-remainders : (s : SheetValue) (run : List Instant) → answer s run ≢ exhausted → length (remainders s run) ≤ 32
+unfolding remainders
+few-remainders s run n =
+    held-few s run (remainders s run) n
+    (record { each-once = distinct-apart sameRemainder remainder-equivalence (map (remainder s) (filter (fits s) (runFillings run))); these = λ x. refl })
+    .0
+
+holding-live : (s : SheetValue) (run : List Instant) {n : ℕ} {standing : Standing} → answer s run ≡ holding n standing → n ≡ length (remainders s run)
+unfolding answer judged
+holding-live s run {n} {standing} e = by-test (any (λ (b : List Instant). tooMany (remainders s b)) (beginnings run)) (remainders s run) e
+  where
+    by-test : (b : Bool) (rs : List Remainder) → cond b exhausted (judged rs) ≡ holding n standing → n ≡ length rs
+    by-test true rs x = let z : _≡_ {A = ℕ} 0 1 = cc in absurd (omega arith)
+    by-test false [] x = let z : _≡_ {A = ℕ} 0 1 = cc in absurd (omega arith)
+    by-test false (r ∷ rs) x = cc
+
+pub holding-few : (s : SheetValue) (run : List Instant) {n : ℕ} {standing : Standing} → answer s run ≡ holding n standing → n ≤ 32
+holding-few s run e =
+    let h = few-remainders s run (λ x. let z : _≡_ {A = ℕ} 0 1 = cc in absurd (omega arith)) in
+    let l = holding-live s run e in
+    omega arith
 
 -- ---- broken stays
 

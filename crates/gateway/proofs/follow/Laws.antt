@@ -29,7 +29,8 @@ use Rattle.panel.proofs.Run.{panel-of-run}
 use Rattle.gateway.specs.declared.follow.Last.{Last}
 use Rattle.gateway.specs.Result.{numberOf, packed, unlessRefused, unlessExhausted, owingIn, owingOf, shownCode}
 use Rattle.gateway.specs.Inner.{judgedLast, FollowsAll, FollowsLog, Kept, OwingAfter}
-use Rattle.gateway.proofs.Machine.{few-remainders, judged-small}
+use Rattle.theory.proofs.Answers.{few-remainders}
+use Rattle.gateway.proofs.Machine.{judged-small}
 use Rattle.gateway.proofs.Turn.{Watching, ended, ended-follows, stopped}
 
 -- ---- the loop
