@@ -37,7 +37,7 @@ decimal-more n h = rw (le-ltb n 10 h, enough n (suc (n / 10)) (n / 10) (omega ar
 pub longer : (n : ℕ) → 10 ≤ n → length (decimal n) ≡ length (decimal (n / 10)) + 1
 longer n h = ap length (decimal-more n h) ∙ length-append (decimal (n / 10)) (digit (n % 10) ∷ [])
 
-length-digits : (k n : ℕ) → n < 10 ^ suc k → length (decimal n) ≤ suc k
+pub length-digits : (k n : ℕ) → n < 10 ^ suc k → length (decimal n) ≤ suc k
 length-digits zero n h = omega (arith, ap length (decimal-one n h))
 length-digits (suc k) n h = by-test (ltb n 10) refl (length-digits k (n / 10) (omega arith))
   where

@@ -1,0 +1,64 @@
+-- The first 65,704 bytes of a sheet and the first 177,539 of a log decide what is printed: of a log, 28 of each of 4,000 instants, and the longest record. Assumes nothing.
+use mathlib.Core.List.{List, [], _∷_, _++_, map, append-assoc}
+use mathlib.Core.Path.{_≡_, refl, sym, _∙_}
+use Prim.Native.Nat.{ℕ, _-_, _≤_}
+use native.Mathlib.Omega.{arith}
+use lib.ListN.{length, take, length-append}
+use Rattle.records.specs.Outcome.{Outcome, taken, refused}
+use Rattle.records.specs.Record.{Piece, recordBytes}
+use Rattle.records.specs.Sheet.{SheetValue, readSheet}
+use Rattle.records.specs.Types.{IsBytes}
+use Rattle.records.proofs.record.Front.{Turn, ends, goes, pieces-front}
+use Rattle.records.proofs.sheet.Front.{read-front}
+use Rattle.records.proofs.instant.Front.{taken-short}
+use Rattle.tesl.specs.Run.{Instant}
+use Rattle.tesl.specs.Machine.{accepts, callOf, callsOf}
+use Rattle.theory.proofs.Accepted.{taken-read}
+use Rattle.text.specs.Text.{refusalLine}
+use Rattle.text.specs.Output.{FrontDecides}
+use Rattle.text.proofs.Walk.{printed, printedAll, watchLines, columnsLines, watch-walk, columns-walk}
+
+-- where the walk stands: what is printed so far, and the instants taken
+record Place : Type 0 where
+  text : List ℕ
+  run : List Instant
+
+module _ (lines : List Instant → Instant → List ℕ) (s : SheetValue) where
+  -- all that is printed, from a place on
+  abbrev whole-text : Place → List Piece → List ℕ
+  whole-text at ps = at .text ++ printed lines s (at .run) (map callOf ps)
+
+  abbrev left : Place → ℕ
+  left at = 4000 - length (at .run)
+
+  -- an instant that is taken has at most 28 bytes, and 4,000 of them are the most
+  log-turn : (at : Place) (kind : ℕ) (body : List ℕ) → Turn whole-text left 28 at kind body
+  unfolding printed
+  log-turn at kind body = by-outcome (accepts s (at .run) (recordBytes kind body)) refl
+    where
+      by-outcome : (o : Outcome Instant) → accepts s (at .run) (recordBytes kind body) ≡ o → Turn whole-text left 28 at kind body
+      by-outcome (refused n) e = ends (at .text ++ refusalLine n) (λ ps. rw e)
+      by-outcome (taken i) e =
+          let r = taken-read s (at .run) (recordBytes kind body) e in
+          let l = length-append (at .run) (i ∷ []) in
+          let h = r .1 in
+          goes (record { text = at .text ++ lines (at .run) i; run = at .run ++ (i ∷ []) }) (omega arith) (taken-short (s .clocks) kind body (r .0) .bytes)
+          (λ ps. rw (e, append-assoc))
+
+  log-front : (n : ℕ) (log : List ℕ) → IsBytes log → 177539 ≤ n → printed lines s [] (callsOf (take n log)) ≡ printed lines s [] (callsOf log)
+  log-front n log d l = pieces-front whole-text left 28 log-turn 4000 n (record { text = []; run = [] }) log (omega arith) d (omega arith)
+
+module _ (a b : ℕ) (k : 65704 ≤ a) (l : 177539 ≤ b) where
+  text-front : (lines : SheetValue → List Instant → Instant → List ℕ) (sheet log : List ℕ) → IsBytes sheet → IsBytes log
+      → printedAll lines (callsOf (take b log)) (readSheet (take a sheet)) ≡ printedAll lines (callsOf log) (readSheet sheet)
+  text-front lines sheet log d e = rw (read-front a sheet d k) (by-sheet (readSheet sheet))
+    where
+      by-sheet : (o : Outcome SheetValue) → printedAll lines (callsOf (take b log)) o ≡ printedAll lines (callsOf log) o
+      by-sheet (taken s) = log-front (lines s) s b log e l
+      by-sheet (refused n) = refl
+
+  pub front-decides : FrontDecides a b
+  front-decides = record {
+    watch = λ sheet log d e. watch-walk (take a sheet) (take b log) ∙ text-front watchLines sheet log d e ∙ sym (watch-walk sheet log);
+    columns = λ sheet log d e. columns-walk (take a sheet) (take b log) ∙ text-front columnsLines sheet log d e ∙ sym (columns-walk sheet log);
+  }
