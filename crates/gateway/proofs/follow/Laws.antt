@@ -14,6 +14,7 @@ use Rattle.tesl.specs.Lists.{count}
 use Rattle.tesl.specs.Run.{Instant}
 use Rattle.tesl.specs.Answer.{Answer, exhausted, broken, holding, remainders, answer}
 use Rattle.tesl.specs.Machine.{held, session, LogResult, callsOf, judgeLog}
+use Rattle.theory.proofs.Answers.{few-remainders}
 use Rattle.judge.specs.declared.answer.Answer as code
 use Rattle.judge.specs.declared.answer.Reply.{Reply}
 use Rattle.judge.specs.declared.answer.Reply.the-variants as reply
@@ -29,7 +30,6 @@ use Rattle.panel.proofs.Run.{panel-of-run}
 use Rattle.gateway.specs.declared.follow.Last.{Last}
 use Rattle.gateway.specs.Result.{numberOf, packed, unlessRefused, unlessExhausted, owingIn, owingOf, shownCode}
 use Rattle.gateway.specs.Inner.{judgedLast, FollowsAll, FollowsLog, Kept, OwingAfter}
-use Rattle.theory.proofs.Answers.{few-remainders}
 use Rattle.gateway.proofs.Machine.{judged-small}
 use Rattle.gateway.proofs.Turn.{Watching, ended, ended-follows, stopped}
 
