@@ -1,6 +1,7 @@
 -- Lists, sets and whole numbers.
 pub mod Lists
 pub mod Sets
+pub mod Members
 pub mod Whole
 -- What each kind of line gives: a law, and one for each kind.
 pub mod Law
@@ -23,3 +24,5 @@ pub mod Tracks
 pub mod Seen
 -- Demand 3, for a monitor of any kind.
 pub mod Machine
+-- The answer in document 01's words, with quantifiers.
+pub mod Said

@@ -133,6 +133,12 @@ module _ {A : Type 0} where
   member-any p {x} (List·Memᴰ·head {x = y} {xs = ys} e) t = or-l (p y) (any p ys) (subst (λ (z : A). T (p z)) e t)
   member-any p {x} (List·Memᴰ·tail {x = y} {xs = ys} m) t = or-r (p y) (any p ys) (member-any p m t)
 
+  pub any-member : (p : A → Bool) (xs : List A) → T (any p xs) → (x : A) × List·Memᴰ x xs × T (p x)
+  any-member p [] t = absurd t
+  any-member p (x ∷ xs) t = or-e (p x) (any p xs) t
+      (λ u. (x, List·Memᴰ·head refl, u))
+      (λ u. let r = any-member p xs u in (r .0, List·Memᴰ·tail (r .1), r .2))
+
   -- all p holds of those that pass q, and of those that fail it
   pub all-filter : (p q : A → Bool) (xs : List A) → T (all p (filter q xs)) → T (all (λ x. not (q x) || p x) xs)
   all-filter p q [] t = tt

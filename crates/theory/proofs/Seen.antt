@@ -94,11 +94,11 @@ some-kept {A} same x xs = go (distinct same xs)
     go (y ∷ d) = elim (any (same x) (y ∷ d)) as (λ b. length (cond b (y ∷ d) (x ∷ (y ∷ d))) ≡ 0 → ⊥) [ true ↦ λ e. omega arith | false ↦ λ e. omega arith ]
 
 -- where the count of obligations is 0, there is none
-none-owed : (os : List Obligation) → length (distinct sameObligation os) ≡ 0 → os ≡ []
+pub none-owed : (os : List Obligation) → length (distinct sameObligation os) ≡ 0 → os ≡ []
 none-owed [] e = refl
 none-owed (o ∷ os) e = absurd (some-kept sameObligation o os e)
 
-clear-when : (b : Bool) → cond b clear owed ≡ clear → T b
+pub clear-when : (b : Bool) → cond b clear owed ≡ clear → T b
 clear-when true e = tt
 clear-when false e = let z : _≡_ {A = ℕ} 0 1 = cc in omega arith
 

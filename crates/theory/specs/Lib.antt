@@ -6,3 +6,4 @@ pub mod Limits
 pub mod Tracks
 pub mod Session
 pub mod Seen
+pub mod Said

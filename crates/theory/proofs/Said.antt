@@ -1,0 +1,261 @@
+-- The machine's answer is what document 01 says: the fillings of a run are those listed, the distinct remainders are those of a list of fitting ones, and their numbers are lengths. Assumes nothing.
+use mathlib.Core.Bool.{Bool, true, false, cond, _||_}
+use mathlib.Core.List.{List, [], _∷_, _++_, map, List·Memᴰ, List·Memᴰ·head, List·Memᴰ·tail, List·Memᴰ·not-nil, List·Memᴰ·cases-cons, List·Memᴰ·eq-of-singleton, List·Memᴰ·append-cases, Memᴰ·cast, Memᴰ·append-left, Memᴰ·append-right, Memᴰ·map, Memᴰ·of-map}
+use mathlib.Core.Logic.{_↔_, _≢_, _⊎_, inl, inr, ⊎-elim}
+use mathlib.Core.Path.{_≡_, refl, sym, ap, _∙_, subst}
+use Prim.Native.Nat.{ℕ, zero, suc, _-_, _≤_}
+use native.Mathlib.Omega.{arith}
+use lib.Dec.{T, ltb, eqb, ltb→lt, lt→ltb, eqb→eq, eqb-refl}
+use lib.ListN.{length, drop, length-drop, length-map}
+use Rattle.records.specs.declared.instant.Tick.{Tick}
+use Rattle.records.specs.declared.instant.Tick.the-variants.{Idle, Ticks, Unseen}
+use Rattle.records.specs.Sheet.{SheetValue}
+use Rattle.records.specs.Types.{All}
+use Rattle.tesl.specs.Lists.{any, filter, distinct, beginnings, flatMap}
+use Rattle.tesl.specs.Run.{Instant, ticksOf, tagsOf, Filled, fillTicks, fillings, runFillings}
+use Rattle.tesl.specs.Fits.{Obligation, unmet, fits}
+use Rattle.tesl.specs.Remainder.{Remainder, remainder, sameRemainder, sameObligation, owes}
+use Rattle.tesl.specs.Answer.{Standing, clear, owed, Answer, exhausted, broken, holding, remainders, tooMany, standing, judged, answer}
+use Rattle.theory.specs.Sets.{apart, SameSet}
+use Rattle.theory.specs.Said.{Along, TickAs, FillsInstant, Fills, Fitting, sameLeft, Leaves, Live, Owing, Exhausts, Said}
+use Rattle.tesl.proofs.Tests.{and-r, or-l, or-r, or-e}
+use Rattle.tesl.proofs.Formula.{fits-holds}
+use Rattle.theory.proofs.Lists.{any-map, any-imp, member-any, any-member}
+use Rattle.theory.proofs.Members.{mem-flatMap, of-flatMap, distinct-map, mem-filter, of-filter, of-distinct, each-of, of-each, no-more, some-of, of-beginnings, a-beginning}
+use Rattle.theory.proofs.Sets.{Equivalence, any-same, distinct-set, distinct-apart, length-le}
+use Rattle.theory.proofs.Respect.{owed-equivalence, remainder-equivalence, owes-same}
+use Rattle.theory.proofs.Seen.{none-owed, clear-when}
+
+-- ---- the fillings of a run are those listed
+
+fill-ticks : (ts : List Tick) (bs : List Bool) → Along TickAs ts bs → List·Memᴰ bs (fillTicks ts)
+fill-ticks [] [] h = List·Memᴰ·head refl
+fill-ticks [] (b ∷ bs) h = absurd h
+fill-ticks (t ∷ ts) [] h = absurd h
+fill-ticks (Idle ∷ ts) (b ∷ bs) h = Memᴰ·cast (ap (λ (c : Bool). c ∷ bs) (h .0)) (Memᴰ·map (λ (r : List Bool). false ∷ r) (fill-ticks ts bs (h .1)))
+fill-ticks (Ticks ∷ ts) (b ∷ bs) h = Memᴰ·cast (ap (λ (c : Bool). c ∷ bs) (h .0)) (Memᴰ·map (λ (r : List Bool). true ∷ r) (fill-ticks ts bs (h .1)))
+fill-ticks (Unseen ∷ ts) (false ∷ bs) h =
+    Memᴰ·append-left (map (λ (r : List Bool). true ∷ r) (fillTicks ts)) (Memᴰ·map (λ (r : List Bool). false ∷ r) (fill-ticks ts bs (h .1)))
+fill-ticks (Unseen ∷ ts) (true ∷ bs) h =
+    Memᴰ·append-right (map (λ (r : List Bool). false ∷ r) (fillTicks ts)) (Memᴰ·map (λ (r : List Bool). true ∷ r) (fill-ticks ts bs (h .1)))
+
+-- the first tick settled as b
+headed : (t : Tick) (b : Bool) → TickAs t b → (ts : List Tick) (bs : List Bool) → ((cs : List Bool) → List·Memᴰ cs (fillTicks ts) → Along TickAs ts cs)
+    → List·Memᴰ bs (map (λ (r : List Bool). b ∷ r) (fillTicks ts)) → Along TickAs (t ∷ ts) bs
+headed t b h ts bs later m = let r = Memᴰ·of-map (λ (r : List Bool). b ∷ r) (fillTicks ts) m in subst (Along TickAs (t ∷ ts)) (r .2) (h, later (r .0) (r .1))
+
+ticks-filled : (ts : List Tick) (bs : List Bool) → List·Memᴰ bs (fillTicks ts) → Along TickAs ts bs
+ticks-filled [] bs m = subst (Along TickAs []) (sym (List·Memᴰ·eq-of-singleton m)) tt
+ticks-filled (Idle ∷ ts) bs m = headed Idle false refl ts bs (ticks-filled ts) m
+ticks-filled (Ticks ∷ ts) bs m = headed Ticks true refl ts bs (ticks-filled ts) m
+ticks-filled (Unseen ∷ ts) bs m =
+    ⊎-elim (headed Unseen false tt ts bs (ticks-filled ts)) (headed Unseen true tt ts bs (ticks-filled ts))
+    (List·Memᴰ·append-cases (map (λ (r : List Bool). false ∷ r) (fillTicks ts)) m)
+
+filledOf : Instant → List Bool → Filled
+filledOf i b = record { ticks = b; tags = tagsOf i }
+
+instant-listed : (i : Instant) (f : Filled) → List·Memᴰ f (fillings i) ↔ FillsInstant i f
+unfolding fillings filledOf
+instant-listed i f = (
+  λ m. let r = Memᴰ·of-map (filledOf i) (fillTicks (ticksOf i)) m in subst (FillsInstant i) (r .2) (record { tags = refl; ticks = ticks-filled (ticksOf i) (r .0) (r .1) }),
+  λ h. Memᴰ·cast (λ j. record { ticks = f .ticks; tags = h .tags j }) (Memᴰ·map (filledOf i) (fill-ticks (ticksOf i) (f .ticks) (h .ticks))),
+)
+
+pub fills-listed : (run : List Instant) (f : List Filled) → List·Memᴰ f (runFillings run) ↔ Fills run f
+unfolding runFillings
+fills-listed run f = (fills run f, listed run f)
+  where
+    after : List Instant → Filled → List (List Filled)
+    after run g = map (λ (r : List Filled). g ∷ r) (runFillings run)
+
+    fills : (run : List Instant) (f : List Filled) → List·Memᴰ f (runFillings run) → Fills run f
+    fills [] f m = subst (Fills []) (sym (List·Memᴰ·eq-of-singleton m)) tt
+    fills (i ∷ run) f m =
+        let r = of-flatMap (after run) (fillings i) m in
+        let q = Memᴰ·of-map (λ (w : List Filled). r .0 ∷ w) (runFillings run) (r .2) in
+        subst (Fills (i ∷ run)) (q .2) (instant-listed i (r .0) .0 (r .1), fills run (q .0) (q .1))
+
+    listed : (run : List Instant) (f : List Filled) → Fills run f → List·Memᴰ f (runFillings run)
+    listed [] [] h = List·Memᴰ·head refl
+    listed [] (g ∷ f) h = absurd h
+    listed (i ∷ run) [] h = absurd h
+    listed (i ∷ run) (g ∷ f) h = mem-flatMap (after run) (instant-listed i g .1 (h .0)) (Memᴰ·map (λ (w : List Filled). g ∷ w) (listed run f (h .1)))
+
+-- ---- the fitting ones, and one for each remainder that they leave
+
+listed : SheetValue → List Instant → List (List Filled)
+listed s run = filter (fits s) (runFillings run)
+
+fitting-listed : (s : SheetValue) (run : List Instant) (f : List Filled) → List·Memᴰ f (listed s run) ↔ Fitting s run f
+unfolding listed
+fitting-listed s run f = (
+  λ m.
+      let r = of-filter (fits s) (runFillings run) m in
+      let h = fits-holds s f .0 (r .1) in
+      record { fills = fills-listed run f .0 (r .0); none-falls = h .0; each-holds = h .1 },
+  λ h. mem-filter (fits s) (runFillings run) (fills-listed run f .1 (h .fills)) (fits-holds s f .1 (h .none-falls, h .each-holds)),
+)
+
+-- a test of what h gives
+under : {A B : Type 0} {same : B → B → Bool} (h : A → B) → Equivalence same → Equivalence (λ x y. same (h x) (h y))
+under h E = record {
+  reflex = λ x. E .reflex (h x);
+  swap = λ x y s. E .swap (h x) (h y) s;
+  chain = λ x y z s t. E .chain (h x) (h y) (h z) s t;
+}
+
+left-equivalence : (s : SheetValue) → Equivalence (sameLeft s)
+left-equivalence s = under (remainder s) remainder-equivalence
+
+kept : SheetValue → List Instant → List (List Filled)
+kept s run = distinct (sameLeft s) (listed s run)
+
+remainders-kept : (s : SheetValue) (run : List Instant) → remainders s run ≡ map (remainder s) (kept s run)
+unfolding remainders listed kept
+remainders-kept s run = distinct-map sameRemainder (remainder s) (listed s run)
+
+kept-fits : (s : SheetValue) (run : List Instant) → All (Fitting s run) (kept s run)
+unfolding kept
+kept-fits s run = each-of (Fitting s run) (kept s run) (λ f m. fitting-listed s run f .0 (of-distinct (sameLeft s) (listed s run) m))
+
+kept-apart : (s : SheetValue) (run : List Instant) → T (apart (sameLeft s) (kept s run))
+unfolding kept
+kept-apart s run = distinct-apart (sameLeft s) (left-equivalence s) (listed s run)
+
+kept-all : (s : SheetValue) (run : List Instant) (f : List Filled) → Fitting s run f → (g : List Filled) × List·Memᴰ g (kept s run) × T (sameLeft s f g)
+unfolding kept
+kept-all s run f h = any-member (sameLeft s f) (kept s run)
+    (subst T (sym (distinct-set (sameLeft s) (left-equivalence s) (listed s run) f)) (member-any (sameLeft s f) (fitting-listed s run f .1 h) (left-equivalence s .reflex f)))
+
+-- ---- numbers are lengths
+
+leaves-number : (s : SheetValue) (run : List Instant) (n : ℕ) → Leaves s run n ↔ (n ≤ length (kept s run))
+leaves-number s run n = (
+  λ l.
+      let k = no-more (sameLeft s) (left-equivalence s) (l .these) (kept s run) (l .no-two) (λ f m. kept-all s run f (of-each (Fitting s run) (l .each-fits) m)) in
+      omega (arith, l .number),
+  λ k.
+      let r = some-of (sameLeft s) (Fitting s run) (kept s run) n k (kept-fits s run) (kept-apart s run) in
+      record { these = r .0; number = r .1; each-fits = r .2; no-two = r .3 },
+)
+
+owing-number : (s : SheetValue) (run : List Instant) (n : ℕ) → Owing s run n ↔ ((f : List Filled) × Fitting s run f × (n ≤ owes (remainder s f)))
+unfolding remainder owes
+owing-number s run n = (
+  λ w.
+      let os = unmet (s .lines) (w .filling) in
+      let k = no-more sameObligation owed-equivalence (w .these) (distinct sameObligation os) (w .no-two)
+          (λ o m. any-member (sameObligation o) (distinct sameObligation os)
+          (subst T (sym (distinct-set sameObligation owed-equivalence os o)) (member-any (sameObligation o) (of-each (λ (p : Obligation). List·Memᴰ p os) (w .each-unmet) m) (owed-equivalence .reflex o)))) in
+      (w .filling, w .fits, omega (arith, w .number)),
+  λ h.
+      let os = unmet (s .lines) (h .0) in
+      let r = some-of sameObligation (λ (o : Obligation). List·Memᴰ o os) (distinct sameObligation os) n (h .2)
+          (each-of (λ (o : Obligation). List·Memᴰ o os) (distinct sameObligation os) (λ o m. of-distinct sameObligation os m)) (distinct-apart sameObligation owed-equivalence os) in
+      record { filling = h .0; fits = h .1; these = r .0; number = r .1; each-unmet = r .2; no-two = r .3 },
+)
+
+-- ---- exhausted
+
+too-many : (s : SheetValue) (run : List Instant) → T (tooMany (remainders s run)) ↔ (Leaves s run 33 ⊎ Owing s run 9)
+unfolding tooMany
+too-many s run = (
+  λ t. or-e (ltb 32 (length rs)) (any nine rs) t
+      (λ u. inl (leaves-number s run 33 .1 (subst (λ (n : ℕ). 33 ≤ n) as-many (ltb→lt 32 (length rs) u))))
+      (λ u.
+          let m = any-member (λ (f : List Filled). nine (remainder s f)) ks (subst T all-owed u) in
+          inr (owing-number s run 9 .1 (m .0, of-each (Fitting s run) (kept-fits s run) (m .1), ltb→lt 8 (owes (remainder s (m .0))) (m .2)))),
+  ⊎-elim
+      (λ (l : Leaves s run 33). or-l (ltb 32 (length rs)) (any nine rs) (lt→ltb 32 (length rs) (subst (λ (n : ℕ). 33 ≤ n) (sym as-many) (leaves-number s run 33 .0 l))))
+      (λ (w : Owing s run 9).
+          let h = owing-number s run 9 .0 w in
+          let g = kept-all s run (h .0) (h .1) in
+          or-r (ltb 32 (length rs)) (any nine rs) (subst T (sym all-owed)
+          (member-any (λ (f : List Filled). nine (remainder s f)) (g .1)
+          (lt→ltb 8 (owes (remainder s (g .0))) (subst (λ (n : ℕ). 9 ≤ n) (owes-same (remainder s (h .0)) (remainder s (g .0)) (g .2)) (h .2)))))),
+)
+  where
+    ks : List (List Filled)
+    ks = kept s run
+
+    rs : List Remainder
+    rs = remainders s run
+
+    nine : Remainder → Bool
+    nine r = ltb 8 (owes r)
+
+    as-many : length rs ≡ length ks
+    as-many = ap length (remainders-kept s run) ∙ length-map ks (remainder s)
+
+    all-owed : any nine rs ≡ any (λ (f : List Filled). nine (remainder s f)) ks
+    all-owed = ap (any nine) (remainders-kept s run) ∙ any-map nine (remainder s) ks
+
+exhausts-exactly : (s : SheetValue) (run : List Instant) → T (any (λ (b : List Instant). tooMany (remainders s b)) (beginnings run)) ↔ Exhausts s run
+exhausts-exactly s run = (
+  λ t. let r = of-beginnings many run t in record { beginning = r .0; rest = r .1; begins = r .2; too-many = too-many s (r .0) .0 (r .3) },
+  λ h. subst (λ (l : List Instant). T (any many (beginnings l))) (sym (h .begins)) (a-beginning many (h .beginning) (h .rest) (too-many s (h .beginning) .1 (h .too-many))),
+)
+  where
+    many : List Instant → Bool
+    many b = tooMany (remainders s b)
+
+-- ---- clear
+
+clear-of : (b : Bool) → T b → cond b clear owed ≡ clear
+clear-of true t = refl
+clear-of false t = absurd t
+
+clear-exactly : (s : SheetValue) (run : List Instant) → (standing (map (remainder s) (kept s run)) ≡ clear) ↔ ((f : List Filled) × Fitting s run f × (unmet (s .lines) f ≡ []))
+unfolding remainder owes
+clear-exactly s run = (
+  λ e.
+      let m = any-member (λ (f : List Filled). none (remainder s f)) ks (subst T (any-map none (remainder s) ks) (clear-when (any none (map (remainder s) ks)) e)) in
+      (m .0, of-each (Fitting s run) (kept-fits s run) (m .1), none-owed (unmet (s .lines) (m .0)) (eqb→eq (owes (remainder s (m .0))) 0 (m .2))),
+  λ h.
+      let g = kept-all s run (h .0) (h .1) in
+      let e : owes (remainder s (g .0)) ≡ 0 = sym (owes-same (remainder s (h .0)) (remainder s (g .0)) (g .2)) ∙ ap (λ (os : List Obligation). length (distinct sameObligation os)) (h .2) in
+      clear-of (any none (map (remainder s) ks)) (subst T (sym (any-map none (remainder s) ks))
+      (member-any (λ (f : List Filled). none (remainder s f)) (g .1) (subst (λ (n : ℕ). T (eqb n 0)) (sym e) (eqb-refl 0)))),
+)
+  where
+    ks : List (List Filled)
+    ks = kept s run
+
+    none : Remainder → Bool
+    none r = eqb (owes r) 0
+
+-- ---- the answer
+
+pub answer-said : (s : SheetValue) (run : List Instant) → Said s run (answer s run)
+unfolding answer judged
+answer-said s run =
+    subst (λ (rs : List Remainder). Said s run (cond over exhausted (judged rs))) (sym (remainders-kept s run))
+    (by-test over (kept s run) (exhausts-exactly s run) (record { leaves = record { these = kept s run; number = refl; each-fits = kept-fits s run; no-two = kept-apart s run }; no-other = kept-all s run }) refl (clear-exactly s run))
+  where
+    over : Bool
+    over = any (λ (b : List Instant). tooMany (remainders s b)) (beginnings run)
+
+    Clear : Standing → Type 0
+    Clear st = (st ≡ clear) ↔ ((f : List Filled) × Fitting s run f × (unmet (s .lines) f ≡ []))
+
+    by-test : (b : Bool) (ks : List (List Filled)) → T b ↔ Exhausts s run → (l : Live s run (length ks)) → l .leaves .these ≡ ks → Clear (standing (map (remainder s) ks))
+        → Said s run (cond b exhausted (judged (map (remainder s) ks)))
+    by-test true ks x l e c = record {
+      exhausts = (λ q. x .0 tt, λ h. refl);
+      breaks = λ n. absurd (n refl);
+      holds = λ live st q. let z : _≡_ {A = ℕ} 0 1 = cc in absurd (omega arith);
+    }
+    by-test false [] x l e c = record {
+      exhausts = (λ q. let z : _≡_ {A = ℕ} 0 1 = cc in absurd (omega arith), λ h. absurd (x .1 h));
+      breaks = λ n. (λ q f h. let g = l .no-other f h in List·Memᴰ·not-nil (subst (List·Memᴰ (g .0)) e (g .1)), λ no. refl);
+      holds = λ live st q. let z : _≡_ {A = ℕ} 0 1 = cc in absurd (omega arith);
+    }
+    by-test false (k ∷ ks) x l e c = record {
+      exhausts = (λ q. let z : _≡_ {A = ℕ} 0 1 = cc in absurd (omega arith), λ h. absurd (x .1 h));
+      breaks = λ n. (λ q. let z : _≡_ {A = ℕ} 0 1 = cc in absurd (omega arith), λ no. absurd (no k (subst (All (Fitting s run)) e (l .leaves .each-fits) .0)));
+      holds = λ live st q.
+          let a : length (k ∷ ks) ≡ live = sym (ap suc (length-map ks (remainder s))) ∙ cc in
+          let b : standing (map (remainder s) (k ∷ ks)) ≡ st = cc in
+          (subst (Live s run) a l, subst Clear b c);
+    }

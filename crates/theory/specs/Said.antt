@@ -1,0 +1,94 @@
+-- What is answered for a run, in document 01's words and with quantifiers: what fills a run, which fillings fit, what they leave, and the first answer that applies.
+-- Nothing here is taken from the executable definitions of a run's fillings and of `answer`. Assumes nothing.
+use mathlib.Core.Bool.{Bool, true, false}
+use mathlib.Core.List.{List, [], _∷_, _++_, List·Memᴰ}
+use mathlib.Core.Logic.{_↔_, _≢_, _⊎_}
+use mathlib.Core.Path.{_≡_}
+use Prim.Native.Nat.{ℕ}
+use lib.Dec.{T}
+use lib.ListN.{length}
+use Rattle.records.specs.declared.instant.Tick.{Tick}
+use Rattle.records.specs.declared.instant.Tick.the-variants.{Idle, Ticks, Unseen}
+use Rattle.records.specs.Sheet.{SheetValue}
+use Rattle.records.specs.Types.{All}
+use Rattle.tesl.specs.Run.{Instant, ticksOf, tagsOf, Filled}
+use Rattle.tesl.specs.Fits.{Obligation, unmet}
+use Rattle.tesl.specs.Remainder.{remainder, sameObligation, sameRemainder}
+use Rattle.tesl.specs.Answer.{Standing, clear, Answer, exhausted, broken, holding}
+use Rattle.tesl.specs.Formula.{NoneFalls, EachHolds}
+use Rattle.theory.specs.Sets.{apart}
+
+-- ---- a filling gives each unseen tick of a run the value idle or tick
+
+module _ {A B : Type 0} where
+  -- two lists are as long, and R is of the two in each place
+  abbrev pub Along : (A → B → Type 0) → List A → List B → Type 0
+  Along R [] [] = Unit {0}
+  Along R [] (y ∷ ys) = ⊥
+  Along R (x ∷ xs) [] = ⊥
+  Along R (x ∷ xs) (y ∷ ys) = R x y × Along R xs ys
+
+-- a seen tick is as seen; an unseen one is either
+abbrev pub TickAs : Tick → Bool → Type 0
+TickAs Idle b = b ≡ false
+TickAs Ticks b = b ≡ true
+TickAs Unseen b = Unit {0}
+
+-- the instant's tags, and a tick for each of its clocks
+pub record FillsInstant (i : Instant) (f : Filled) : Type 0 where
+  pub tags : f .tags ≡ tagsOf i
+  pub ticks : Along TickAs (ticksOf i) (f .ticks)
+
+-- instant by instant
+abbrev pub Fills : List Instant → List Filled → Type 0
+Fills run f = Along FillsInstant run f
+
+-- a filling that fits: no tag falls and each line holds
+pub record Fitting (s : SheetValue) (run : List Instant) (f : List Filled) : Type 0 where
+  pub fills : Fills run f
+  pub none-falls : NoneFalls (s .clocks) f
+  pub each-holds : EachHolds (s .lines) f
+
+-- ---- remainders
+
+-- two filled runs leave the same remainder: obligations as a set, leads and stopped clocks
+abbrev pub sameLeft : SheetValue → List Filled → List Filled → Bool
+sameLeft s f g = sameRemainder (remainder s f) (remainder s g)
+
+-- n distinct remainders: n fitting fillings, no two of which leave the same
+pub record Leaves (s : SheetValue) (run : List Instant) (n : ℕ) : Type 0 where
+  pub these : List (List Filled)
+  pub number : length these ≡ n
+  pub each-fits : All (Fitting s run) these
+  pub no-two : T (apart (sameLeft s) these)
+
+-- n is the number of distinct remainders: each fitting filling leaves the same as one of n such
+pub record Live (s : SheetValue) (run : List Instant) (n : ℕ) : Type 0 where
+  pub leaves : Leaves s run n
+  pub no-other : (f : List Filled) → Fitting s run f → (g : List Filled) × List·Memᴰ g (leaves .these) × T (sameLeft s f g)
+
+-- one remainder with n obligations: a fitting filling and n of its unmet obligations, no two the same
+pub record Owing (s : SheetValue) (run : List Instant) (n : ℕ) : Type 0 where
+  pub filling : List Filled
+  pub fits : Fitting s run filling
+  pub these : List Obligation
+  pub number : length these ≡ n
+  pub each-unmet : All (λ (o : Obligation). List·Memᴰ o (unmet (s .lines) filling)) these
+  pub no-two : T (apart sameObligation these)
+
+-- ---- the answer, the first that applies
+
+-- some beginning of the run, the whole included, has more than 32 distinct remainders, or one with more than 8 obligations
+pub record Exhausts (s : SheetValue) (run : List Instant) : Type 0 where
+  pub beginning : List Instant
+  pub rest : List Instant
+  pub begins : run ≡ beginning ++ rest
+  pub too-many : Leaves s beginning 33 ⊎ Owing s beginning 9
+
+pub record Said (s : SheetValue) (run : List Instant) (a : Answer) : Type 0 where
+  pub exhausts : (a ≡ exhausted) ↔ Exhausts s run
+  -- else broken exactly when no filling fits
+  pub breaks : a ≢ exhausted → (a ≡ broken) ↔ ((f : List Filled) → Fitting s run f → ⊥)
+  -- else holding with the number of distinct remainders, clear exactly when one of them has no obligation
+  pub holds : (live : ℕ) (standing : Standing) → a ≡ holding live standing
+      → Live s run live × ((standing ≡ clear) ↔ ((f : List Filled) × Fitting s run f × (unmet (s .lines) f ≡ [])))
