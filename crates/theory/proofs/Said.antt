@@ -4,6 +4,7 @@ use mathlib.Core.List.{List, [], _∷_, _++_, map, List·Memᴰ, List·Memᴰ·h
 use mathlib.Core.Logic.{_↔_, _≢_, _⊎_, inl, inr, ⊎-elim}
 use mathlib.Core.Path.{_≡_, refl, sym, ap, _∙_, subst}
 use Prim.Native.Nat.{ℕ, zero, suc, _-_, _≤_}
+use native.Mathlib.Nat.{le-antisymm}
 use native.Mathlib.Omega.{arith}
 use lib.Dec.{T, ltb, eqb, ltb→lt, lt→ltb, eqb→eq, eqb-refl}
 use lib.ListN.{length, drop, length-drop, length-map}
@@ -259,3 +260,35 @@ answer-said s run =
           let b : standing (map (remainder s) (k ∷ ks)) ≡ st = cc in
           (subst (Live s run) a l, subst Clear b c);
     }
+
+-- ---- and nothing else is said of the run
+
+live-one : (s : SheetValue) (run : List Instant) (n m : ℕ) → Live s run n → Live s run m → n ≡ m
+live-one s run n m h k = le-antisymm (at-most n m h k) (at-most m n k h)
+  where
+    at-most : (n m : ℕ) → Live s run n → Live s run m → n ≤ m
+    at-most n m h k =
+        let l = no-more (sameLeft s) (left-equivalence s) (h .leaves .these) (k .leaves .these) (h .leaves .no-two) (λ f u. k .no-other f (of-each (Fitting s run) (h .leaves .each-fits) u)) in
+        omega (arith, h .leaves .number, k .leaves .number)
+
+standing-one : {X : Type 0} (a b : Standing) → (a ≡ clear) ↔ X → (b ≡ clear) ↔ X → a ≡ b
+standing-one clear b h k = sym (k .1 (h .0 refl))
+standing-one owed clear h k = h .1 (k .0 refl)
+standing-one owed owed h k = refl
+
+said-once : (s : SheetValue) (run : List Instant) (a b : Answer) → Said s run a → Said s run b → a ≡ b
+said-once s run exhausted b h k = sym (k .exhausts .1 (h .exhausts .0 refl))
+said-once s run broken exhausted h k = h .exhausts .1 (k .exhausts .0 refl)
+said-once s run broken broken h k = refl
+said-once s run broken (holding m u) h k =
+    sym (k .breaks (λ q. let z : _≡_ {A = ℕ} 0 1 = cc in omega arith) .1 (h .breaks (λ q. let z : _≡_ {A = ℕ} 0 1 = cc in omega arith) .0 refl))
+said-once s run (holding n t) exhausted h k = h .exhausts .1 (k .exhausts .0 refl)
+said-once s run (holding n t) broken h k =
+    h .breaks (λ q. let z : _≡_ {A = ℕ} 0 1 = cc in omega arith) .1 (k .breaks (λ q. let z : _≡_ {A = ℕ} 0 1 = cc in omega arith) .0 refl)
+said-once s run (holding n t) (holding m u) h k =
+    let l = live-one s run n m (h .holds n t refl .0) (k .holds m u refl .0) in
+    let e = standing-one t u (h .holds n t refl .1) (k .holds m u refl .1) in
+    λ i. holding (l i) (e i)
+
+pub said-is : (s : SheetValue) (run : List Instant) (a : Answer) → Said s run a → a ≡ answer s run
+said-is s run a h = said-once s run a (answer s run) h (answer-said s run)
