@@ -1,15 +1,18 @@
--- Demand 3 as one statement about the list of calls: a monitor of any kind whose single calls follow the plain machine answers what the machine answers, opening and every call, and its last monitor follows the machine's list. Assumes nothing.
-use mathlib.Core.List.{List, [], _∷_}
+-- Demand 3 as one statement about the list of calls: a monitor of any kind whose single calls follow the plain machine answers what the machine answers, opening and every call, and its last monitor follows the machine's list.
+-- And what holds of the machine's answer for every run holds of each answer of its session. Assumes nothing.
+use mathlib.Core.List.{List, [], _∷_, _++_}
 use mathlib.Core.Option.{Option, none, some}
-use mathlib.Core.Path.{_≡_, refl, subst}
+use mathlib.Core.Path.{_≡_, refl, sym, ap, _∙_, subst}
 use Prim.Native.Nat.{ℕ}
 use native.Mathlib.Omega.{arith}
 use Rattle.records.specs.Outcome.{Outcome, taken, refused}
-use Rattle.records.specs.Sheet.{SheetValue}
+use Rattle.records.specs.Sheet.{SheetValue, readSheet}
+use Rattle.records.proofs.Lists.{refused-taken}
 use Rattle.tesl.specs.Run.{Instant}
-use Rattle.tesl.specs.Answer.{Answer}
-use Rattle.tesl.specs.Machine.{accepts, listAfter, machine, held, Session, session}
-use Rattle.theory.specs.Session.{Opened, Calls, no-call, call, Ran, not-opened, opened, Opening, refuses, opens, FollowsMachine, SameSession}
+use Rattle.tesl.specs.Answer.{Answer, answer}
+use Rattle.tesl.specs.Machine as tesl
+use Rattle.tesl.specs.Machine.{accepts, listAfter, reply, machine, held, Session, session}
+use Rattle.theory.specs.Session.{Opened, Calls, no-call, call, Ran, not-opened, opened, Opening, refuses, opens, FollowsMachine, SameSession, lastAnswer, ReplyTo, EachReply, Answered, EachAnswer}
 
 module _ {M : Type 0} (Opens : List ℕ → Outcome (Opened M) → Type 0) (Observes : M → List ℕ → Outcome Answer → M → Type 0)
     (Follows : SheetValue → List Instant → M → Type 0) (laws : FollowsMachine Opens Observes Follows) where
@@ -40,3 +43,42 @@ module _ {M : Type 0} (Opens : List ℕ → Outcome (Opened M) → Type 0) (Obse
                 let q : s ≡ t = cc in
                 (last, refl, subst (λ (v : SheetValue). Follows v (held v [] calls) last) q (r .1));
           }
+
+-- the last answer of a list of calls is for the instants then held
+last-held : (s : SheetValue) (run : List Instant) (calls : List (List ℕ)) → lastAnswer (answer s run) (machine s run calls) ≡ answer s (held s run calls)
+unfolding machine held
+last-held s run [] = refl
+last-held s run (bytes ∷ calls) = by-outcome (accepts s run bytes) (last-held s (listAfter run (accepts s run bytes)) calls)
+  where
+    by-outcome : (o : Outcome Instant) → lastAnswer (answer s (listAfter run o)) (machine s (listAfter run o) calls) ≡ answer s (held s (listAfter run o) calls)
+        → lastAnswer (answer s run) (reply s run o ∷ machine s (listAfter run o) calls) ≡ answer s (held s (listAfter run o) calls)
+    by-outcome (refused n) h = h
+    by-outcome (taken i) h = h
+
+module _ (P : SheetValue → List Instant → Answer → Type 0) (holds : (s : SheetValue) (run : List Instant) → P s run (answer s run)) where
+  each-reply : (s : SheetValue) (run : List Instant) (calls : List (List ℕ)) → EachReply P s run calls (machine s run calls)
+  unfolding machine
+  each-reply s run [] = tt
+  each-reply s run (bytes ∷ calls) = (one (accepts s run bytes), each-reply s (listAfter run (accepts s run bytes)) calls)
+    where
+      one : (o : Outcome Instant) → ReplyTo P s run o (reply s run o)
+      one (refused n) = refl
+      one (taken i) = (answer s (run ++ (i ∷ [])), refl, holds s (run ++ (i ∷ [])))
+
+  pub each-answer : (sheet : List ℕ) (calls : List (List ℕ)) → EachAnswer P sheet calls (session sheet calls)
+  unfolding session
+  each-answer sheet calls = by-read (readSheet sheet) refl
+    where
+      by-read : (o : Outcome SheetValue) → readSheet sheet ≡ o → EachAnswer P sheet calls (tesl.opened calls o)
+      by-read (refused n) e = record { refuses = λ m f. let q : n ≡ m = cc in ap (λ (k : ℕ). record { opening = refused k; replies = [] }) q; reads = λ s f. refused-taken (sym e ∙ f) }
+      by-read (taken s) e = record {
+        refuses = λ m f. refused-taken (sym f ∙ e);
+        reads = λ t f.
+            let q : s ≡ t = cc in
+            subst (λ (v : SheetValue). Answered P v calls (record { opening = taken (answer s []); replies = machine s [] calls })) q (record {
+              first = answer s [];
+              opening = (refl, holds s []);
+              replies = each-reply s [] calls;
+              last = subst (P s (held s [] calls)) (sym (last-held s [] calls)) (holds s (held s [] calls));
+            });
+      }

@@ -2,7 +2,7 @@
 -- And in a fitting run no precedes line has B ahead of A. Assumes nothing.
 use mathlib.Core.Bool.{Bool, true, false, cond, _||_}
 use mathlib.Core.List.{List, [], _∷_, _++_, map}
-use mathlib.Core.Logic.{_↔_}
+use mathlib.Core.Logic.{_↔_, _≢_}
 use mathlib.Core.Path.{_≡_, refl, sym, ap, _∙_}
 use Prim.Native.Nat.{ℕ, zero, suc, _≤_}
 use native.Mathlib.Nat.{le-refl}
@@ -22,7 +22,7 @@ use Rattle.tesl.specs.Fits.{ticksIn, Obligation, unmet, fits}
 use Rattle.tesl.specs.Remainder.{remainder, sameRemainder, sameObligation, owes}
 use Rattle.tesl.specs.Answer.{Standing, clear, owed, exhausted, broken, holding, remainders, tooMany, standing, judged, answer}
 use Rattle.tesl.specs.Formula.{ticksBelow, Holds, NoneFalls, EachHolds}
-use Rattle.theory.specs.Seen.{isSeen, Seen, ticked, seenRun}
+use Rattle.theory.specs.Seen.{isSeen, Seen, ticked, seenRun, SeenJudged}
 use Rattle.tesl.proofs.Tests.{and-l, and-r, or-e, T→≡}
 use Rattle.tesl.proofs.FormulaOwed.{ticks-below}
 use Rattle.tesl.proofs.Formula.{fits-holds}
@@ -75,7 +75,7 @@ one-tick-list (Idle ∷ ts) t = ap (map (λ (r : List Bool). false ∷ r)) (one-
 one-tick-list (Ticks ∷ ts) t = ap (map (λ (r : List Bool). true ∷ r)) (one-tick-list ts t)
 one-tick-list (Unseen ∷ ts) t = absurd t
 
-one-filling : (run : List Instant) → Seen run → runFillings run ≡ seenRun run ∷ []
+pub one-filling : (run : List Instant) → Seen run → runFillings run ≡ seenRun run ∷ []
 unfolding runFillings fillings
 one-filling [] t = refl
 one-filling (i ∷ run) t =
@@ -127,21 +127,11 @@ fails : (b : Bool) → (T b → ⊥) → b ≡ false
 fails true n = absurd (n tt)
 fails false n = refl
 
--- what the machine answers for a run whose ticks are all seen: f is its one filling
-pub record Judged (s : SheetValue) (run : List Instant) (f : List Filled) : Type 0 where
-  pub the-filling : runFillings run ≡ f ∷ []
-  pub breaks : (answer s run ≡ broken) ↔ (NoneFalls (s .clocks) f × EachHolds (s .lines) f → ⊥)
-  pub else-holds : NoneFalls (s .clocks) f × EachHolds (s .lines) f → (st : Standing) × (answer s run ≡ holding 1 st) × ((st ≡ clear) ↔ (unmet (s .lines) f ≡ []))
-
-pub seen-judged : (s : SheetValue) (run : List Instant) → Seen run → (answer s run ≡ exhausted → ⊥) → Judged s run (seenRun run)
+pub seen-judged : (s : SheetValue) (run : List Instant) → SeenJudged s run (answer s run)
 unfolding judged
 seen-judged s run t n = record {
-  the-filling = one-filling run t;
-  breaks = (
-    λ e h. let w = holds h in let z : _≡_ {A = ℕ} 0 1 = cc (w .1) in omega arith,
-    λ no. said ∙ ap (λ (b : Bool). judged (cond b (remainder s f ∷ []) [])) (fails (fits s f) (λ u. no ((fits-holds s f) .0 u))),
-  );
-  else-holds = holds;
+  breaks = (λ e h. let w = holds h in let z : _≡_ {A = ℕ} 0 1 = cc (w .1) in omega arith, breaks);
+  else-holds = λ k. by-test (fits s f) (λ u. u) (λ u. u) k;
 }
   where
     f : List Filled
@@ -150,9 +140,19 @@ seen-judged s run t n = record {
     said : answer s run ≡ judged (cond (fits s f) (remainder s f ∷ []) [])
     said = not-exhausted s run n ∙ ap judged (one-remainder s run f (one-filling run t))
 
-    holds : NoneFalls (s .clocks) f × EachHolds (s .lines) f → (st : Standing) × (answer s run ≡ holding 1 st) × ((st ≡ clear) ↔ (unmet (s .lines) f ≡ []))
+    Holding : Type 0
+    Holding = (standing : Standing) × (answer s run ≡ holding 1 standing) × ((standing ≡ clear) ↔ (unmet (s .lines) f ≡ []))
+
+    holds : NoneFalls (s .clocks) f × EachHolds (s .lines) f → Holding
     holds h = (
       standing (remainder s f ∷ []),
       said ∙ ap (λ (b : Bool). judged (cond b (remainder s f ∷ []) [])) (T→≡ (fits s f) ((fits-holds s f) .1 h)),
       clear-exactly s f,
     )
+
+    breaks : (NoneFalls (s .clocks) f × EachHolds (s .lines) f → ⊥) → answer s run ≡ broken
+    breaks none = said ∙ ap (λ (b : Bool). judged (cond b (remainder s f ∷ []) [])) (fails (fits s f) (λ u. none ((fits-holds s f) .0 u)))
+
+    by-test : (b : Bool) → (T b → T (fits s f)) → (T (fits s f) → T b) → answer s run ≢ broken → Holding
+    by-test true y _ k = holds ((fits-holds s f) .0 (y tt))
+    by-test false _ y k = absurd (k (breaks (λ h. y ((fits-holds s f) .1 h))))

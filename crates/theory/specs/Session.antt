@@ -1,5 +1,5 @@
--- The run of a monitor of any kind: it is opened with a sheet's bytes and called with a list of instants' bytes; and what it means that its single calls follow the plain machine. Assumes nothing.
-use mathlib.Core.List.{List, [], _∷_}
+-- The run of a monitor of any kind: it is opened with a sheet's bytes and called with a list of instants' bytes; what it means that its single calls follow the plain machine; and that each answer has a property. Assumes nothing.
+use mathlib.Core.List.{List, [], _∷_, _++_}
 use mathlib.Core.Option.{Option, none, some}
 use mathlib.Core.Path.{_≡_}
 use Prim.Native.Nat.{ℕ}
@@ -53,3 +53,37 @@ pub record FollowsMachine {M : Type 0} (Opens : List ℕ → Outcome (Opened M) 
   pub opening : (sheet : List ℕ) (outcome : Outcome (Opened M)) → Opens sheet outcome → Opening Follows sheet outcome
   pub observing : (s : SheetValue) (run : List Instant) (m m′ : M) (bytes : List ℕ) (given : Outcome Answer)
       → Follows s run m → Observes m bytes given m′ → Observing Follows s run bytes given m′
+
+-- ---- each answer; `P s run a` is asked of the answer a for the sheet s and the accepted instants run
+
+-- the answer of the last accepted call, or a where there is none
+abbrev pub lastAnswer : Answer → List (Outcome Answer) → Answer
+lastAnswer a [] = a
+lastAnswer a (taken b ∷ replies) = lastAnswer b replies
+lastAnswer a (refused n ∷ replies) = lastAnswer a replies
+
+module _ (P : SheetValue → List Instant → Answer → Type 0) where
+  -- the reply to a call, by what its bytes are taken for: the number of the refusal, or an answer for the run with the instant at its end
+  abbrev pub ReplyTo : SheetValue → List Instant → Outcome Instant → Outcome Answer → Type 0
+  ReplyTo s run (refused n) given = given ≡ refused n
+  ReplyTo s run (taken i) given = (a : Answer) × (given ≡ taken a) × P s (run ++ (i ∷ [])) a
+
+  -- one reply to each call; the run grows by each accepted instant, and a refused call leaves it alone
+  abbrev pub EachReply : SheetValue → List Instant → List (List ℕ) → List (Outcome Answer) → Type 0
+  EachReply s run [] [] = Unit {0}
+  EachReply s run [] (given ∷ replies) = ⊥
+  EachReply s run (bytes ∷ calls) [] = ⊥
+  EachReply s run (bytes ∷ calls) (given ∷ replies) =
+      ReplyTo s run (accepts s run bytes) given × EachReply s (listAfter run (accepts s run bytes)) calls replies
+
+  -- the sheet is read as s: opening answers for no instant, each call for the instants accepted so far, and the last answer is for all of them
+  pub record Answered (s : SheetValue) (calls : List (List ℕ)) (answered : Session) : Type 0 where
+    pub first : Answer
+    pub opening : (answered .opening ≡ taken first) × P s [] first
+    pub replies : EachReply s [] calls (answered .replies)
+    pub last : P s (held s [] calls) (lastAnswer first (answered .replies))
+
+  -- the sheet is refused: its number, and nothing is called
+  pub record EachAnswer (sheet : List ℕ) (calls : List (List ℕ)) (answered : Session) : Type 0 where
+    pub refuses : (n : ℕ) → readSheet sheet ≡ refused n → answered ≡ record { opening = refused n; replies = [] }
+    pub reads : (s : SheetValue) → readSheet sheet ≡ taken s → Answered s calls answered
