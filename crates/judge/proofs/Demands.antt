@@ -1,26 +1,25 @@
 -- Demands 2 and 3: `open` and `observe` meet their promises, so their calls follow the plain machine, call by call, and so does every list of calls. Assumes nothing.
-use mathlib.Core.Bool.{Bool}
-use mathlib.Core.List.{List, [], _∷_, _++_}
+use mathlib.Core.List.{List}
+use mathlib.Core.Option.{Option}
 use mathlib.Core.Path.{_≡_, refl, sym, ap, _∙_, subst}
 use Prim.Native.Nat.{ℕ}
 use Rattle.records.specs.Outcome.{Outcome, taken, refused}
 use Rattle.records.specs.Sheet.{SheetValue, readSheet}
-use Rattle.records.proofs.Lists.{refused-taken}
-use Rattle.tesl.specs.Lists.{all}
-use Rattle.tesl.specs.Run.{Instant, ticksOf}
+use Rattle.tesl.specs.Run.{Instant}
 use Rattle.tesl.specs.Answer.{Answer, answer}
-use Rattle.tesl.specs.Machine.{accepts, listAfter, reply, machine, held, session}
-use Rattle.theory.specs.Session.{Opening, refuses, opens, Observing, FollowsMachine}
+use Rattle.tesl.specs.Machine.{accepts, Session}
+use Rattle.theory.specs.Session.{Ran, Opening, refuses, opens, Observing, FollowsMachine, EachAnswer}
 use Rattle.theory.specs.Session as machine
-use Rattle.theory.specs.Seen.{isSeen, Seen}
-use Rattle.tesl.proofs.Tests.{and-l, and-r, and-i}
-use Rattle.theory.proofs.Machine.{same-session}
+use Rattle.theory.specs.Said.{Said}
+use Rattle.theory.specs.Seen.{SeenJudged}
+use Rattle.theory.proofs.Machine.{same-session, each-answer}
+use Rattle.theory.proofs.Said.{answer-said}
 use Rattle.theory.proofs.Seen.{seen-judged}
 use Rattle.judge.specs.declared.monitor.Monitor.{Monitor}
 use Rattle.judge.specs.declared.monitor.Given.{Given}
 use Rattle.judge.specs.Answer.{replyOf}
-use Rattle.judge.specs.Promises.{Follows, Opened, observes}
-use Rattle.judge.specs.Demands.{openedOf, Opens, Observes, Demand3, JudgedAs, EachJudged, Demand2}
+use Rattle.judge.specs.Promises.{Follows, observes}
+use Rattle.judge.specs.Demands.{openedOf, Opens, Observes, Demand3, Demand3Said, Demand2}
 
 -- ---- opening
 
@@ -59,38 +58,15 @@ laws = record { opening = opening-follows; observing = observing-follows }
 pub demand3 : Demand3
 demand3 sheet calls answered last ran = same-session Opens Observes Follows laws ran
 
--- ---- demand 2
+-- ---- each answer is the machine's, so what holds of the machine's answers holds of it
 
-seen-before : (run : List Instant) (i : Instant) → Seen (run ++ (i ∷ [])) → Seen run
-seen-before [] i t = tt
-seen-before (j ∷ run) i t =
-    let p : Instant → Bool = λ k. all isSeen (ticksOf k) in
-    and-i (p j) (all p run) (and-l (p j) (all p (run ++ (i ∷ []))) t) (seen-before run i (and-r (p j) (all p (run ++ (i ∷ []))) t))
+every-answer : (P : SheetValue → List Instant → Answer → Type 0) → ((s : SheetValue) (run : List Instant) → P s run (answer s run))
+    → {sheet : List ℕ} {calls : List (List ℕ)} {answered : Session} {last : Option Monitor} → Ran Opens Observes sheet calls answered last → EachAnswer P sheet calls answered
+every-answer P holds {sheet} {calls} {answered} {last} ran =
+    subst (EachAnswer P sheet calls) (sym (demand3 sheet calls answered last ran .same)) (each-answer P holds sheet calls)
 
-seen-after : (run : List Instant) (o : Outcome Instant) → Seen (listAfter run o) → Seen run
-seen-after run (refused n) t = t
-seen-after run (taken i) t = seen-before run i t
-
-seen-held : (s : SheetValue) (run : List Instant) (calls : List (List ℕ)) → Seen (held s run calls) → Seen run
-unfolding held
-seen-held s run [] t = t
-seen-held s run (bytes ∷ calls) t = seen-after run (accepts s run bytes) (seen-held s (listAfter run (accepts s run bytes)) calls t)
-
-reply-judged : (s : SheetValue) (run : List Instant) (o : Outcome Instant) → Seen (listAfter run o) → JudgedAs s (listAfter run o) (reply s run o)
-reply-judged s run (refused n) t a e k = refused-taken e
-reply-judged s run (taken i) t a e n =
-    let q : answer s (run ++ (i ∷ [])) ≡ a = cc in
-    rw (← q) (seen-judged s (run ++ (i ∷ [])) t (λ x. n (sym q ∙ x)) .breaks)
-
-machine-judged : (s : SheetValue) (run : List Instant) (calls : List (List ℕ)) → Seen (held s run calls) → EachJudged s run calls (machine s run calls)
-unfolding machine held
-machine-judged s run [] t = tt
-machine-judged s run (bytes ∷ calls) t =
-    let after = listAfter run (accepts s run bytes) in
-    (reply-judged s run (accepts s run bytes) (seen-held s after calls t), machine-judged s after calls t)
+pub demand3-said : Demand3Said
+demand3-said sheet calls answered last ran = every-answer Said answer-said ran
 
 pub demand2 : Demand2
-unfolding session
-demand2 sheet calls answered last ran s e t =
-    let r = demand3 sheet calls answered last ran in
-    rw (r .same, e) (machine-judged s [] calls t)
+demand2 sheet calls answered last ran = every-answer SeenJudged seen-judged ran

@@ -1,18 +1,15 @@
--- Demand 3, one statement about the list of calls, and demand 2 for the program: each hypothesis is what a call of `open` or `observe` ensures.
-use mathlib.Core.List.{List, [], _∷_}
-use mathlib.Core.Logic.{_↔_}
+-- Demand 3, one statement about the list of calls, as the machine has it and in document 01's words; and demand 2 for the program. Each hypothesis is what a call of `open` or `observe` ensures.
+use mathlib.Core.List.{List}
 use mathlib.Core.Option.{Option}
 use mathlib.Core.Path.{_≡_}
 use Prim.Native.Nat.{ℕ}
 use Rattle.records.specs.Outcome.{Outcome, taken, refused}
-use Rattle.records.specs.Sheet.{SheetValue, readSheet}
-use Rattle.tesl.specs.Run.{Instant}
-use Rattle.tesl.specs.Answer.{Answer, exhausted, broken}
-use Rattle.tesl.specs.Machine.{accepts, listAfter, held, Session}
-use Rattle.tesl.specs.Formula.{NoneFalls, EachHolds}
-use Rattle.theory.specs.Session.{Ran, SameSession}
+use Rattle.tesl.specs.Answer.{Answer}
+use Rattle.tesl.specs.Machine.{Session}
+use Rattle.theory.specs.Session.{Ran, SameSession, EachAnswer}
 use Rattle.theory.specs.Session as machine
-use Rattle.theory.specs.Seen.{Seen, seenRun}
+use Rattle.theory.specs.Said.{Said}
+use Rattle.theory.specs.Seen.{SeenJudged}
 use Rattle.judge.specs.declared.monitor.Monitor.{Monitor}
 use Rattle.judge.specs.declared.monitor.Given.{Given}
 use Rattle.judge.specs.Answer.{replyOf}
@@ -37,23 +34,12 @@ abbrev pub Demand3 : Type 0
 Demand3 = (sheet : List ℕ) (calls : List (List ℕ)) (answered : Session) (last : Option Monitor)
     → Ran Opens Observes sheet calls answered last → SameSession Follows sheet calls answered last
 
--- ---- demand 2
+-- ---- demand 3 in document 01's words: each answer is what `Said` says of the accepted instants so far, and each refusal has its number and leaves them alone
+abbrev pub Demand3Said : Type 0
+Demand3Said = (sheet : List ℕ) (calls : List (List ℕ)) (answered : Session) (last : Option Monitor)
+    → Ran Opens Observes sheet calls answered last → EachAnswer Said sheet calls answered
 
--- an answer short of exhausted is broken exactly when a tag falls or a line does not hold in the run
-abbrev pub JudgedAs : SheetValue → List Instant → Outcome Answer → Type 0
-JudgedAs s run given = (a : Answer) → given ≡ taken a → (a ≡ exhausted → ⊥)
-    → (a ≡ broken) ↔ (NoneFalls (s .clocks) (seenRun run) × EachHolds (s .lines) (seenRun run) → ⊥)
-
--- each reply, the run being the list of accepted instants after its call
-abbrev pub EachJudged : SheetValue → List Instant → List (List ℕ) → List (Outcome Answer) → Type 0
-EachJudged s run calls [] = Unit {0}
-EachJudged s run [] (given ∷ replies) = ⊥
-EachJudged s run (bytes ∷ calls) (given ∷ replies) =
-    let after = listAfter run (accepts s run bytes) in
-    JudgedAs s after given × EachJudged s after calls replies
-
--- for every list of calls whose accepted instants have no unseen tick
+-- ---- demand 2: each answer short of exhausted, opening's too, whose accepted instants so far have no unseen tick, is as TESL judges them
 abbrev pub Demand2 : Type 0
 Demand2 = (sheet : List ℕ) (calls : List (List ℕ)) (answered : Session) (last : Option Monitor)
-    → Ran Opens Observes sheet calls answered last → (s : SheetValue) → readSheet sheet ≡ taken s → Seen (held s [] calls)
-    → EachJudged s [] calls (answered .replies)
+    → Ran Opens Observes sheet calls answered last → EachAnswer SeenJudged sheet calls answered

@@ -1,23 +1,38 @@
 -- What the contracts of the monitor's functions cite; what `open` and `observe` promise; demands 2 and 3.
-pub mod Advanced
+
+-- ---- to be believed: what the public functions promise, and the demands. Read in this order:
+-- the code's structs as tesl's values
 pub mod View
+-- an answer and a reply as document 01's
+pub mod Answer
+-- the limits of a monitor: `within`, the promise of `within_limits`
+pub mod Limits
+-- what a monitor keeps: `sheetBy`, `heldBy`, `lastBy`, `refusal`; the records after them are inner promises
+pub mod Monitor
+-- the promises of `open` and `observe`
+pub mod Promises
+-- the promise of `judge_log`: `judgedOf`; `Concludes` is an inner promise
+pub mod Log
+-- demands 2 and 3
+pub mod Demands
+-- ---- for inner contracts and proofs only: nothing public cites these
+-- what a line asks of an instant and makes of what a remainder carries; and all lines
 pub mod Questions
 pub mod Lines
-pub mod Carried
-pub mod Owed
-pub mod Once
-pub mod Begun
-pub mod Work
+-- the same by what depends on a filling alone
 pub mod Rules
+pub mod Carried
+-- obligations: those that a filling begins, each once, and what becomes of those owed
+pub mod Begun
+pub mod Once
+pub mod Owed
+-- the work on an instant: one remainder, all of them, and filling by filling
+pub mod Advanced
+pub mod Work
 pub mod Fillings
+-- what is kept in arrays: remainders in rows, the ticks asked about, a sheet's lines, the remainder of no instant, a monitor
 pub mod Rows
 pub mod Heed
 pub mod Plan
-pub mod Answer
-pub mod Limits
 pub mod Start
-pub mod Monitor
-pub mod Promises
 pub mod Kept
-pub mod Log
-pub mod Demands

@@ -19,6 +19,7 @@ pub record Remainder : Type 0 where
   -- for each clock, whether some kills line has stopped it
   pub stopped : List Bool
 
+-- in a fitting run B is never ahead of A, so that this subtraction cuts nothing: `never-ahead`, theory's proofs/Seen.antt
 abbrev pub leadOf : List Filled → Line → ℕ
 leadOf run (Weakly A B) = ticksIn A run - ticksIn B run
 leadOf run (Strictly A B) = ticksIn A run - ticksIn B run

@@ -84,8 +84,8 @@ module _ {A : Type 0} where
   of-beginnings p (x ∷ xs) t = or-e (p []) (any p (map (λ (b : List A). x ∷ b) (beginnings xs))) t
       (λ u. ([], x ∷ xs, refl, u))
       (λ u.
-          let r = of-beginnings (λ (b : List A). p (x ∷ b)) xs (subst T (any-map p (λ (b : List A). x ∷ b) (beginnings xs)) u) in
-          (x ∷ r .0, r .1, ap (λ (l : List A). x ∷ l) (r .2), r .3))
+      let r = of-beginnings (λ (b : List A). p (x ∷ b)) xs (subst T (any-map p (λ (b : List A). x ∷ b) (beginnings xs)) u) in
+      (x ∷ r .0, r .1, ap (λ (l : List A). x ∷ l) (r .2), r .3))
 
   pub a-beginning : (p : List A → Bool) (b rest : List A) → T (p b) → T (any p (beginnings (b ++ rest)))
   a-beginning p [] [] t = or-l (p []) false t
@@ -120,6 +120,6 @@ module _ {A : Type 0} (same : A → A → Bool) where
   pub no-more : Equivalence same → (xs ys : List A) → T (apart same xs) → ((x : A) → List·Memᴰ x xs → (y : A) × List·Memᴰ y ys × T (same x y)) → length xs ≤ length ys
   no-more E xs ys a h = length-le same E xs ys a
       (λ z t.
-          let m = any-member (same z) xs t in
-          let r = h (m .0) (m .1) in
-          member-any (same z) (r .1) (E .chain z (m .0) (r .0) (m .2) (r .2)))
+      let m = any-member (same z) xs t in
+      let r = h (m .0) (m .1) in
+      member-any (same z) (r .1) (E .chain z (m .0) (r .0) (m .2) (r .2)))

@@ -1,29 +1,29 @@
 -- The machine's answer is what document 01 says: the fillings of a run are those listed, the distinct remainders are those of a list of fitting ones, and their numbers are lengths. Assumes nothing.
-use mathlib.Core.Bool.{Bool, true, false, cond, _||_}
-use mathlib.Core.List.{List, [], _∷_, _++_, map, List·Memᴰ, List·Memᴰ·head, List·Memᴰ·tail, List·Memᴰ·not-nil, List·Memᴰ·cases-cons, List·Memᴰ·eq-of-singleton, List·Memᴰ·append-cases, Memᴰ·cast, Memᴰ·append-left, Memᴰ·append-right, Memᴰ·map, Memᴰ·of-map}
-use mathlib.Core.Logic.{_↔_, _≢_, _⊎_, inl, inr, ⊎-elim}
+use mathlib.Core.Bool.{Bool, true, false, cond}
+use mathlib.Core.List.{List, [], _∷_, map, List·Memᴰ, List·Memᴰ·head, List·Memᴰ·not-nil, List·Memᴰ·eq-of-singleton, List·Memᴰ·append-cases, Memᴰ·cast, Memᴰ·append-left, Memᴰ·append-right, Memᴰ·map, Memᴰ·of-map}
+use mathlib.Core.Logic.{_↔_, _⊎_, inl, inr, ⊎-elim}
 use mathlib.Core.Path.{_≡_, refl, sym, ap, _∙_, subst}
-use Prim.Native.Nat.{ℕ, zero, suc, _-_, _≤_}
+use Prim.Native.Nat.{ℕ, suc, _≤_}
 use native.Mathlib.Nat.{le-antisymm}
 use native.Mathlib.Omega.{arith}
 use lib.Dec.{T, ltb, eqb, ltb→lt, lt→ltb, eqb→eq, eqb-refl}
-use lib.ListN.{length, drop, length-drop, length-map}
+use lib.ListN.{length, length-map}
 use Rattle.records.specs.declared.instant.Tick.{Tick}
 use Rattle.records.specs.declared.instant.Tick.the-variants.{Idle, Ticks, Unseen}
 use Rattle.records.specs.Sheet.{SheetValue}
 use Rattle.records.specs.Types.{All}
-use Rattle.tesl.specs.Lists.{any, filter, distinct, beginnings, flatMap}
+use Rattle.tesl.specs.Lists.{any, filter, distinct, beginnings}
 use Rattle.tesl.specs.Run.{Instant, ticksOf, tagsOf, Filled, fillTicks, fillings, runFillings}
 use Rattle.tesl.specs.Fits.{Obligation, unmet, fits}
 use Rattle.tesl.specs.Remainder.{Remainder, remainder, sameRemainder, sameObligation, owes}
 use Rattle.tesl.specs.Answer.{Standing, clear, owed, Answer, exhausted, broken, holding, remainders, tooMany, standing, judged, answer}
-use Rattle.theory.specs.Sets.{apart, SameSet}
+use Rattle.theory.specs.Sets.{apart}
 use Rattle.theory.specs.Said.{Along, TickAs, FillsInstant, Fills, Fitting, sameLeft, Leaves, Live, Owing, Exhausts, Said}
-use Rattle.tesl.proofs.Tests.{and-r, or-l, or-r, or-e}
+use Rattle.tesl.proofs.Tests.{or-l, or-r, or-e}
 use Rattle.tesl.proofs.Formula.{fits-holds}
-use Rattle.theory.proofs.Lists.{any-map, any-imp, member-any, any-member}
+use Rattle.theory.proofs.Lists.{any-map, member-any, any-member}
 use Rattle.theory.proofs.Members.{mem-flatMap, of-flatMap, distinct-map, mem-filter, of-filter, of-distinct, each-of, of-each, no-more, some-of, of-beginnings, a-beginning}
-use Rattle.theory.proofs.Sets.{Equivalence, any-same, distinct-set, distinct-apart, length-le}
+use Rattle.theory.proofs.Sets.{Equivalence, distinct-set, distinct-apart}
 use Rattle.theory.proofs.Respect.{owed-equivalence, remainder-equivalence, owes-same}
 use Rattle.theory.proofs.Seen.{none-owed, clear-when}
 
@@ -147,13 +147,13 @@ owing-number s run n = (
   λ w.
       let os = unmet (s .lines) (w .filling) in
       let k = no-more sameObligation owed-equivalence (w .these) (distinct sameObligation os) (w .no-two)
-          (λ o m. any-member (sameObligation o) (distinct sameObligation os)
-          (subst T (sym (distinct-set sameObligation owed-equivalence os o)) (member-any (sameObligation o) (of-each (λ (p : Obligation). List·Memᴰ p os) (w .each-unmet) m) (owed-equivalence .reflex o)))) in
+      (λ o m. any-member (sameObligation o) (distinct sameObligation os)
+      (subst T (sym (distinct-set sameObligation owed-equivalence os o)) (member-any (sameObligation o) (of-each (λ (p : Obligation). List·Memᴰ p os) (w .each-unmet) m) (owed-equivalence .reflex o)))) in
       (w .filling, w .fits, omega (arith, w .number)),
   λ h.
       let os = unmet (s .lines) (h .0) in
       let r = some-of sameObligation (λ (o : Obligation). List·Memᴰ o os) (distinct sameObligation os) n (h .2)
-          (each-of (λ (o : Obligation). List·Memᴰ o os) (distinct sameObligation os) (λ o m. of-distinct sameObligation os m)) (distinct-apart sameObligation owed-equivalence os) in
+      (each-of (λ (o : Obligation). List·Memᴰ o os) (distinct sameObligation os) (λ o m. of-distinct sameObligation os m)) (distinct-apart sameObligation owed-equivalence os) in
       record { filling = h .0; fits = h .1; these = r .0; number = r .1; each-unmet = r .2; no-two = r .3 },
 )
 
@@ -165,16 +165,16 @@ too-many s run = (
   λ t. or-e (ltb 32 (length rs)) (any nine rs) t
       (λ u. inl (leaves-number s run 33 .1 (subst (λ (n : ℕ). 33 ≤ n) as-many (ltb→lt 32 (length rs) u))))
       (λ u.
-          let m = any-member (λ (f : List Filled). nine (remainder s f)) ks (subst T all-owed u) in
-          inr (owing-number s run 9 .1 (m .0, of-each (Fitting s run) (kept-fits s run) (m .1), ltb→lt 8 (owes (remainder s (m .0))) (m .2)))),
+      let m = any-member (λ (f : List Filled). nine (remainder s f)) ks (subst T all-owed u) in
+      inr (owing-number s run 9 .1 (m .0, of-each (Fitting s run) (kept-fits s run) (m .1), ltb→lt 8 (owes (remainder s (m .0))) (m .2)))),
   ⊎-elim
       (λ (l : Leaves s run 33). or-l (ltb 32 (length rs)) (any nine rs) (lt→ltb 32 (length rs) (subst (λ (n : ℕ). 33 ≤ n) (sym as-many) (leaves-number s run 33 .0 l))))
       (λ (w : Owing s run 9).
-          let h = owing-number s run 9 .0 w in
-          let g = kept-all s run (h .0) (h .1) in
-          or-r (ltb 32 (length rs)) (any nine rs) (subst T (sym all-owed)
-          (member-any (λ (f : List Filled). nine (remainder s f)) (g .1)
-          (lt→ltb 8 (owes (remainder s (g .0))) (subst (λ (n : ℕ). 9 ≤ n) (owes-same (remainder s (h .0)) (remainder s (g .0)) (g .2)) (h .2)))))),
+      let h = owing-number s run 9 .0 w in
+      let g = kept-all s run (h .0) (h .1) in
+      or-r (ltb 32 (length rs)) (any nine rs) (subst T (sym all-owed)
+      (member-any (λ (f : List Filled). nine (remainder s f)) (g .1)
+      (lt→ltb 8 (owes (remainder s (g .0))) (subst (λ (n : ℕ). 9 ≤ n) (owes-same (remainder s (h .0)) (remainder s (g .0)) (g .2)) (h .2)))))),
 )
   where
     ks : List (List Filled)

@@ -1,9 +1,16 @@
--- What the mathematics over tesl is about: one instant on a remainder, the remainders held after a run, their limits, what a monitor keeps, and its run.
+-- What the mathematics over tesl is about.
+
+-- ---- to be believed: what the monitor's promises and demands 2 and 3 cite
+-- lists as sets
 pub mod Sets
+-- a run of opening and calls, and what each answers
+pub mod Session
+-- runs without unseen ticks (demand 2)
+pub mod Seen
+-- the answer in document 01's words (demand 3)
+pub mod Said
+-- ---- for proofs only: one instant on a remainder, the remainders held after a run, their limits, and what a monitor keeps
 pub mod Step
 pub mod Held
 pub mod Limits
 pub mod Tracks
-pub mod Session
-pub mod Seen
-pub mod Said

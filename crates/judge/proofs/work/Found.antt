@@ -17,11 +17,12 @@ use Rattle.tesl.specs.Answer.{exhausted}
 use Rattle.theory.specs.Sets.{Covers, EachOnce}
 use Rattle.theory.specs.Held.{successors}
 use Rattle.theory.specs.Tracks.{Finding}
+use Rattle.theory.proofs.Members.{of-each}
 use Rattle.judge.specs.View.{tagsBefore}
 use Rattle.judge.specs.Work.{worked}
 use Rattle.judge.proofs.work.Padded.{lastIn}
 use Rattle.judge.proofs.work.Counted.{Once}
-use Rattle.judge.proofs.work.Gather.{of-each, Gathered, Gathering}
+use Rattle.judge.proofs.work.Gather.{Gathered, Gathering}
 use Rattle.judge.proofs.work.Settle.{reached, reached-are, worked-gathers}
 
 -- a remainder of c clocks as the arrays have it

@@ -1,8 +1,8 @@
 -- The successors found so far, each once, while there is room: what one more makes of them, and a fold. Assumes nothing.
 use mathlib.Core.Bool.{Bool, true, false, not, cond, _&&_}
-use mathlib.Core.List.{List, [], _∷_, _++_, append-nil, append-assoc, List·Memᴰ, List·Memᴰ·head, List·Memᴰ·tail}
+use mathlib.Core.List.{List, [], _∷_, _++_, append-nil, append-assoc, List·Memᴰ}
 use mathlib.Core.Option.{Option, none, some}
-use mathlib.Core.Path.{_≡_, refl, sym, subst}
+use mathlib.Core.Path.{_≡_, sym, subst}
 use Prim.Native.Nat.{_≤_}
 use native.Mathlib.Omega.{arith}
 use lib.Dec.{T, leb, ltb, ltb→lt, nltb→le}
@@ -22,6 +22,7 @@ use Rattle.theory.specs.Held.{successors}
 use Rattle.theory.specs.Tracks.{Finding, one-more, owed}
 use Rattle.theory.proofs.Fill.{foldl}
 use Rattle.theory.proofs.Lists.{any-snoc, each-snoc}
+use Rattle.theory.proofs.Members.{of-each}
 use Rattle.theory.proofs.Sets.{any-same, again, fresh}
 use Rattle.theory.proofs.Respect.{remainder-equivalence}
 use Rattle.theory.proofs.Held.{successor-found}
@@ -29,17 +30,6 @@ use Rattle.judge.specs.Advanced.{Advanced}
 use Rattle.judge.specs.Work.{sameCounted, inserted, took}
 use Rattle.judge.proofs.work.Counted.{Once, any-counted}
 use Rattle.judge.proofs.work.Advance.{Steps, broken, too-many, goes}
-
--- ---- what holds of each of a list
-
-module _ {A : Type 0} (P : A → Type 0) where
-  pub each-of : (xs : List A) → ((x : A) → List·Memᴰ x xs → P x) → All P xs
-  each-of [] h = tt
-  each-of (x ∷ xs) h = (h x (List·Memᴰ·head refl), each-of xs (λ y m. h y (List·Memᴰ·tail m)))
-
-  pub of-each : {x : A} {xs : List A} → All P xs → List·Memᴰ x xs → P x
-  of-each h (List·Memᴰ·head e) = subst P (sym e) (h .0)
-  of-each h (List·Memᴰ·tail m) = of-each (h .1) m
 
 -- ---- those found
 

@@ -20,12 +20,13 @@ use Rattle.theory.specs.Held.{successors}
 use Rattle.theory.proofs.Fill.{foldl}
 use Rattle.theory.proofs.Lists.{any-flatMap}
 use Rattle.theory.proofs.Held.{successors-any}
+use Rattle.theory.proofs.Members.{each-of}
 use Rattle.judge.specs.View.{tagsBefore}
 use Rattle.judge.specs.Questions.{ticksHold}
 use Rattle.judge.specs.Work.{advanced, took, settledAll, filling, fillFrom, worked}
 use Rattle.judge.proofs.work.Padded.{padded, lastIn, tagsFit, goesOn, step-ok, fill-is, filling-tags}
 use Rattle.judge.proofs.work.Advance.{steps}
-use Rattle.judge.proofs.work.Gather.{each-of, Gathering, gather-one, gather-fold}
+use Rattle.judge.proofs.work.Gather.{Gathering, gather-one, gather-fold}
 
 -- ---- lists of lists
 
