@@ -18,7 +18,7 @@ use Rattle.tesl.specs.Fits.{Obligation, unmet, fits}
 use Rattle.tesl.specs.Remainder.{Remainder, remainder, sameRemainder, sameObligation, owes}
 use Rattle.tesl.specs.Answer.{Standing, clear, owed, Answer, exhausted, broken, holding, remainders, tooMany, standing, judged, answer}
 use Rattle.theory.specs.Sets.{apart}
-use Rattle.theory.specs.Said.{Along, TickAs, FillsInstant, Fills, Fitting, sameLeft, Leaves, Live, Owing, Exhausts, Said}
+use Rattle.theory.specs.Said.{Along, TickAs, FillsInstant, Fills, Fitting, sameLeft, Leaves, Live, Owing, TooMany, Exhausts, Said}
 use Rattle.tesl.proofs.Tests.{or-l, or-r, or-e}
 use Rattle.tesl.proofs.Formula.{fits-holds}
 use Rattle.theory.proofs.Lists.{any-map, member-any, any-member}
@@ -129,6 +129,12 @@ unfolding kept
 kept-all s run f h = any-member (sameLeft s f) (kept s run)
     (subst T (sym (distinct-set (sameLeft s) (left-equivalence s) (listed s run) f)) (member-any (sameLeft s f) (fitting-listed s run f .1 h) (left-equivalence s .reflex f)))
 
+all-kept : (s : SheetValue) (run : List Instant) → Live s run (length (kept s run))
+all-kept s run = record {
+  leaves = record { these = kept s run; number = refl; each-fits = kept-fits s run; no-two = kept-apart s run };
+  no-other = kept-all s run;
+}
+
 -- ---- numbers are lengths
 
 leaves-number : (s : SheetValue) (run : List Instant) (n : ℕ) → Leaves s run n ↔ (n ≤ length (kept s run))
@@ -159,23 +165,9 @@ owing-number s run n = (
 
 -- ---- exhausted
 
-too-many : (s : SheetValue) (run : List Instant) → T (tooMany (remainders s run)) ↔ (Leaves s run 33 ⊎ Owing s run 9)
+too-many : (s : SheetValue) (run : List Instant) → T (tooMany (remainders s run)) ↔ TooMany s run
 unfolding tooMany
-too-many s run = (
-  λ t. or-e (ltb 32 (length rs)) (any nine rs) t
-      (λ u. inl (leaves-number s run 33 .1 (subst (λ (n : ℕ). 33 ≤ n) as-many (ltb→lt 32 (length rs) u))))
-      (λ u.
-      let m = any-member (λ (f : List Filled). nine (remainder s f)) ks (subst T all-owed u) in
-      inr (owing-number s run 9 .1 (m .0, of-each (Fitting s run) (kept-fits s run) (m .1), ltb→lt 8 (owes (remainder s (m .0))) (m .2)))),
-  ⊎-elim
-      (λ (l : Leaves s run 33). or-l (ltb 32 (length rs)) (any nine rs) (lt→ltb 32 (length rs) (subst (λ (n : ℕ). 33 ≤ n) (sym as-many) (leaves-number s run 33 .0 l))))
-      (λ (w : Owing s run 9).
-      let h = owing-number s run 9 .0 w in
-      let g = kept-all s run (h .0) (h .1) in
-      or-r (ltb 32 (length rs)) (any nine rs) (subst T (sym all-owed)
-      (member-any (λ (f : List Filled). nine (remainder s f)) (g .1)
-      (lt→ltb 8 (owes (remainder s (g .0))) (subst (λ (n : ℕ). 9 ≤ n) (owes-same (remainder s (h .0)) (remainder s (g .0)) (g .2)) (h .2)))))),
-)
+too-many s run = (found, tested)
   where
     ks : List (List Filled)
     ks = kept s run
@@ -191,6 +183,23 @@ too-many s run = (
 
     all-owed : any nine rs ≡ any (λ (f : List Filled). nine (remainder s f)) ks
     all-owed = ap (any nine) (remainders-kept s run) ∙ any-map nine (remainder s) ks
+
+    found : T (tooMany rs) → TooMany s run
+    found t = or-e (ltb 32 (length rs)) (any nine rs) t
+        (λ u. let l = ltb→lt 32 (length rs) u in inl (leaves-number s run _ .1 (omega (arith, as-many))))
+        (λ u.
+        let m = any-member (λ (f : List Filled). nine (remainder s f)) ks (subst T all-owed u) in
+        let l = ltb→lt 8 (owes (remainder s (m .0))) (m .2) in
+        inr (owing-number s run _ .1 (m .0, of-each (Fitting s run) (kept-fits s run) (m .1), omega arith)))
+
+    tested : TooMany s run → T (tooMany rs)
+    tested (inl h) = let l = leaves-number s run _ .0 h in or-l (ltb 32 (length rs)) (any nine rs) (lt→ltb 32 (length rs) (omega (arith, as-many)))
+    tested (inr h) =
+        let w = owing-number s run _ .0 h in
+        let g = kept-all s run (w .0) (w .1) in
+        let l = owes-same (remainder s (w .0)) (remainder s (g .0)) (g .2) in
+        or-r (ltb 32 (length rs)) (any nine rs)
+        (subst T (sym all-owed) (member-any (λ (f : List Filled). nine (remainder s f)) (g .1) (lt→ltb 8 (owes (remainder s (g .0))) (omega (arith, w .2)))))
 
 exhausts-exactly : (s : SheetValue) (run : List Instant) → T (any (λ (b : List Instant). tooMany (remainders s b)) (beginnings run)) ↔ Exhausts s run
 exhausts-exactly s run = (
@@ -229,10 +238,10 @@ clear-exactly s run = (
 -- ---- the answer
 
 pub answer-said : (s : SheetValue) (run : List Instant) → Said s run (answer s run)
-unfolding answer judged
+unfolding answer judged all-kept
 answer-said s run =
     subst (λ (rs : List Remainder). Said s run (cond over exhausted (judged rs))) (sym (remainders-kept s run))
-    (by-test over (kept s run) (exhausts-exactly s run) (record { leaves = record { these = kept s run; number = refl; each-fits = kept-fits s run; no-two = kept-apart s run }; no-other = kept-all s run }) refl (clear-exactly s run))
+    (by-test over (kept s run) (exhausts-exactly s run) (all-kept s run) refl (clear-exactly s run))
   where
     over : Bool
     over = any (λ (b : List Instant). tooMany (remainders s b)) (beginnings run)

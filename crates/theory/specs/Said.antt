@@ -78,14 +78,20 @@ pub record Owing (s : SheetValue) (run : List Instant) (n : ℕ) : Type 0 where
 
 -- ---- the answer, the first that applies
 
--- some beginning of the run, the whole included, has more than 32 distinct remainders, or one with more than 8 obligations
+-- more than 32 distinct remainders, or one with more than 8 obligations
+abbrev pub TooMany : SheetValue → List Instant → Type 0
+TooMany s run = Leaves s run 33 ⊎ Owing s run 9
+
+-- some beginning of the run, the whole included, has too many
 pub record Exhausts (s : SheetValue) (run : List Instant) : Type 0 where
   pub beginning : List Instant
   pub rest : List Instant
   pub begins : run ≡ beginning ++ rest
-  pub too-many : Leaves s beginning 33 ⊎ Owing s beginning 9
+  pub too-many : TooMany s beginning
 
+-- a is the answer for the run; `answer` is, and nothing else: `answer-said` and `said-is`, proofs/Said.antt
 pub record Said (s : SheetValue) (run : List Instant) (a : Answer) : Type 0 where
+  -- exhausted exactly when some beginning has too many
   pub exhausts : (a ≡ exhausted) ↔ Exhausts s run
   -- else broken exactly when no filling fits
   pub breaks : a ≢ exhausted → (a ≡ broken) ↔ ((f : List Filled) → Fitting s run f → ⊥)
