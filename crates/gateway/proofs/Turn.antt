@@ -5,15 +5,14 @@ use Prim.Native.Nat.{ℕ, _+_, _≤_}
 use native.Mathlib.Omega.{arith}
 use lib.ListN.{length, drop, length-append, drop-of-length-le}
 use Rattle.records.specs.Outcome.{Outcome, taken, refused}
-use Rattle.records.specs.Record.{Piece, whole, torn, front, pieces, TheRecord, recordBytes}
+use Rattle.records.specs.Record.{TheRecord}
 use Rattle.records.specs.Sheet.{SheetValue}
-use Rattle.records.specs.Instant.{readInstant}
 use Rattle.records.proofs.Lists.{map-append}
 use Rattle.records.proofs.record.Cut.{no-pieces}
-use Rattle.records.proofs.record.Inverse.{pieces-record}
 use Rattle.tesl.specs.Run.{Instant}
 use Rattle.tesl.specs.Answer.{Answer}
-use Rattle.tesl.specs.Machine.{accepts, listAfter, reply, machine, held, concluded, callOf, callsOf}
+use Rattle.tesl.specs.Machine.{accepts, listAfter, machine, held, concluded, callsOf}
+use Rattle.theory.proofs.Log.{next-replies, next-held}
 use Rattle.judge.specs.declared.monitor.Monitor.{Monitor}
 use Rattle.judge.specs.declared.monitor.Given.{Given}
 use Rattle.judge.specs.declared.answer.Reply.{Reply}
@@ -24,31 +23,6 @@ use Rattle.judge.proofs.Demands.{observing-follows}
 use Rattle.gateway.specs.Result.{answersTaken}
 use Rattle.gateway.specs.Inner.{answersFrom}
 use Rattle.gateway.proofs.Machine.{lastSaid, last-snoc, concluded-said, answers-said}
-
--- ---- a call
-
--- bytes that are one record are read as that record is when it is handed over
-pub same-read : (c : ℕ) (p : List ℕ) (q : Piece) → pieces p ≡ q ∷ [] → readInstant c p ≡ readInstant c (callOf q)
-unfolding readInstant
-same-read c p torn e = rw (e, no-pieces)
-same-read c p (whole kind body) e =
-    let k : pieces (recordBytes kind body) ≡ whole kind body ∷ [] = ap pieces (sym (append-nil (recordBytes kind body))) ∙ pieces-record kind body [] ∙ rw no-pieces in
-    rw (e, k)
-
-pub same-call : (s : SheetValue) (run : List Instant) (p : List ℕ) (q : Piece) → pieces p ≡ q ∷ [] → accepts s run p ≡ accepts s run (callOf q)
-unfolding accepts
-same-call s run p q e = rw (same-read (s .clocks) p q e)
-
-module _ {log : List ℕ} {at : ℕ} {p : List ℕ} (h : TheRecord log at p) where
-  -- the machine's reply to the record, and the rest
-  pub next-replies : (s : SheetValue) (run : List Instant)
-      → machine s run (callsOf (drop at log)) ≡ reply s run (accepts s run p) ∷ machine s (listAfter run (accepts s run p)) (callsOf (drop (at + length p) log))
-  unfolding machine
-  next-replies s run = rw (h .others, same-call s run p (front (drop at log)) (h .one))
-
-  pub next-held : (s : SheetValue) (run : List Instant) → held s run (callsOf (drop at log)) ≡ held s (listAfter run (accepts s run p)) (callsOf (drop (at + length p) log))
-  unfolding held
-  next-held s run = rw (h .others, same-call s run p (front (drop at log)) (h .one))
 
 -- ---- the answers said so far
 

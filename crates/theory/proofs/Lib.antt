@@ -26,3 +26,5 @@ pub mod Seen
 pub mod Machine
 -- The answer in document 01's words, with quantifiers.
 pub mod Said
+-- The machine along a log.
+pub mod Log
