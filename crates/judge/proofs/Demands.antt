@@ -27,7 +27,7 @@ opening-follows : (sheet : List ℕ) (outcome : Outcome (machine.Opened Monitor)
 opening-follows sheet outcome (r, h, e) = subst (Opening Follows sheet) e (by-read (readSheet sheet) refl)
   where
     by-read : (o : Outcome SheetValue) → readSheet sheet ≡ o → Opening Follows sheet (openedOf (replyOf (r .reply)) (r .monitor))
-    by-read (refused n) f = rw (h .refuses n f .0) (refuses f)
+    by-read (refused n) f = rw (h .refuses n f) (refuses f)
     by-read (taken s) f = rw (h .opens s f .0) (opens f refl (h .opens s f .1))
 
 -- ---- observing

@@ -1,20 +1,22 @@
 -- What a monitor keeps, and what the inner functions of opening and observing promise.
-use mathlib.Core.Bool.{cond}
+use mathlib.Core.Bool.{false, cond}
 use mathlib.Core.List.{List, [], _∷_}
 use mathlib.Core.Option.{Option, none, some}
 use mathlib.Core.Path.{_≡_}
 use Prim.Native.Nat.{ℕ, suc, _≤_, _<_}
 use lib.Dec.{T, eqb}
-use lib.IntN.{ℤ}
-use lib.ListN.{take}
+use lib.IntN.{ℤ, pos}
+use lib.ListN.{take, replicate}
 use Rattle.records.specs.declared.sheet.Sheet.{Sheet}
 use Rattle.records.specs.declared.instant.Instant.{Instant}
 use Rattle.records.specs.Outcome.{taken}
-use Rattle.records.specs.Sheet.{SheetValue, sheetValue}
+use Rattle.records.specs.Sheet.{SheetValue, sheetValue, sheetOf}
 use Rattle.tesl.specs.Lists.{all, flatMap}
 use Rattle.tesl.specs.Fits.{Obligation, owedAtStart}
 use Rattle.tesl.specs.Remainder.{Remainder}
 use Rattle.theory.specs.Step.{wellFormed}
+use Rattle.judge.specs.declared.remainder.Remainder as arrays
+use Rattle.judge.specs.declared.held.Count.the-variants.{Live}
 use Rattle.judge.specs.declared.answer.Reply.the-variants as reply
 use Rattle.judge.specs.declared.monitor.Monitor.{Monitor}
 use Rattle.judge.specs.declared.monitor.Given.{Given}
@@ -34,6 +36,25 @@ heldBy m = heldOf (sheetBy m) (m .held)
 -- the last tags of the sheet's clocks; none before the first instant
 abbrev pub lastBy : Monitor → Option (List ℤ)
 lastBy m = cond (eqb (m .instants) 0) none (some (take (m .sheet .clocks) (m .tags)))
+
+-- ---- no monitor
+
+-- nothing is owed, no line leads, no clock is stopped
+abbrev pub blankRemainder : arrays.Remainder
+blankRemainder =
+    record {
+      owed = 0;
+      obligations = replicate 8 (record { clock = 0; on = 0; due = pos 0 });
+      leads = replicate 16 0;
+      stopped = replicate 8 false;
+    }
+
+abbrev pub blankMonitor : Sheet → Monitor
+blankMonitor s = record { sheet = s; instants = 0; tags = replicate 8 (pos 0); held = record { count = Live 0; remainders = replicate 32 blankRemainder } }
+
+-- what stands in a monitor's place beside a refused opening: it has no clock, so it is outside its limits
+unfoldable pub noMonitor : Monitor
+noMonitor = blankMonitor (sheetOf (record { clocks = 0; lines = [] }))
 
 -- the number, and the monitor as it came
 abbrev pub refusal : ℕ → Monitor → Given

@@ -1,5 +1,5 @@
 -- What `open` and `observe` promise, whole: these are their `ensures`, and what demand 3 is proved from.
-use mathlib.Core.Bool.{true, false, cond}
+use mathlib.Core.Bool.{true, cond}
 use mathlib.Core.List.{List, [], _∷_, _++_, map}
 use mathlib.Core.Logic.{_≢_}
 use mathlib.Core.Path.{_≡_}
@@ -16,13 +16,12 @@ use Rattle.tesl.specs.Remainder.{Remainder, sameObligation, sameRemainder}
 use Rattle.tesl.specs.Answer.{Answer, exhausted, remainders, answer}
 use Rattle.tesl.specs.Machine.{unlessFull}
 use Rattle.theory.specs.Sets.{apart, EachOnce}
-use Rattle.judge.specs.declared.answer.Reply.the-variants as reply
 use Rattle.judge.specs.declared.monitor.Monitor.{Monitor}
 use Rattle.judge.specs.declared.monitor.Given.{Given}
 use Rattle.judge.specs.View.{live}
 use Rattle.judge.specs.Answer.{replyOf, saidBy}
 use Rattle.judge.specs.Limits.{within}
-use Rattle.judge.specs.Monitor.{sheetBy, heldBy, lastBy, refusal}
+use Rattle.judge.specs.Monitor.{sheetBy, heldBy, lastBy, noMonitor, refusal}
 
 -- m is a monitor of the sheet s after the accepted instants run: of the instants it has their number, the last tags and the last answer;
 -- while the answer is not exhausted its remainders are the run's distinct ones, each once, and each owes an obligation once; and it is within its limits
@@ -37,9 +36,9 @@ pub record Follows (s : SheetValue) (run : List Instant) (m : Monitor) : Type 0 
 
 -- ---- opening
 
--- refused: the sheet's number and no monitor, the one in its place being outside its limits; else the answer for no instant, and a monitor that follows the sheet
+-- refused: the sheet's number and no monitor; else the answer for no instant, and a monitor that follows the sheet
 pub record Opened (bytes : List ℕ) (r : Given) : Type 0 where
-  pub refuses : (n : ℕ) → readSheet bytes ≡ refused n → (r .reply ≡ reply.Refused n) × (within (r .monitor) ≡ false)
+  pub refuses : (n : ℕ) → readSheet bytes ≡ refused n → r ≡ refusal n noMonitor
   pub opens : (s : SheetValue) → readSheet bytes ≡ taken s → (replyOf (r .reply) ≡ taken (answer s [])) × Follows s [] (r .monitor)
 
 -- ---- observing

@@ -6,6 +6,7 @@ use crate::held::Held;
 use crate::kept::observe_rows;
 use crate::limits::is_within;
 use crate::plan::plan_of;
+use crate::remainder::blank_remainder;
 use crate::settle::from_rows;
 use crate::settle::keep_held;
 use crate::start::first_remainder;
@@ -16,7 +17,7 @@ use records::sheet::read_sheet;
 ghost use mathlib.Core.Path.{_≡_};
 ghost use Prim.Native.Nat.{_≤_};
 ghost use Rattle.judge.specs.Limits.{within};
-ghost use Rattle.judge.specs.Monitor.{Begins, refusal};
+ghost use Rattle.judge.specs.Monitor.{Begins, blankMonitor, refusal};
 ghost use Rattle.judge.specs.Promises.{Opened, Observed};
 
 // Beside its remainders, of the instants only their number and the last tags; the last answer is what those held say.
@@ -53,20 +54,36 @@ fn begin(sheet: Sheet) -> Monitor
     }
 }
 
-// Opens a sheet: its number and a monitor outside its limits, or the answer for no instant and the monitor.
+// What stands in a monitor's place where there is none.
+fn blank_monitor(sheet: Sheet) -> Monitor
+    ensures { λ m. ⌜ m ≡ blankMonitor sheet ⌝ }
+{
+    let blank = blank_remainder();
+    let remainders = [blank; 32];
+    let held = Held {
+        count: Count::Live(0),
+        remainders,
+    };
+    let tags = [0i16; 8];
+    Monitor {
+        sheet,
+        instants: 0,
+        tags,
+        held,
+    }
+}
+
+// Opens a sheet: its number and no monitor, or the answer for no instant and the monitor.
 pub fn open(bytes: &[u8]) -> Given
     ensures { λ r. ⌜ Opened (now (bytes .entry)) r ⌝ }
 {
     let read = read_sheet(bytes);
     let sheet = read.sheet;
-    let monitor = begin(sheet);
     let answer = read.answer;
     match answer {
-        Answer::Refused(n) => Given {
-            reply: Reply::Refused(n),
-            monitor,
-        },
+        Answer::Refused(n) => refuse(n, blank_monitor(sheet)),
         Answer::Done => {
+            let monitor = begin(sheet);
             let held = monitor.held;
             let opening = say(held);
             Given {

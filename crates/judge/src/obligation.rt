@@ -1,6 +1,7 @@
 // Obligations: a clock that owes a tick where the on-clock's tag is the due.
 use crate::clock::tag_at;
 use crate::clock::ticks_at;
+use crate::clock::wide;
 ghost use mathlib.Core.Path.{_≡_};
 ghost use mathlib.Core.Bool.{not};
 ghost use lib.IntN.{pos, _+ℤ_};
@@ -23,11 +24,12 @@ pub(crate) fn as_due(x: i16) -> i32
     x as i32
 }
 
-// The due of a delay that begins at a tag.
+// The due of a delay that begins at a tag: the sum is formed in 64 bits, and fits 32.
 pub(crate) fn due_of(tag: i16, delay: u16) -> i32
     ensures { λ r. ⌜ r ≡ tag +ℤ pos delay ⌝ }
 {
-    as_due(tag) + (delay as i32)
+    let due = wide(tag) + (delay as i64);
+    due as i32
 }
 
 fn same_due(a: i32, b: i32) -> bool

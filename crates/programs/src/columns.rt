@@ -2,74 +2,35 @@
 use crate::file::LOG_ROOM;
 use crate::file::SHEET_ROOM;
 use crate::file::read_file;
-use crate::print::print;
-use crate::print::print_refusal;
-use records::instant::read_instant;
-use records::number;
-use records::record::Answer;
-use records::record::record_bytes;
-use records::sheet::read_sheet;
-use text::line::column_line;
+use libc::STDOUT_FILENO;
+use text::columns::COLUMNS_ROOM;
+use text::columns::columns_text;
 ghost use Prim.Native.Nat.{_≤_};
+ghost use lib.ListN.{take};
+ghost use Rattle.text.specs.Output.{columnsText};
+ghost use Rattle.programs.specs.Files.{FilesPrinted};
 
-// The tags of an instant, clocks from 0.
-fn print_tags(tags: [i16; 8], clocks: u8)
-    requires { ⌜ clocks ≤ 8 ⌝ }
+// What is printed for two files whose fronts are the first m and n bytes read.
+fn columns_files(
+    sheet: &[u8; SHEET_ROOM],
+    m: usize,
+    log: &[u8; LOG_ROOM],
+    n: usize,
+    out: &mut [u8; COLUMNS_ROOM],
+) -> usize
+    requires { do ⌜ (m ≤ (← ⟦SHEET_ROOM⟧)) × (n ≤ (← ⟦LOG_ROOM⟧)) ⌝ }
+    ensures { λ r. do ⌜ FilesPrinted columnsText (← ⟦SHEET_ROOM⟧ .entry) (← ⟦LOG_ROOM⟧ .entry) (take m (now (sheet .entry))) (take n (now (log .entry))) (now (out .entry)) r (now (out .exit)) ⌝ }
 {
-    let n = clocks as usize;
-    let mut i = 0;
-    while i < n {
-        print(column_line(tags[i]));
-        i += 1;
-    }
-}
-
-// The instants of a log, up to the first that is refused.
-fn print_all(clocks: u8, log: &[u8]) {
-    let mut taken = 0;
-    let mut at = 0;
-    while at < log.len() {
-        let record = record_bytes(log, at);
-        let read = read_instant(record, clocks);
-        let answer = read.answer;
-        match answer {
-            Answer::Refused(n) => {
-                print_refusal(n);
-                return;
-            }
-            Answer::Done => {
-                if number::MAX_INSTANTS <= taken {
-                    print_refusal(number::INSTANTS_HELD);
-                    return;
-                }
-                let instant = read.instant;
-                let tags = instant.tags;
-                print_tags(tags, clocks);
-                taken += 1;
-                at += record.len();
-            }
-        }
-    }
-}
-
-fn columns(sheet: &[u8], log: &[u8]) {
-    let read = read_sheet(sheet);
-    let answer = read.answer;
-    match answer {
-        Answer::Refused(n) => print_refusal(n),
-        Answer::Done => {
-            let sheet = read.sheet;
-            let clocks = sheet.clocks;
-            print_all(clocks, log);
-        }
-    }
+    columns_text(&sheet[..m], &log[..n], out)
 }
 
 // The program, by the numbers of the arguments that name the sheet file and the log file.
 pub fn run(sheet_name: usize, log_name: usize) {
     let mut sheet = [0u8; SHEET_ROOM];
     let mut log = [0u8; LOG_ROOM];
+    let mut out = [0u8; COLUMNS_ROOM];
     let m = read_file(sheet_name, &mut sheet);
     let n = read_file(log_name, &mut log);
-    columns(&sheet[..m], &log[..n]);
+    let size = columns_files(&sheet, m, &log, n, &mut out);
+    io::write_all(STDOUT_FILENO, &out[..size]);
 }

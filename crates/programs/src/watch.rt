@@ -2,54 +2,35 @@
 use crate::file::LOG_ROOM;
 use crate::file::SHEET_ROOM;
 use crate::file::read_file;
-use crate::print::print;
-use crate::print::print_refusal;
-use judge::answer::Reply;
-use judge::monitor::Monitor;
-use judge::monitor::observe;
-use judge::monitor::open;
-use records::record::record_bytes;
-use text::line::answer_line;
+use libc::STDOUT_FILENO;
+use text::watch::WATCH_ROOM;
+use text::watch::watch_text;
+ghost use Prim.Native.Nat.{_≤_};
+ghost use lib.ListN.{take};
+ghost use Rattle.text.specs.Output.{watchText};
+ghost use Rattle.programs.specs.Files.{FilesPrinted};
 
-// The instants of a log, up to the first that is refused.
-fn observe_all(opened: Monitor, log: &[u8]) {
-    let mut monitor = opened;
-    let mut at = 0;
-    while at < log.len() {
-        let record = record_bytes(log, at);
-        let given = observe(monitor, record);
-        let reply = given.reply;
-        match reply {
-            Reply::Refused(n) => {
-                print_refusal(n);
-                return;
-            }
-            Reply::Answered(answer) => {
-                monitor = given.monitor;
-                print(answer_line(monitor.instants, answer));
-                at += record.len();
-            }
-        }
-    }
-}
-
-fn watch(sheet: &[u8], log: &[u8]) {
-    let given = open(sheet);
-    let reply = given.reply;
-    match reply {
-        Reply::Refused(n) => print_refusal(n),
-        Reply::Answered(_) => {
-            let monitor = given.monitor;
-            observe_all(monitor, log);
-        }
-    }
+// What is printed for two files whose fronts are the first m and n bytes read.
+fn watch_files(
+    sheet: &[u8; SHEET_ROOM],
+    m: usize,
+    log: &[u8; LOG_ROOM],
+    n: usize,
+    out: &mut [u8; WATCH_ROOM],
+) -> usize
+    requires { do ⌜ (m ≤ (← ⟦SHEET_ROOM⟧)) × (n ≤ (← ⟦LOG_ROOM⟧)) ⌝ }
+    ensures { λ r. do ⌜ FilesPrinted watchText (← ⟦SHEET_ROOM⟧ .entry) (← ⟦LOG_ROOM⟧ .entry) (take m (now (sheet .entry))) (take n (now (log .entry))) (now (out .entry)) r (now (out .exit)) ⌝ }
+{
+    watch_text(&sheet[..m], &log[..n], out)
 }
 
 // The program, by the numbers of the arguments that name the sheet file and the log file.
 pub fn run(sheet_name: usize, log_name: usize) {
     let mut sheet = [0u8; SHEET_ROOM];
     let mut log = [0u8; LOG_ROOM];
+    let mut out = [0u8; WATCH_ROOM];
     let m = read_file(sheet_name, &mut sheet);
     let n = read_file(log_name, &mut log);
-    watch(&sheet[..m], &log[..n]);
+    let size = watch_files(&sheet, m, &log, n, &mut out);
+    io::write_all(STDOUT_FILENO, &out[..size]);
 }

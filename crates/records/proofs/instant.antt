@@ -1,4 +1,5 @@
 pub mod Front
 pub mod Laws
 pub mod Pieces
+pub mod Read
 pub mod RoundTrip

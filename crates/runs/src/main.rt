@@ -24,15 +24,19 @@ const SHEET_100: usize = 10;
 
 const LOG_NINE: usize = 11;
 
-const SHEET_ONE: usize = 12;
+const SHEET_EIGHT: usize = 12;
 
-const LOG_4001: usize = 13;
+const LOG_TWELVE: usize = 13;
 
-const FOLDER: usize = 14;
+const LOG_4000: usize = 14;
 
-const NO_FILE: usize = 15;
+const LOG_4001: usize = 15;
 
-const NOT_NAMED: usize = 16;
+const FOLDER: usize = 16;
+
+const NO_FILE: usize = 17;
+
+const NOT_NAMED: usize = 18;
 
 fn heading(program: &[u8], case: &[u8]) {
     io::write_all(STDOUT_FILENO, program);
@@ -40,15 +44,11 @@ fn heading(program: &[u8], case: &[u8]) {
     io::write_all(STDOUT_FILENO, b"\n");
 }
 
-fn columns_case(case: &[u8], sheet: usize, log: usize) {
-    heading(b"columns: ", case);
-    programs::columns::run(sheet, log);
-}
-
 fn both(case: &[u8], sheet: usize, log: usize) {
     heading(b"watch: ", case);
     programs::watch::run(sheet, log);
-    columns_case(case, sheet, log);
+    heading(b"columns: ", case);
+    programs::columns::run(sheet, log);
 }
 
 fn main() {
@@ -73,5 +73,7 @@ fn main() {
         LOG_TICK,
     );
     both(b"L9", SHEET_100, LOG_NINE);
-    columns_case(b"4,001 instants of one clock", SHEET_ONE, LOG_4001);
+    both(b"twelve instants of eight clocks", SHEET_EIGHT, LOG_TWELVE);
+    both(b"4,000 instants of eight clocks", SHEET_EIGHT, LOG_4000);
+    both(b"4,001 instants of eight clocks", SHEET_EIGHT, LOG_4001);
 }

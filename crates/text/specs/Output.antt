@@ -40,10 +40,19 @@ columnsOf calls (refused n) = refusalLine n
 unfoldable pub columnsText : List ℕ → List ℕ → List ℕ
 columnsText sheet log = columnsOf (callsOf log) (readSheet sheet)
 
--- ---- a text in a lent buffer: its length, and the text at the front, later bytes as they were
-pub record Printed (text buffer : List ℕ) (n : ℕ) (after : List ℕ) : Type 0 where
-  pub size : n ≡ length text
-  pub bytes : after ≡ text ++ drop (length text) buffer
+-- ---- a text put into a lent buffer
+
+-- the length that is told, and the whole buffer afterwards
+pub record Printed : Type 0 where
+  pub size : ℕ
+  pub buffer : List ℕ
+
+abbrev pub printedAs : ℕ → List ℕ → Printed
+printedAs size buffer = record { size = size; buffer = buffer }
+
+-- the text's length, and the text at the buffer's front, later bytes staying
+abbrev pub printed : List ℕ → List ℕ → Printed
+printed text buffer = printedAs (length text) (text ++ drop (length text) buffer)
 
 -- ---- how much of a file decides: whatever stands behind the first a bytes of a sheet and the first b of a log, the same is printed
 pub record FrontDecides (a b : ℕ) : Type 0 where

@@ -11,6 +11,9 @@ ghost use Prim.Native.Nat.{_≤_};
 ghost use Rattle.judge.specs.Answer.{answerOf};
 ghost use Rattle.text.specs.Text.{textOf, answerLine, refusalLine, columnLine};
 
+// 'refused 16' and its newline.
+pub(crate) const LONGEST_REFUSAL: usize = 11;
+
 // An instant's number and what was answered to it.
 pub fn answer_line(number: usize, answer: Answer) -> Text
     ensures { λ r. ⌜ (r .len ≤ 64) × (textOf r ≡ answerLine number (answerOf answer)) ⌝ }

@@ -14,21 +14,12 @@ use Rattle.records.specs.Record.{TheRecord}
 use Rattle.records.specs.Sheet.{SheetValue}
 use Rattle.records.specs.Instant.{readInstant, instantRead}
 use Rattle.records.proofs.record.Cut.{no-pieces}
+use Rattle.records.proofs.instant.Read.{read-refused, read-done}
 use Rattle.tesl.specs.Run.{Instant}
 use Rattle.tesl.specs.Machine.{accepts, machine, callsOf}
+use Rattle.theory.proofs.Log.{next-replies}
 use Rattle.gateway.specs.Inner.{answersFrom, Counted}
 use Rattle.gateway.proofs.Machine.{answers-few}
-use Rattle.gateway.proofs.Turn.{next-replies}
-
--- ---- what was read
-
-read-refused : (o : Outcome Instant) {n : ℕ} → instantRead o .answer ≡ Refused n → o ≡ refused n
-read-refused (taken i) e = let z : _≡_ {A = ℕ} 0 1 = cc in absurd (omega arith)
-read-refused (refused k) {n} e = let z : k ≡ n = cc in ap refused z
-
-read-done : (o : Outcome Instant) → instantRead o .answer ≡ Done → (i : Instant) × (o ≡ taken i)
-read-done (taken i) e = (i, refl)
-read-done (refused n) e = let z : _≡_ {A = ℕ} 0 1 = cc in absurd (omega arith)
 
 -- ---- a turn
 
@@ -76,10 +67,10 @@ module _ {log : List ℕ} {clocks n at : ℕ} (w : Counting log clocks n at) whe
               let a = w .same s e in
               let f : leb 4000 (length (a .run)) ≡ false = lt-leb 4000 (length (a .run)) (omega (arith, a .counted)) in
               let m : length (answersFrom s (a .run) (drop at log))
-              ≡ suc (length (answersFrom s (a .run ++ (d .0 ∷ [])) (drop (at + length p) log))) = rw (next-replies h s (a .run), ap (λ (c : ℕ). readInstant c p) e ∙ d .1, f) in
+              ≡ suc (length (answersFrom s (a .run ++ (d .cells ∷ [])) (drop (at + length p) log))) = rw (next-replies h s (a .run), ap (λ (c : ℕ). readInstant c p) e ∙ d .is, f) in
               record {
-                run = a .run ++ (d .0 ∷ []);
-                counted = omega (arith, a .counted, length-append (a .run) (d .0 ∷ []));
+                run = a .run ++ (d .cells ∷ []);
+                counted = omega (arith, a .counted, length-append (a .run) (d .cells ∷ []));
                 all = omega (arith, a .all, m);
               };
         }

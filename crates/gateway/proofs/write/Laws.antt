@@ -108,7 +108,7 @@ module _ (sheet log out : List ℕ) (g : Given) (h : Opened sheet g) where
       where
         by-read : (o : Outcome SheetValue) → readSheet sheet ≡ o → (s : SheetValue) × (readSheet sheet ≡ taken s)
         by-read (taken s) f = (s, f)
-        by-read (refused n) f = refused-taken (sym (ap replyOf (sym e ∙ h .refuses n f .0)))
+        by-read (refused n) f = refused-taken (sym (ap replyOf (sym e ∙ ap (λ (x : Given). x .reply) (h .refuses n f))))
 
     entries-of : (s : SheetValue) → readSheet sheet ≡ taken s → entries sheet log ≡ flatMap entry (answersFrom s [] log)
     unfolding entries session

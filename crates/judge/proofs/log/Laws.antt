@@ -133,7 +133,7 @@ module _ (sheet log : List ℕ) (g : Given) (h : Opened sheet g) where
   judged-refused e = by-read (readSheet sheet) refl
     where
       by-read : (o : Outcome SheetValue) → readSheet sheet ≡ o → judgedOf (record { reply = g .reply; instants = 0 }) ≡ judgeLog sheet log
-      by-read (refused k) f = rw (f, h .refuses k f .0)
+      by-read (refused k) f = rw (f, h .refuses k f)
       by-read (taken s) f = refused-taken (ap replyOf (sym e) ∙ h .opens s f .0)
 
   pub judged-opened : {a : code.Answer} (r : Judged) → g .reply ≡ reply.Answered a → Concludes g log r → judgedOf r ≡ judgeLog sheet log
@@ -141,5 +141,5 @@ module _ (sheet log : List ℕ) (g : Given) (h : Opened sheet g) where
   judged-opened r e k = by-read (readSheet sheet) refl
     where
       by-read : (o : Outcome SheetValue) → readSheet sheet ≡ o → judgedOf r ≡ judgeLog sheet log
-      by-read (refused n) f = refused-taken (sym (ap replyOf (sym e ∙ h .refuses n f .0)))
+      by-read (refused n) f = refused-taken (sym (ap replyOf (sym e ∙ ap (λ (x : Given). x .reply) (h .refuses n f))))
       by-read (taken s) f = k s [] (h .opens s f .1) ∙ rw (f, h .opens s f .0)

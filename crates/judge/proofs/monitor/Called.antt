@@ -13,6 +13,7 @@ use Rattle.records.specs.Outcome.{Outcome, taken, refused}
 use Rattle.records.specs.Instant.{readInstant, instantOf, instantRead}
 use Rattle.records.specs.Types.{All, IsBytes}
 use Rattle.records.proofs.Lists.{both, refused-taken}
+use Rattle.records.proofs.instant.Read.{Read, read-refused, read-done}
 use Rattle.records.proofs.instant.RoundTrip.{read-writes}
 use Rattle.tesl.specs.Run.{Instant}
 use Rattle.tesl.proofs.Tests.{T→≡, ≡→T}
@@ -49,20 +50,6 @@ module _ (m : Monitor) (bytes : List ℕ) (r : Given) where
   called-outside {b} l e q =
       let w : within m ≡ false = sym (l .answer) ∙ not-true b e in
       called-refused (rw w) q
-
--- what was read, by the answer that the match sees
-read-refused : (o : Outcome Instant) {n : ℕ} → instantRead o .answer ≡ Refused n → o ≡ refused n
-read-refused (taken i) e = let z : _≡_ {A = ℕ} 0 1 = cc in absurd (omega arith)
-read-refused (refused k) {n} e = let z : k ≡ n = cc in ap refused z
-
-pub record Read (o : Outcome Instant) : Type 0 where
-  pub cells : Instant
-  pub is : o ≡ taken cells
-  pub struct : instantRead o .instant ≡ instantOf cells
-
-read-done : (o : Outcome Instant) → instantRead o .answer ≡ Done → Read o
-read-done (taken i) e = record { cells = i; is = refl; struct = refl }
-read-done (refused n) e = let z : _≡_ {A = ℕ} 0 1 = cc in absurd (omega arith)
 
 module _ (m : Monitor) (bytes : List ℕ) {b : Bool} (l : Limited m b) (e : not b ≡ false)
     {x : InstantRead} (h : x ≡ instantRead (readInstant (m .sheet .clocks) bytes)) where

@@ -8,8 +8,7 @@ use Prim.Native.Nat.{ℕ, suc, _≤_, _<_}
 use native.Mathlib.Omega.{arith}
 use lib.Dec.{T, eqb, eqb·suc-zero}
 use lib.IntN.{ℤ, pos}
-use lib.ListN.{length, take, length-map}
-use lib.Seq.{take-append-seam}
+use lib.ListN.{length, take}
 use Rattle.records.specs.declared.sheet.Sheet.{Sheet}
 use Rattle.records.specs.declared.instant.TickSlot.{TickSlot}
 use Rattle.records.specs.declared.instant.Tick.the-variants.{Idle}
@@ -17,6 +16,7 @@ use Rattle.records.specs.Lists.{filled}
 use Rattle.records.specs.Outcome.{taken}
 use Rattle.records.specs.Sheet.{SheetValue, sheetValue}
 use Rattle.records.specs.Instant.{Cell, tickSlot, instantOf}
+use Rattle.records.proofs.instant.Read.{places-in-use}
 use Rattle.records.specs.Types.{All, IsInstant}
 use Rattle.tesl.specs.Lists.{all}
 use Rattle.tesl.specs.Run.{Instant, ticksOf, tagsOf}
@@ -87,14 +87,9 @@ tracks-after v l run n last i (some rs) (some new) w p t = tracks-next v run i _
 
 -- ---- the instant that was read
 
-first-of : {A B : Type 0} (f : A → B) (d : B) (n : ℕ) (xs : List A) → length xs ≡ n → take n (filled 8 d (map f xs)) ≡ map f xs
-first-of f d n xs e =
-    let k : n ≡ length (map f xs) = sym e ∙ sym (length-map xs f) in
-    rw k (take-append-seam (map f xs) _)
-
 seen-of : (c : ℕ) (i : Instant) → length i ≡ c → seenOf c (instantOf i .ticks) ≡ ticksOf i
 seen-of c i e =
-    ap (map (λ (t : TickSlot). t .tick)) (first-of (λ (x : Cell). tickSlot (x .tick)) (tickSlot Idle) c i e)
+    ap (map (λ (t : TickSlot). t .tick)) (places-in-use (λ (x : Cell). tickSlot (x .tick)) (tickSlot Idle) c i e)
     ∙ map-map (λ (t : TickSlot). t .tick) (λ (x : Cell). tickSlot (x .tick)) i
 
 -- ---- the monitor after it
@@ -116,7 +111,7 @@ module _ (m : Monitor) (l : Limits m) (sheet : T (sheetWithin (sheetBy m))) (roo
       (views-after (sheetBy m) (l .sheet) (lastBy m) i value (m .instants) (heldBy m) (heldBy (r .monitor)) found (l .views))))
 
   last-after : lastBy (r .monitor) ≡ some (tagsOf i)
-  last-after = rw (a .sheet, a .instants, a .tags, eqb·suc-zero (m .instants)) (ap some (first-of (λ (c : Cell). c .tag) (pos 0) (m .sheet .clocks) i size))
+  last-after = rw (a .sheet, a .instants, a .tags, eqb·suc-zero (m .instants)) (ap some (places-in-use (λ (c : Cell). c .tag) (pos 0) (m .sheet .clocks) i size))
 
   follows-after : (run : List Instant) → Follows (sheetBy m) run m → Follows (sheetBy m) (run ++ (i ∷ [])) (r .monitor)
   follows-after run f =

@@ -1,4 +1,4 @@
--- A monitor of no instant: its one remainder is that of no filled instant, so it follows the sheet that was read; beside a refusal it is outside its limits. Assumes nothing.
+-- A monitor of no instant: its one remainder is that of no filled instant, so it follows the sheet that was read. Beside a refusal there is none: what stands there has no clock, and is outside its limits. Assumes nothing.
 use mathlib.Core.Bool.{Bool, true, false, and-false}
 use mathlib.Core.List.{List, [], _∷_, map, append-nil}
 use mathlib.Core.Option.{Option, some}
@@ -33,12 +33,13 @@ use Rattle.theory.proofs.Opened.{read-limits, opening-owes, opening-answer}
 use Rattle.judge.specs.declared.answer.Answer as code
 use Rattle.judge.specs.declared.answer.Reply.the-variants as reply
 use Rattle.judge.specs.declared.monitor.Monitor.{Monitor}
+use Rattle.judge.specs.declared.monitor.Given.{Given}
 use Rattle.judge.specs.View.{inUse, cut, live}
 use Rattle.judge.specs.Work.{addedAll}
 use Rattle.judge.specs.Start.{firstOwing}
 use Rattle.judge.specs.Answer.{answerOf, saidBy}
 use Rattle.judge.specs.Limits.{isTaken, sheetWithin, within}
-use Rattle.judge.specs.Monitor.{sheetBy, heldBy, refusal, Begins}
+use Rattle.judge.specs.Monitor.{sheetBy, heldBy, blankMonitor, noMonitor, refusal, Begins}
 use Rattle.judge.specs.Promises.{Follows, Opened}
 use Rattle.judge.proofs.work.Advance.{Adding, room, full, added-all}
 use Rattle.judge.proofs.monitor.Limits.{within-limits}
@@ -160,9 +161,9 @@ module _ (b : List ℕ) (bytes : IsBytes b) (s : SheetValue) (e : readSheet b �
 
 -- ---- a refused one: no clock is within the limits
 
-beside-refusal : (m : Monitor) → Begins (sheetOf (record { clocks = 0; lines = [] })) m → within m ≡ false
-unfolding within sheetWithin
-beside-refusal m begins = rw (begins .sheet)
+pub no-monitor-outside : within noMonitor ≡ false
+unfolding within sheetWithin noMonitor
+no-monitor-outside = refl
 
 refused-done : {X : Type 0} {n : ℕ} → told.Refused n ≡ told.Done → X
 refused-done e = let z : _≡_ {A = ℕ} 0 1 = cc in absurd (omega arith)
@@ -177,14 +178,15 @@ module _ (b : List ℕ) (x : SheetRead) (e : x ≡ sheetRead (readSheet b)) wher
       by-outcome (taken s) h = rw (e, h) (read-limits b bytes h .lines-most)
       by-outcome (refused n) h = rw (e, h) (omega arith)
 
-  module _ (m : Monitor) (begins : Begins (x .sheet) m) where
-    pub opened-refused : {n : ℕ} → x .answer ≡ told.Refused n → Opened b (refusal n m)
-    opened-refused {n} a = by-outcome (readSheet b) refl (ap (λ (y : SheetRead). y .answer) (sym e) ∙ a) (subst (λ (y : SheetRead). Begins (y .sheet) m) e begins)
-      where
-        by-outcome : (o : Outcome SheetValue) → readSheet b ≡ o → sheetRead o .answer ≡ told.Refused n → Begins (sheetRead o .sheet) m → Opened b (refusal n m)
-        by-outcome (taken s) h a g = refused-done (sym a)
-        by-outcome (refused k) h a g = record { refuses = λ j f. (let z : n ≡ j = cc in ap reply.Refused z, beside-refusal m g); opens = λ s f. refused-taken (sym h ∙ f) }
+  pub opened-refused : {n : ℕ} → x .answer ≡ told.Refused n → (r : Given) → r ≡ refusal n (blankMonitor (x .sheet)) → Opened b r
+  unfolding noMonitor
+  opened-refused {n} a r q = by-outcome (readSheet b) refl (ap (λ (y : SheetRead). y .answer) (sym e) ∙ a) (q ∙ ap (λ (y : SheetRead). refusal n (blankMonitor (y .sheet))) e)
+    where
+      by-outcome : (o : Outcome SheetValue) → readSheet b ≡ o → sheetRead o .answer ≡ told.Refused n → r ≡ refusal n (blankMonitor (sheetRead o .sheet)) → Opened b r
+      by-outcome (taken s) h a g = refused-done (sym a)
+      by-outcome (refused k) h a g = record { refuses = λ j f. let z : n ≡ j = cc in rw (← z) g; opens = λ s f. refused-taken (sym h ∙ f) }
 
+  module _ (m : Monitor) (begins : Begins (x .sheet) m) where
     pub opened-done : IsBytes b → x .answer ≡ told.Done → (y : code.Answer) → answerOf y ≡ saidBy (heldBy m) → Opened b (record { reply = reply.Answered y; monitor = m })
     opened-done bytes a y w = by-outcome (readSheet b) refl (ap (λ (z : SheetRead). z .answer) (sym e) ∙ a) (subst (λ (z : SheetRead). Begins (z .sheet) m) e begins)
       where

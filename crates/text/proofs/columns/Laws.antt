@@ -1,0 +1,169 @@
+-- The tags of a log's instants, a line each: an instant is taken for what the plain machine takes it for, so the lines put so far and those from here on are the lines of the log. Assumes nothing.
+use mathlib.Core.Bool.{Bool, true, false, not}
+use mathlib.Core.List.{List, [], _∷_, _++_, append-nil, append-assoc}
+use mathlib.Core.Path.{_≡_, refl, sym, ap, _∙_, subst}
+use Prim.Native.Nat.{ℕ, zero, suc, _+_, _≤_, _<_}
+use native.Mathlib.Numerals.{add-one}
+use native.Mathlib.Omega.{arith}
+use lib.Dec.{leb}
+use lib.IntN.{ℤ, pos}
+use lib.ListN.{length, take, drop, getD, length-append, drop-of-length-le}
+use lib.Seq.{take-suc}
+use borrow.Author.Tests.{le-leb, lt-leb}
+use Rattle.records.specs.declared.record.Answer.the-variants.{Done, Refused}
+use Rattle.records.specs.declared.instant.InstantRead.{InstantRead}
+use Rattle.records.specs.declared.sheet.SheetRead.{SheetRead}
+use Rattle.records.specs.Outcome.{Outcome, taken, refused}
+use Rattle.records.specs.Record.{TheRecord}
+use Rattle.records.specs.Sheet.{SheetValue, readSheet, sheetRead}
+use Rattle.records.specs.Instant.{Cell, readInstant, instantOf, instantRead}
+use Rattle.records.specs.Store.{puts}
+use Rattle.records.specs.Types.{IsBytes}
+use Rattle.records.proofs.Lists.{refused-taken}
+use Rattle.records.proofs.Store.{puts-both, length-puts}
+use Rattle.records.proofs.record.Cut.{no-pieces}
+use Rattle.records.proofs.instant.Read.{Read, read-refused, read-done, places-in-use}
+use Rattle.records.proofs.instant.RoundTrip.{read-writes}
+use Rattle.tesl.specs.Lists.{flatMap}
+use Rattle.tesl.specs.Run.{Instant, tagsOf}
+use Rattle.tesl.specs.Machine.{accepts, listAfter, acceptsEach, callsOf}
+use Rattle.theory.proofs.Log.{next-accepts}
+use Rattle.theory.proofs.Opened.{read-limits}
+use Rattle.text.specs.Text.{columnLine, refusalLine}
+use Rattle.text.specs.Output.{linesFrom, tagLines, columnsText, printed, printedAs}
+use Rattle.text.specs.Built.{tagsText, clocksOnly, instantsText, InstantsReady}
+use Rattle.text.proofs.put.Laws.{Putting, putting-start, putting-more, lines-room, all-put}
+
+-- ---- the tags of an instant
+
+lines-snoc : (ts : List ℤ) (t : ℤ) → flatMap columnLine (ts ++ (t ∷ [])) ≡ flatMap columnLine ts ++ columnLine t
+lines-snoc [] t = append-nil (columnLine t)
+lines-snoc (u ∷ ts) t = ap (λ (bytes : List ℕ). columnLine u ++ bytes) (lines-snoc ts t) ∙ sym (append-assoc (columnLine u) (flatMap columnLine ts) (columnLine t))
+
+pub tags-more : (tags : List ℤ) (i : ℕ) → i < length tags → tagsText (i + 1) tags ≡ tagsText i tags ++ columnLine (getD tags i (pos 0))
+tags-more tags i h = rw (add-one, take-suc tags i (pos 0) h) (lines-snoc (take i tags) (getD tags i (pos 0)))
+
+-- those of the first i clocks have no more bytes than those of the first n
+pub tags-fewer : (tags : List ℤ) (i n : ℕ) → i ≤ n → length (tagsText i tags) ≤ length (tagsText n tags)
+tags-fewer [] i n h = omega arith
+tags-fewer (t ∷ tags) zero n h = omega arith
+tags-fewer (t ∷ tags) (suc i) zero h = absurd (omega arith)
+tags-fewer (t ∷ tags) (suc i) (suc n) h =
+    omega (arith, tags-fewer tags i n (omega arith), length-append (columnLine t) (tagsText i tags), length-append (columnLine t) (tagsText n tags))
+
+-- ---- what an instant is taken for asks for the clock count only
+
+pub same-clocks : (s t : SheetValue) → s .clocks ≡ t .clocks → (run : List Instant) (calls : List (List ℕ)) → acceptsEach s run calls ≡ acceptsEach t run calls
+unfolding acceptsEach accepts
+same-clocks s t e run [] = refl
+same-clocks s t e run (bytes ∷ calls) =
+    let k : accepts s run bytes ≡ accepts t run bytes = rw e in
+    ap (λ (more : List (Outcome Instant)). accepts s run bytes ∷ more) (same-clocks s t e (listAfter run (accepts s run bytes)) calls) ∙ rw k
+
+-- the lines of the instants from a place of the log on
+abbrev pub linesAt : ℕ → List Instant → List ℕ → ℕ → List ℕ
+linesAt c run log at = linesFrom tagLines (suc (length run)) (acceptsEach (clocksOnly c) run (callsOf (drop at log)))
+
+-- ---- a turn
+
+pub record Telling (c : ℕ) (log out₀ out : List ℕ) (n end at : ℕ) : Type 0 where
+  pub run : List Instant
+  pub counted : n ≡ length run
+  pub putting : Putting (instantsText c log) out₀ out end (linesAt c run log at)
+
+pub telling-start : (c : ℕ) (log out : List ℕ) → Telling c log out out 0 0 0
+telling-start c log out = record { run = []; counted = refl; putting = putting-start (instantsText c log) out }
+
+module _ {c : ℕ} {log out₀ out : List ℕ} {n end at : ℕ} (w : Telling c log out₀ out n end at) (ready : InstantsReady c log out₀) where
+  pub told-end : length log ≤ at → printedAs end out ≡ printed (instantsText c log) out₀
+  unfolding linesFrom acceptsEach
+  told-end h = all-put (w .putting) (rw (drop-of-length-le log {i = at} h, no-pieces)) (ready .room)
+
+  module _ {p : List ℕ} (h : TheRecord log at p) where
+    module _ {k : ℕ} (e : accepts (clocksOnly c) (w .run) p ≡ refused k) where
+      refused-lines : linesAt c (w .run) log at ≡ refusalLine k ++ []
+      unfolding linesFrom
+      refused-lines = rw (next-accepts h (clocksOnly c) (w .run), e) (sym (append-nil (refusalLine k)))
+
+      pub refused-room : end + length (refusalLine k) ≤ length out
+      refused-room = lines-room (w .putting) refused-lines (ready .room)
+
+      pub told-refused : {next : List ℕ} {last : ℕ} → next ≡ puts out end (refusalLine k) → last ≡ end + length (refusalLine k) → printedAs last next ≡ printed (instantsText c log) out₀
+      told-refused q f = all-put (putting-more (w .putting) refused-lines q f) refl (ready .room)
+
+    module _ {x : InstantRead} (r : x ≡ instantRead (readInstant c p)) where
+      -- 12 to 15
+      pub reading-refused : {k : ℕ} → x .answer ≡ Refused k → accepts (clocksOnly c) (w .run) p ≡ refused k
+      unfolding accepts
+      reading-refused q = rw (read-refused (readInstant c p) (sym (ap (λ (y : InstantRead). y .answer) r) ∙ q))
+
+      module _ (q : x .answer ≡ Done) where
+        was-read : Read (readInstant c p)
+        was-read = read-done (readInstant c p) (sym (ap (λ (y : InstantRead). y .answer) r) ∙ q)
+
+        -- 16
+        pub full-refused : 4000 ≤ n → accepts (clocksOnly c) (w .run) p ≡ refused 16
+        unfolding accepts
+        full-refused l = rw (was-read .is, le-leb 4000 (length (w .run)) (omega (arith, w .counted)))
+
+        module _ (bytes : IsBytes p) (l : n < 4000) where
+          read-taken : accepts (clocksOnly c) (w .run) p ≡ taken (was-read .cells)
+          unfolding accepts
+          read-taken = rw (was-read .is, lt-leb 4000 (length (w .run)) (omega (arith, w .counted)))
+
+          -- the tags in use are the instant's
+          tags-read : tagsText c (x .instant .tags) ≡ flatMap columnLine (tagsOf (was-read .cells))
+          tags-read =
+              let e : x .instant ≡ instantOf (was-read .cells) = ap (λ (y : InstantRead). y .instant) r ∙ was-read .struct in
+              rw e (ap (flatMap columnLine) (places-in-use (λ (cell : Cell). cell .tag) (pos 0) c (was-read .cells) (read-writes c p bytes (was-read .is) .size)))
+
+          taken-lines : linesAt c (w .run) log at ≡ tagsText c (x .instant .tags) ++ linesAt c (w .run ++ (was-read .cells ∷ [])) log (at + length p)
+          unfolding linesFrom
+          taken-lines =
+              let k : suc (length (w .run)) ≡ length (w .run ++ (was-read .cells ∷ [])) = omega (arith, length-append (w .run) (was-read .cells ∷ [])) in
+              rw (next-accepts h (clocksOnly c) (w .run), read-taken, tags-read, k)
+
+          pub tags-room : end + length (tagsText c (x .instant .tags)) ≤ length out
+          tags-room = lines-room (w .putting) taken-lines (ready .room)
+
+          pub told-more : {next : List ℕ} {last : ℕ} → next ≡ puts out end (tagsText c (x .instant .tags)) → last ≡ end + length (tagsText c (x .instant .tags))
+              → Telling c log out₀ next (n + 1) last (at + length p)
+          told-more q f = record {
+            run = w .run ++ (was-read .cells ∷ []);
+            counted = omega (arith, w .counted, length-append (w .run) (was-read .cells ∷ []));
+            putting = putting-more (w .putting) taken-lines q f;
+          }
+
+-- ---- the sheet
+
+module _ (sheet log : List ℕ) {x : SheetRead} (r : x ≡ sheetRead (readSheet sheet)) where
+  pub text-refused : {n : ℕ} → x .answer ≡ Refused n → columnsText sheet log ≡ refusalLine n
+  unfolding columnsText
+  text-refused {n} q = by-read (readSheet sheet) refl
+    where
+      by-read : (o : Outcome SheetValue) → readSheet sheet ≡ o → columnsText sheet log ≡ refusalLine n
+      by-read (taken s) f = let z : Done ≡ Refused n = sym (ap (λ (o : Outcome SheetValue). sheetRead o .answer) f) ∙ sym (ap (λ (y : SheetRead). y .answer) r) ∙ q in let k : _≡_ {A = ℕ} 0 1 = cc in absurd (omega arith)
+      by-read (refused k) f =
+          let e : Refused k ≡ Refused n = sym (ap (λ (o : Outcome SheetValue). sheetRead o .answer) f) ∙ sym (ap (λ (y : SheetRead). y .answer) r) ∙ q in
+          let z : k ≡ n = cc in
+          rw (f, z)
+
+  module _ (q : x .answer ≡ Done) where
+    pub text-read : columnsText sheet log ≡ instantsText (x .sheet .clocks) log
+    unfolding columnsText
+    text-read = by-read (readSheet sheet) refl
+      where
+        by-read : (o : Outcome SheetValue) → readSheet sheet ≡ o → columnsText sheet log ≡ instantsText (x .sheet .clocks) log
+        by-read (refused k) f = let z : Refused k ≡ Done = sym (ap (λ (o : Outcome SheetValue). sheetRead o .answer) f) ∙ sym (ap (λ (y : SheetRead). y .answer) r) ∙ q in let k : _≡_ {A = ℕ} 0 1 = cc in absurd (omega arith)
+        by-read (taken s) f =
+            let c : x .sheet .clocks ≡ s .clocks = ap (λ (y : SheetRead). y .sheet .clocks) r ∙ ap (λ (o : Outcome SheetValue). sheetRead o .sheet .clocks) f in
+            rw (f, c, same-clocks s (clocksOnly (s .clocks)) refl [] (callsOf log))
+
+    pub clocks-read : IsBytes sheet → x .sheet .clocks ≤ 8
+    clocks-read bytes = by-read (readSheet sheet) refl
+      where
+        by-read : (o : Outcome SheetValue) → readSheet sheet ≡ o → x .sheet .clocks ≤ 8
+        by-read (refused k) f = let z : Refused k ≡ Done = sym (ap (λ (o : Outcome SheetValue). sheetRead o .answer) f) ∙ sym (ap (λ (y : SheetRead). y .answer) r) ∙ q in let k : _≡_ {A = ℕ} 0 1 = cc in absurd (omega arith)
+        by-read (taken s) f =
+            let c : x .sheet .clocks ≡ s .clocks = ap (λ (y : SheetRead). y .sheet .clocks) r ∙ ap (λ (o : Outcome SheetValue). sheetRead o .sheet .clocks) f in
+            omega (arith, c, read-limits sheet bytes f .clocks-most)

@@ -1,0 +1,44 @@
+-- A text put into a buffer, lines behind lines: what stands is what was to be put so far, and what is left has room since the whole text has. Assumes nothing.
+use mathlib.Core.List.{List, [], _∷_, _++_, append-nil, append-assoc}
+use mathlib.Core.Path.{_≡_, refl, sym, ap, _∙_}
+use Prim.Native.Nat.{ℕ, _+_, _≤_}
+use native.Mathlib.Omega.{arith}
+use lib.ListN.{length, length-append}
+use Rattle.records.specs.Store.{puts}
+use Rattle.records.proofs.Store.{puts-both, length-puts, puts-front}
+use Rattle.text.specs.Output.{printed, printedAs}
+
+-- of a text, `rest` is left to be put behind the first `end` bytes
+pub record Putting (text out₀ out : List ℕ) (end : ℕ) (rest : List ℕ) : Type 0 where
+  pub done : List ℕ
+  pub whole : done ++ rest ≡ text
+  pub ends : end ≡ length done
+  pub stored : out ≡ puts out₀ 0 done
+
+pub putting-start : (text out : List ℕ) → Putting text out out 0 text
+putting-start text out = record { done = []; whole = refl; ends = refl; stored = refl }
+
+module _ {text out₀ out : List ℕ} {end : ℕ} {rest : List ℕ} (w : Putting text out₀ out end rest) where
+  pub same-size : length out ≡ length out₀
+  same-size = rw (w .stored) (length-puts out₀ 0 (w .done))
+
+  module _ {lines later : List ℕ} (e : rest ≡ lines ++ later) where
+    pub lines-room : length text ≤ length out₀ → end + length lines ≤ length out
+    lines-room room = omega (arith, w .ends, same-size, length-append (w .done) rest, length-append lines later, ap length e, ap length (w .whole))
+
+    pub putting-more : {next : List ℕ} {after : ℕ} → next ≡ puts out end lines → after ≡ end + length lines → Putting text out₀ next after later
+    putting-more q f = record {
+      done = w .done ++ lines;
+      whole = append-assoc (w .done) lines later ∙ rw (← e) (w .whole);
+      ends = omega (arith, length-append (w .done) lines, w .ends);
+      stored = puts-both out₀ 0 (w .done) lines (w .stored) (q ∙ rw (w .ends));
+    }
+
+  pub all-put : rest ≡ [] → length text ≤ length out₀ → printedAs end out ≡ printed text out₀
+  all-put e room =
+      let d : w .done ≡ text = sym (append-nil (w .done)) ∙ rw e at (w .whole) in
+      rw (w .ends, w .stored, d, puts-front out₀ text room)
+
+-- a text that is put in one
+pub put-once : {text out after : List ℕ} {end : ℕ} → length text ≤ length out → after ≡ puts out 0 text → end ≡ 0 + length text → printedAs end after ≡ printed text out
+put-once {text} {out} room q f = all-put (putting-more (putting-start text out) (sym (append-nil text)) q f) refl room
