@@ -8,6 +8,8 @@ use records::record::Answer;
 use records::record::record_bytes;
 use records::sheet::read_sheet;
 ghost use mathlib.Core.Path.{_≡_};
+ghost use Prim.Native.Nat.{_<_};
+ghost use Rattle.records.specs.Instant.{tagAt};
 ghost use Rattle.text.specs.Output.{printed, printedAs, columnsText};
 ghost use Rattle.text.specs.Built.{TagsReady, PutTags, instantsText, InstantsReady};
 
@@ -18,6 +20,13 @@ const LONGEST_LINE: usize = 14;
 pub const COLUMNS_ROOM: usize = number::MAX_INSTANTS * number::MAX_CLOCKS as usize * LONGEST_LINE
     + crate::line::LONGEST_REFUSAL;
 
+fn tag_at(tags: [i16; 8], i: usize) -> i16
+    requires { ⌜ i < 8 ⌝ }
+    ensures { λ r. ⌜ r ≡ tagAt tags i ⌝ }
+{
+    tags[i]
+}
+
 // The lines of an instant's tags, clocks from 0, behind the first `at` bytes; tells where they end.
 fn put_tags(out: &mut [u8], at: usize, tags: [i16; 8], clocks: u8) -> usize
     requires { ⌜ TagsReady (now out) at tags clocks ⌝ }
@@ -27,7 +36,7 @@ fn put_tags(out: &mut [u8], at: usize, tags: [i16; 8], clocks: u8) -> usize
     let mut end = at;
     let mut i = 0;
     while i < n {
-        end = put_line(out, end, column_line(tags[i]));
+        end = put_line(out, end, column_line(tag_at(tags, i)));
         i += 1;
     }
     end

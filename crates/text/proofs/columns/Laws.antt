@@ -11,15 +11,18 @@ use lib.ListN.{length, take, drop, getD, length-append, drop-of-length-le}
 use lib.Seq.{take-suc}
 use borrow.Author.Tests.{le-leb, lt-leb}
 use Rattle.records.specs.declared.record.Answer.the-variants.{Done, Refused}
+use Rattle.records.specs.declared.record.Record.{Record}
+use Rattle.records.specs.declared.record.Record.the-variants.{Whole, Torn}
+use Rattle.records.specs.declared.instant.Instant as code
 use Rattle.records.specs.declared.instant.InstantRead.{InstantRead}
 use Rattle.records.specs.declared.sheet.SheetRead.{SheetRead}
 use Rattle.records.specs.Outcome.{Outcome, taken, refused}
-use Rattle.records.specs.Record.{TheRecord}
+use Rattle.records.specs.Record.{recordAt, spanOf, recordSpan, TheRecord}
 use Rattle.records.specs.Sheet.{SheetValue, readSheet, sheetRead}
 use Rattle.records.specs.Instant.{Cell, readInstant, instantOf, instantRead}
 use Rattle.records.specs.Store.{puts}
-use Rattle.records.specs.Types.{IsBytes}
-use Rattle.records.proofs.Lists.{refused-taken}
+use Rattle.records.specs.Types.{IsByte, IsBytes}
+use Rattle.records.proofs.Lists.{all-take, all-drop}
 use Rattle.records.proofs.Store.{puts-both, length-puts}
 use Rattle.records.proofs.record.Cut.{no-pieces}
 use Rattle.records.proofs.instant.Read.{Read, read-refused, read-done, places-in-use}
@@ -31,7 +34,7 @@ use Rattle.theory.proofs.Log.{next-accepts}
 use Rattle.theory.proofs.Opened.{read-limits}
 use Rattle.text.specs.Text.{columnLine, refusalLine}
 use Rattle.text.specs.Output.{linesFrom, tagLines, columnsText, printed, printedAs}
-use Rattle.text.specs.Built.{tagsText, clocksOnly, instantsText, InstantsReady}
+use Rattle.text.specs.Built.{tagsText, PutTags, clocksOnly, instantsText, InstantsReady}
 use Rattle.text.proofs.put.Laws.{Putting, putting-start, putting-more, lines-room, all-put}
 
 -- ---- the tags of an instant
@@ -45,11 +48,48 @@ tags-more tags i h = rw (add-one, take-suc tags i (pos 0) h) (lines-snoc (take i
 
 -- those of the first i clocks have no more bytes than those of the first n
 pub tags-fewer : (tags : List ℤ) (i n : ℕ) → i ≤ n → length (tagsText i tags) ≤ length (tagsText n tags)
-tags-fewer [] i n h = omega arith
-tags-fewer (t ∷ tags) zero n h = omega arith
-tags-fewer (t ∷ tags) (suc i) zero h = absurd (omega arith)
+tags-fewer tags zero n h = omega arith
+tags-fewer tags (suc i) zero h = absurd (omega arith)
+tags-fewer [] (suc i) (suc n) h = omega arith
 tags-fewer (t ∷ tags) (suc i) (suc n) h =
     omega (arith, tags-fewer tags i n (omega arith), length-append (columnLine t) (tagsText i tags), length-append (columnLine t) (tagsText n tags))
+
+-- the lines of the first i of n tags are put
+pub record Listing (at : ℕ) (tags : List ℤ) (n : ℕ) (out₀ out : List ℕ) (end i : ℕ) : Type 0 where
+  pub turns : i ≤ n
+  pub few : n ≤ length tags
+  pub room : at + length (tagsText n tags) ≤ length out₀
+  pub ends : end ≡ at + length (tagsText i tags)
+  pub stored : out ≡ puts out₀ at (tagsText i tags)
+
+module _ {at n end i : ℕ} {tags : List ℤ} {out₀ out : List ℕ} (w : Listing at tags n out₀ out end i) where
+  pub listing-size : length out ≡ length out₀
+  listing-size = rw (w .stored) (length-puts out₀ at (tagsText i tags))
+
+  pub listed-all : n ≤ i → PutTags out₀ at tags n end out
+  listed-all h =
+      let k : i ≡ n = omega (arith, w .turns) in
+      record { ends = rw (← k) (w .ends); stored = rw (← k) (w .stored) }
+
+  module _ (h : i < n) where
+    abbrev line : List ℕ
+    line = columnLine (getD tags i (pos 0))
+
+    more : tagsText (i + 1) tags ≡ tagsText i tags ++ line
+    more = tags-more tags i (omega (arith, w .few))
+
+    pub line-room : end + length line ≤ length out
+    line-room =
+        omega (arith, w .ends, w .room, listing-size, length-append (tagsText i tags) line, ap length more, tags-fewer tags (i + 1) n (omega arith))
+
+    pub listing-more : {next : List ℕ} {last : ℕ} → next ≡ puts out end line → last ≡ end + length line → Listing at tags n out₀ next last (i + 1)
+    listing-more q f = record {
+      turns = omega arith;
+      few = w .few;
+      room = w .room;
+      ends = omega (arith, w .ends, length-append (tagsText i tags) line, ap length more);
+      stored = puts-both out₀ at (tagsText i tags) line (w .stored) (q ∙ rw (w .ends)) ∙ rw more;
+    }
 
 -- ---- what an instant is taken for asks for the clock count only
 
@@ -59,6 +99,15 @@ same-clocks s t e run [] = refl
 same-clocks s t e run (bytes ∷ calls) =
     let k : accepts s run bytes ≡ accepts t run bytes = rw e in
     ap (λ (more : List (Outcome Instant)). accepts s run bytes ∷ more) (same-clocks s t e (listAfter run (accepts s run bytes)) calls) ∙ rw k
+
+-- a record's bytes are bytes
+pub span-bytes : (b : List ℕ) (i : ℕ) → IsBytes b → {p : List ℕ} → p ≡ recordSpan b i → IsBytes p
+unfolding recordSpan
+span-bytes b i h e = rw e (by-record (recordAt b i))
+  where
+    by-record : (r : Record) → IsBytes (spanOf (drop i b) r)
+    by-record Torn = all-drop IsByte i b h
+    by-record (Whole k n) = all-take IsByte (4 + n) (drop i b) (all-drop IsByte i b h)
 
 -- the lines of the instants from a place of the log on
 abbrev pub linesAt : ℕ → List Instant → List ℕ → ℕ → List ℕ
@@ -86,10 +135,10 @@ module _ {c : ℕ} {log out₀ out : List ℕ} {n end at : ℕ} (w : Telling c l
       refused-lines = rw (next-accepts h (clocksOnly c) (w .run), e) (sym (append-nil (refusalLine k)))
 
       pub refused-room : end + length (refusalLine k) ≤ length out
-      refused-room = lines-room (w .putting) refused-lines (ready .room)
+      refused-room = lines-room (w .putting) (refusalLine k) [] refused-lines (ready .room)
 
       pub told-refused : {next : List ℕ} {last : ℕ} → next ≡ puts out end (refusalLine k) → last ≡ end + length (refusalLine k) → printedAs last next ≡ printed (instantsText c log) out₀
-      told-refused q f = all-put (putting-more (w .putting) refused-lines q f) refl (ready .room)
+      told-refused q f = all-put (putting-more (w .putting) (refusalLine k) [] refused-lines q f) refl (ready .room)
 
     module _ {x : InstantRead} (r : x ≡ instantRead (readInstant c p)) where
       -- 12 to 15
@@ -115,23 +164,26 @@ module _ {c : ℕ} {log out₀ out : List ℕ} {n end at : ℕ} (w : Telling c l
           tags-read : tagsText c (x .instant .tags) ≡ flatMap columnLine (tagsOf (was-read .cells))
           tags-read =
               let e : x .instant ≡ instantOf (was-read .cells) = ap (λ (y : InstantRead). y .instant) r ∙ was-read .struct in
-              rw e (ap (flatMap columnLine) (places-in-use (λ (cell : Cell). cell .tag) (pos 0) c (was-read .cells) (read-writes c p bytes (was-read .is) .size)))
+              ap (λ (v : code.Instant). tagsText c (v .tags)) e ∙ (ap (flatMap columnLine) (places-in-use (λ (cell : Cell). cell .tag) (pos 0) c (was-read .cells) (read-writes c p bytes (was-read .is) .size)))
 
-          taken-lines : linesAt c (w .run) log at ≡ tagsText c (x .instant .tags) ++ linesAt c (w .run ++ (was-read .cells ∷ [])) log (at + length p)
+          abbrev rest : List ℕ
+          rest = linesAt c (w .run ++ (was-read .cells ∷ [])) log (at + length p)
+
+          taken-lines : linesAt c (w .run) log at ≡ tagsText c (x .instant .tags) ++ rest
           unfolding linesFrom
           taken-lines =
               let k : suc (length (w .run)) ≡ length (w .run ++ (was-read .cells ∷ [])) = omega (arith, length-append (w .run) (was-read .cells ∷ [])) in
               rw (next-accepts h (clocksOnly c) (w .run), read-taken, tags-read, k)
 
           pub tags-room : end + length (tagsText c (x .instant .tags)) ≤ length out
-          tags-room = lines-room (w .putting) taken-lines (ready .room)
+          tags-room = lines-room (w .putting) (tagsText c (x .instant .tags)) rest taken-lines (ready .room)
 
           pub told-more : {next : List ℕ} {last : ℕ} → next ≡ puts out end (tagsText c (x .instant .tags)) → last ≡ end + length (tagsText c (x .instant .tags))
               → Telling c log out₀ next (n + 1) last (at + length p)
           told-more q f = record {
             run = w .run ++ (was-read .cells ∷ []);
             counted = omega (arith, w .counted, length-append (w .run) (was-read .cells ∷ []));
-            putting = putting-more (w .putting) taken-lines q f;
+            putting = putting-more (w .putting) (tagsText c (x .instant .tags)) rest taken-lines q f;
           }
 
 -- ---- the sheet

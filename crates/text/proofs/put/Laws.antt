@@ -6,7 +6,25 @@ use native.Mathlib.Omega.{arith}
 use lib.ListN.{length, length-append}
 use Rattle.records.specs.Store.{puts}
 use Rattle.records.proofs.Store.{puts-both, length-puts, puts-front}
+use Rattle.text.specs.declared.build.Text.{Text}
+use Rattle.text.specs.Text.{textOf}
 use Rattle.text.specs.Output.{printed, printedAs}
+use Rattle.text.specs.Built.{PutLine}
+
+-- ---- a line
+
+module _ {buffer after : List ℕ} {at end : ℕ} {t : Text} (p : PutLine buffer at t end after) where
+  pub put-size : length after ≡ length buffer
+  put-size = rw (p .stored) (length-puts buffer at (textOf t))
+
+  module _ {line : List ℕ} (e : textOf t ≡ line) where
+    pub put-bytes : after ≡ puts buffer at line
+    put-bytes = rw e at (p .stored)
+
+    pub put-end : end ≡ at + length line
+    put-end = rw e at (p .ends)
+
+-- ---- a text
 
 -- of a text, `rest` is left to be put behind the first `end` bytes
 pub record Putting (text out₀ out : List ℕ) (end : ℕ) (rest : List ℕ) : Type 0 where
@@ -22,16 +40,18 @@ module _ {text out₀ out : List ℕ} {end : ℕ} {rest : List ℕ} (w : Putting
   pub same-size : length out ≡ length out₀
   same-size = rw (w .stored) (length-puts out₀ 0 (w .done))
 
-  module _ {lines later : List ℕ} (e : rest ≡ lines ++ later) where
+  module _ (lines later : List ℕ) (e : rest ≡ lines ++ later) where
     pub lines-room : length text ≤ length out₀ → end + length lines ≤ length out
     lines-room room = omega (arith, w .ends, same-size, length-append (w .done) rest, length-append lines later, ap length e, ap length (w .whole))
 
     pub putting-more : {next : List ℕ} {after : ℕ} → next ≡ puts out end lines → after ≡ end + length lines → Putting text out₀ next after later
-    putting-more q f = record {
+    putting-more q f =
+        let k : end ≡ 0 + length (w .done) = omega (arith, w .ends) in
+        record {
       done = w .done ++ lines;
       whole = append-assoc (w .done) lines later ∙ rw (← e) (w .whole);
       ends = omega (arith, length-append (w .done) lines, w .ends);
-      stored = puts-both out₀ 0 (w .done) lines (w .stored) (q ∙ rw (w .ends));
+      stored = puts-both out₀ 0 (w .done) lines (w .stored) (q ∙ rw k);
     }
 
   pub all-put : rest ≡ [] → length text ≤ length out₀ → printedAs end out ≡ printed text out₀
@@ -40,5 +60,5 @@ module _ {text out₀ out : List ℕ} {end : ℕ} {rest : List ℕ} (w : Putting
       rw (w .ends, w .stored, d, puts-front out₀ text room)
 
 -- a text that is put in one
-pub put-once : {text out after : List ℕ} {end : ℕ} → length text ≤ length out → after ≡ puts out 0 text → end ≡ 0 + length text → printedAs end after ≡ printed text out
-put-once {text} {out} room q f = all-put (putting-more (putting-start text out) (sym (append-nil text)) q f) refl room
+pub put-once : (text out : List ℕ) {after : List ℕ} {end : ℕ} → length text ≤ length out → after ≡ puts out 0 text → end ≡ 0 + length text → printedAs end after ≡ printed text out
+put-once text out room q f = all-put (putting-more (putting-start text out) text [] (sym (append-nil text)) q f) refl room

@@ -25,7 +25,7 @@ use Rattle.judge.proofs.Demands.{observing-follows}
 use Rattle.text.specs.Text.{answerLine, refusalLine}
 use Rattle.text.specs.Output.{linesFrom, watchText, printed, printedAs}
 use Rattle.text.specs.Built.{repliesText, RepliesReady}
-use Rattle.text.proofs.put.Laws.{Putting, putting-start, putting-more, lines-room, all-put, put-once}
+use Rattle.text.proofs.put.Laws.{Putting, putting-start, putting-more, lines-room, all-put}
 
 -- the lines of the machine's replies to the records from a place on
 abbrev pub linesAt : SheetValue → List Instant → List ℕ → ℕ → List ℕ
@@ -71,10 +71,10 @@ module _ {log out₀ out : List ℕ} {m₀ m : Monitor} {end at : ℕ} (w : Tell
       refused-lines = rw (next-replies h s (w .run), ← same-reply, e) (sym (append-nil (refusalLine n)))
 
       pub refused-room : end + length (refusalLine n) ≤ length out
-      refused-room = lines-room (w .putting) refused-lines (ready .room)
+      refused-room = lines-room (w .putting) (refusalLine n) [] refused-lines (ready .room)
 
       pub told-refused : {next : List ℕ} {last : ℕ} → next ≡ puts out end (refusalLine n) → last ≡ end + length (refusalLine n) → printedAs last next ≡ printed (repliesText m₀ log) out₀
-      told-refused q f = all-put (putting-more (w .putting) refused-lines q f) refl (ready .room)
+      told-refused q f = all-put (putting-more (w .putting) (refusalLine n) [] refused-lines q f) refl (ready .room)
 
     module _ {a : code.Answer} (e : g .reply ≡ reply.Answered a) where
       one-more : length after ≡ suc (length (w .run))
@@ -89,10 +89,10 @@ module _ {log out₀ out : List ℕ} {m₀ m : Monitor} {end at : ℕ} (w : Tell
       answered-lines = rw (next-replies h s (w .run), ← same-reply, e, ← one-more, ← follows-after .instants)
 
       pub answered-room : end + length line ≤ length out
-      answered-room = lines-room (w .putting) answered-lines (ready .room)
+      answered-room = lines-room (w .putting) line (linesAt s after log (at + length p)) answered-lines (ready .room)
 
       pub told-more : {next : List ℕ} {last : ℕ} → next ≡ puts out end line → last ≡ end + length line → Telling log out₀ m₀ next (g .monitor) last (at + length p)
-      told-more q f = record { run = after; follows = follows-after; putting = putting-more (w .putting) answered-lines q f }
+      told-more q f = record { run = after; follows = follows-after; putting = putting-more (w .putting) line (linesAt s after log (at + length p)) answered-lines q f }
 
 -- ---- the opening
 
