@@ -1,12 +1,13 @@
 // Columns: a line per tag, with its raw word and the count in hundredths of a degree.
 use crate::file::LOG_ROOM;
 use crate::file::SHEET_ROOM;
+use crate::file::front;
 use crate::file::read_file;
 use libc::STDOUT_FILENO;
 use text::columns::COLUMNS_ROOM;
 use text::columns::columns_text;
-ghost use Prim.Native.Nat.{_≤_};
 ghost use lib.ListN.{take};
+ghost use Rattle.io.specs.Counts.{Counts};
 ghost use Rattle.text.specs.Output.{columnsText};
 ghost use Rattle.programs.specs.Files.{FilesPrinted};
 
@@ -18,10 +19,10 @@ fn columns_files(
     n: usize,
     out: &mut [u8; COLUMNS_ROOM],
 ) -> usize
-    requires { do ⌜ (m ≤ (← ⟦SHEET_ROOM⟧)) × (n ≤ (← ⟦LOG_ROOM⟧)) ⌝ }
+    requires { ⌜ Counts m (now sheet) × Counts n (now log) ⌝ }
     ensures { λ r. do ⌜ FilesPrinted columnsText (← ⟦SHEET_ROOM⟧ .entry) (← ⟦LOG_ROOM⟧ .entry) (take m (now (sheet .entry))) (take n (now (log .entry))) (now (out .entry)) r (now (out .exit)) ⌝ }
 {
-    columns_text(&sheet[..m], &log[..n], out)
+    columns_text(front(sheet, m), front(log, n), out)
 }
 
 // The program, by the numbers of the arguments that name the sheet file and the log file.

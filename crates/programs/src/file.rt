@@ -1,5 +1,7 @@
 // The files that a program's arguments name.
 use records::number;
+ghost use mathlib.Core.Path.{_≡_};
+ghost use lib.ListN.{take};
 ghost use Rattle.io.specs.Counts.{Counts};
 
 // The length of a body is a word.
@@ -15,6 +17,14 @@ pub(crate) const SHEET_ROOM: usize = number::HEAD_LENGTH
 pub(crate) const LOG_ROOM: usize = number::MAX_INSTANTS
     * (number::HEAD_LENGTH + number::CELL_LENGTH * number::MAX_CLOCKS as usize)
     + LONGEST_RECORD;
+
+// The bytes that were read.
+pub(crate) fn front(buffer: &[u8], n: usize) -> &[u8]
+    requires { ⌜ Counts n (now buffer) ⌝ }
+    ensures { λ r. ⌜ now r ≡ take n (now (buffer .entry)) ⌝ }
+{
+    &buffer[..n]
+}
 
 // Puts the file that an argument names at the buffer's front, as far as it has room, and says how many bytes that are. A file that isn't named or can't be opened counts as empty; a read that fails ends the file.
 pub(crate) fn read_file(argument: usize, buffer: &mut [u8]) -> usize

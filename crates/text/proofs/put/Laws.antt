@@ -48,11 +48,11 @@ module _ {text out₀ out : List ℕ} {end : ℕ} {rest : List ℕ} (w : Putting
     putting-more q f =
         let k : end ≡ 0 + length (w .done) = omega (arith, w .ends) in
         record {
-      done = w .done ++ lines;
-      whole = append-assoc (w .done) lines later ∙ rw (← e) (w .whole);
-      ends = omega (arith, length-append (w .done) lines, w .ends);
-      stored = puts-both out₀ 0 (w .done) lines (w .stored) (q ∙ rw k);
-    }
+          done = w .done ++ lines;
+          whole = append-assoc (w .done) lines later ∙ rw (← e) (w .whole);
+          ends = omega (arith, length-append (w .done) lines, w .ends);
+          stored = puts-both out₀ 0 (w .done) lines (w .stored) (q ∙ rw k);
+        }
 
   pub all-put : rest ≡ [] → length text ≤ length out₀ → printedAs end out ≡ printed text out₀
   all-put e room =
