@@ -57,7 +57,7 @@ last-tag (f ∷ (g ∷ run)) o =
 abbrev pub MetFrom : ℕ → List Filled → Obligation → Type 0
 MetFrom k run o = (m : ℕ) × (k ≤ m) × (m < length run) × Ticking run (o .clock) m × (tag run (o .on) m ≡ o .due)
 
-met-from : (k : ℕ) (run : List Filled) (o : Obligation) → T (any (λ (f : Filled). meets f o) (drop k run)) ↔ MetFrom k run o
+pub met-from : (k : ℕ) (run : List Filled) (o : Obligation) → T (any (λ (f : Filled). meets f o) (drop k run)) ↔ MetFrom k run o
 met-from k run o = (λ t. found (any-find (λ (f : Filled). meets f o) (drop k run) noInstant t), back)
   where
     ticks : ℕ → Bool

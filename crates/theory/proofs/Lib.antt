@@ -20,6 +20,8 @@ pub mod Limits
 pub mod Opened
 pub mod Accepted
 pub mod Tracks
+-- The unmet obligations, with quantifiers.
+pub mod Unmet
 -- Demand 2, for runs without unseen ticks.
 pub mod Seen
 -- Demand 3, for a monitor of any kind.

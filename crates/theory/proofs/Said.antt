@@ -18,6 +18,7 @@ use Rattle.tesl.specs.Fits.{Obligation, unmet, fits}
 use Rattle.tesl.specs.Remainder.{Remainder, remainder, sameRemainder, sameObligation, owes}
 use Rattle.tesl.specs.Answer.{Standing, clear, owed, Answer, exhausted, broken, holding, remainders, tooMany, standing, judged, answer}
 use Rattle.theory.specs.Sets.{apart}
+use Rattle.theory.specs.Unmet.{Unmet, NoneUnmet}
 use Rattle.theory.specs.Said.{Along, TickAs, FillsInstant, Fills, Fitting, sameLeft, Leaves, Live, Owing, TooMany, Exhausts, Said}
 use Rattle.tesl.proofs.Tests.{or-l, or-r, or-e}
 use Rattle.tesl.proofs.Formula.{fits-holds}
@@ -25,6 +26,7 @@ use Rattle.theory.proofs.Lists.{any-map, member-any, any-member}
 use Rattle.theory.proofs.Members.{mem-flatMap, of-flatMap, distinct-map, mem-filter, of-filter, of-distinct, each-of, of-each, no-more, some-of, of-beginnings, a-beginning}
 use Rattle.theory.proofs.Sets.{Equivalence, distinct-set, distinct-apart}
 use Rattle.theory.proofs.Respect.{owed-equivalence, remainder-equivalence, owes-same}
+use Rattle.theory.proofs.Unmet.{unmet-listed, none-unmet}
 use Rattle.theory.proofs.Seen.{none-owed, clear-when}
 
 -- ---- the fillings of a run are those listed
@@ -154,12 +156,12 @@ owing-number s run n = (
       let os = unmet (s .lines) (w .filling) in
       let k = no-more sameObligation owed-equivalence (w .these) (distinct sameObligation os) (w .no-two)
       (λ o m. any-member (sameObligation o) (distinct sameObligation os)
-      (subst T (sym (distinct-set sameObligation owed-equivalence os o)) (member-any (sameObligation o) (of-each (λ (p : Obligation). List·Memᴰ p os) (w .each-unmet) m) (owed-equivalence .reflex o)))) in
+      (subst T (sym (distinct-set sameObligation owed-equivalence os o)) (member-any (sameObligation o) (unmet-listed (s .lines) (w .filling) o .1 (of-each (Unmet (s .lines) (w .filling)) (w .each-unmet) m)) (owed-equivalence .reflex o)))) in
       (w .filling, w .fits, omega (arith, w .number)),
   λ h.
       let os = unmet (s .lines) (h .0) in
-      let r = some-of sameObligation (λ (o : Obligation). List·Memᴰ o os) (distinct sameObligation os) n (h .2)
-      (each-of (λ (o : Obligation). List·Memᴰ o os) (distinct sameObligation os) (λ o m. of-distinct sameObligation os m)) (distinct-apart sameObligation owed-equivalence os) in
+      let r = some-of sameObligation (Unmet (s .lines) (h .0)) (distinct sameObligation os) n (h .2)
+      (each-of (Unmet (s .lines) (h .0)) (distinct sameObligation os) (λ o m. unmet-listed (s .lines) (h .0) o .0 (of-distinct sameObligation os m))) (distinct-apart sameObligation owed-equivalence os) in
       record { filling = h .0; fits = h .1; these = r .0; number = r .1; each-unmet = r .2; no-two = r .3 },
 )
 
@@ -216,15 +218,15 @@ clear-of : (b : Bool) → T b → cond b clear owed ≡ clear
 clear-of true t = refl
 clear-of false t = absurd t
 
-clear-exactly : (s : SheetValue) (run : List Instant) → (standing (map (remainder s) (kept s run)) ≡ clear) ↔ ((f : List Filled) × Fitting s run f × (unmet (s .lines) f ≡ []))
+clear-exactly : (s : SheetValue) (run : List Instant) → (standing (map (remainder s) (kept s run)) ≡ clear) ↔ ((f : List Filled) × Fitting s run f × NoneUnmet (s .lines) f)
 unfolding remainder owes
 clear-exactly s run = (
   λ e.
       let m = any-member (λ (f : List Filled). none (remainder s f)) ks (subst T (any-map none (remainder s) ks) (clear-when (any none (map (remainder s) ks)) e)) in
-      (m .0, of-each (Fitting s run) (kept-fits s run) (m .1), none-owed (unmet (s .lines) (m .0)) (eqb→eq (owes (remainder s (m .0))) 0 (m .2))),
+      (m .0, of-each (Fitting s run) (kept-fits s run) (m .1), none-unmet (s .lines) (m .0) .0 (none-owed (unmet (s .lines) (m .0)) (eqb→eq (owes (remainder s (m .0))) 0 (m .2)))),
   λ h.
       let g = kept-all s run (h .0) (h .1) in
-      let e : owes (remainder s (g .0)) ≡ 0 = sym (owes-same (remainder s (h .0)) (remainder s (g .0)) (g .2)) ∙ ap (λ (os : List Obligation). length (distinct sameObligation os)) (h .2) in
+      let e : owes (remainder s (g .0)) ≡ 0 = sym (owes-same (remainder s (h .0)) (remainder s (g .0)) (g .2)) ∙ ap (λ (os : List Obligation). length (distinct sameObligation os)) (none-unmet (s .lines) (h .0) .1 (h .2)) in
       clear-of (any none (map (remainder s) ks)) (subst T (sym (any-map none (remainder s) ks))
       (member-any (λ (f : List Filled). none (remainder s f)) (g .1) (subst (λ (n : ℕ). T (eqb n 0)) (sym e) (eqb-refl 0)))),
 )
@@ -247,7 +249,7 @@ answer-said s run =
     over = any (λ (b : List Instant). tooMany (remainders s b)) (beginnings run)
 
     Clear : Standing → Type 0
-    Clear st = (st ≡ clear) ↔ ((f : List Filled) × Fitting s run f × (unmet (s .lines) f ≡ []))
+    Clear st = (st ≡ clear) ↔ ((f : List Filled) × Fitting s run f × NoneUnmet (s .lines) f)
 
     by-test : (b : Bool) (ks : List (List Filled)) → T b ↔ Exhausts s run → (l : Live s run (length ks)) → l .leaves .these ≡ ks → Clear (standing (map (remainder s) ks))
         → Said s run (cond b exhausted (judged (map (remainder s) ks)))

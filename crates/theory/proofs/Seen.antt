@@ -1,8 +1,8 @@
--- Runs without unseen ticks: there is one filling, the answer is broken exactly when TESL's formulas fail for it, and else it is holding with live 1, clear exactly when nothing is owed.
+-- Runs without unseen ticks: there is one filling, the answer is broken exactly when TESL's formulas fail for it, and else it is holding with live 1, clear exactly when no obligation is unmet.
 -- And in a fitting run no precedes line has B ahead of A. Assumes nothing.
 use mathlib.Core.Bool.{Bool, true, false, cond, _||_}
 use mathlib.Core.List.{List, [], _∷_, _++_, map}
-use mathlib.Core.Logic.{_↔_, _≢_}
+use mathlib.Core.Logic.{_↔_, _≢_, Iff·trans}
 use mathlib.Core.Path.{_≡_, refl, sym, ap, _∙_}
 use Prim.Native.Nat.{ℕ, zero, suc, _≤_}
 use native.Mathlib.Nat.{le-refl}
@@ -22,10 +22,12 @@ use Rattle.tesl.specs.Fits.{ticksIn, Obligation, unmet, fits}
 use Rattle.tesl.specs.Remainder.{remainder, sameRemainder, sameObligation, owes}
 use Rattle.tesl.specs.Answer.{Standing, clear, owed, exhausted, broken, holding, remainders, tooMany, standing, judged, answer}
 use Rattle.tesl.specs.Formula.{ticksBelow, Holds, NoneFalls, EachHolds}
+use Rattle.theory.specs.Unmet.{NoneUnmet}
 use Rattle.theory.specs.Seen.{isSeen, Seen, ticked, seenRun, SeenJudged}
 use Rattle.tesl.proofs.Tests.{and-l, and-r, or-e, T→≡}
 use Rattle.tesl.proofs.FormulaOwed.{ticks-below}
 use Rattle.tesl.proofs.Formula.{fits-holds}
+use Rattle.theory.proofs.Unmet.{none-unmet}
 
 -- ---- precedence: the subtraction of a remainder's leads cuts nothing
 
@@ -141,13 +143,13 @@ seen-judged s run t n = record {
     said = not-exhausted s run n ∙ ap judged (one-remainder s run f (one-filling run t))
 
     Holding : Type 0
-    Holding = (standing : Standing) × (answer s run ≡ holding 1 standing) × ((standing ≡ clear) ↔ (unmet (s .lines) f ≡ []))
+    Holding = (standing : Standing) × (answer s run ≡ holding 1 standing) × ((standing ≡ clear) ↔ NoneUnmet (s .lines) f)
 
     holds : NoneFalls (s .clocks) f × EachHolds (s .lines) f → Holding
     holds h = (
       standing (remainder s f ∷ []),
       said ∙ ap (λ (b : Bool). judged (cond b (remainder s f ∷ []) [])) (T→≡ (fits s f) ((fits-holds s f) .1 h)),
-      clear-exactly s f,
+      Iff·trans (clear-exactly s f) (none-unmet (s .lines) f),
     )
 
     breaks : (NoneFalls (s .clocks) f × EachHolds (s .lines) f → ⊥) → answer s run ≡ broken

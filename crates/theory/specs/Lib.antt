@@ -5,6 +5,8 @@
 pub mod Sets
 -- a run of opening and calls, and what each answers
 pub mod Session
+-- unmet obligations in document 01's words
+pub mod Unmet
 -- runs without unseen ticks (demand 2)
 pub mod Seen
 -- the answer in document 01's words (demand 3)

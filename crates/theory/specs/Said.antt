@@ -1,5 +1,5 @@
 -- What is answered for a run, in document 01's words and with quantifiers: what fills a run, which fillings fit, what they leave, and the first answer that applies.
--- Nothing here is taken from the executable definitions of a run's fillings and of `answer`. Assumes nothing.
+-- Nothing here is taken from the executable definitions of a run's fillings and of `answer`; `sameLeft` alone compares executable remainders. Assumes nothing.
 use mathlib.Core.Bool.{Bool, true, false}
 use mathlib.Core.List.{List, [], _∷_, _++_, List·Memᴰ}
 use mathlib.Core.Logic.{_↔_, _≢_, _⊎_}
@@ -12,11 +12,12 @@ use Rattle.records.specs.declared.instant.Tick.the-variants.{Idle, Ticks, Unsee
 use Rattle.records.specs.Sheet.{SheetValue}
 use Rattle.records.specs.Types.{All}
 use Rattle.tesl.specs.Run.{Instant, ticksOf, tagsOf, Filled}
-use Rattle.tesl.specs.Fits.{Obligation, unmet}
+use Rattle.tesl.specs.Fits.{Obligation}
 use Rattle.tesl.specs.Remainder.{remainder, sameObligation, sameRemainder}
 use Rattle.tesl.specs.Answer.{Standing, clear, Answer, exhausted, broken, holding}
 use Rattle.tesl.specs.Formula.{NoneFalls, EachHolds}
 use Rattle.theory.specs.Sets.{apart}
+use Rattle.theory.specs.Unmet.{Unmet, NoneUnmet}
 
 -- ---- a filling gives each unseen tick of a run the value idle or tick
 
@@ -73,7 +74,7 @@ pub record Owing (s : SheetValue) (run : List Instant) (n : ℕ) : Type 0 where
   pub fits : Fitting s run filling
   pub these : List Obligation
   pub number : length these ≡ n
-  pub each-unmet : All (λ (o : Obligation). List·Memᴰ o (unmet (s .lines) filling)) these
+  pub each-unmet : All (Unmet (s .lines) filling) these
   pub no-two : T (apart sameObligation these)
 
 -- ---- the answer, the first that applies
@@ -97,4 +98,4 @@ pub record Said (s : SheetValue) (run : List Instant) (a : Answer) : Type 0 wher
   pub breaks : a ≢ exhausted → (a ≡ broken) ↔ ((f : List Filled) → Fitting s run f → ⊥)
   -- else holding with the number of distinct remainders, clear exactly when one of them has no obligation
   pub holds : (live : ℕ) (standing : Standing) → a ≡ holding live standing
-      → Live s run live × ((standing ≡ clear) ↔ ((f : List Filled) × Fitting s run f × (unmet (s .lines) f ≡ [])))
+      → Live s run live × ((standing ≡ clear) ↔ ((f : List Filled) × Fitting s run f × NoneUnmet (s .lines) f))

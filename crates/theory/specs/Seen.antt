@@ -1,6 +1,6 @@
 -- Runs whose ticks were all seen, their one filling, and what is answered for them. Assumes nothing.
 use mathlib.Core.Bool.{Bool, true, false}
-use mathlib.Core.List.{List, [], map}
+use mathlib.Core.List.{List, map}
 use mathlib.Core.Logic.{_↔_, _≢_}
 use mathlib.Core.Path.{_≡_}
 use lib.Dec.{T}
@@ -9,9 +9,9 @@ use Rattle.records.specs.declared.instant.Tick.the-variants.{Idle, Ticks, Unsee
 use Rattle.records.specs.Sheet.{SheetValue}
 use Rattle.tesl.specs.Lists.{all}
 use Rattle.tesl.specs.Run.{Instant, ticksOf, tagsOf, Filled}
-use Rattle.tesl.specs.Fits.{unmet}
 use Rattle.tesl.specs.Answer.{Standing, clear, Answer, exhausted, broken, holding}
 use Rattle.tesl.specs.Formula.{NoneFalls, EachHolds}
+use Rattle.theory.specs.Unmet.{NoneUnmet}
 
 abbrev pub isSeen : Tick → Bool
 isSeen Idle = true
@@ -35,8 +35,8 @@ seenRun run = map (λ (i : Instant). record { ticks = map ticked (ticksOf i); ta
 pub record JudgedAs (s : SheetValue) (run : List Instant) (a : Answer) : Type 0 where
   -- broken exactly when a tag falls or a line does not hold
   pub breaks : (a ≡ broken) ↔ (NoneFalls (s .clocks) (seenRun run) × EachHolds (s .lines) (seenRun run) → ⊥)
-  -- else holding with live 1, clear exactly when nothing is owed
-  pub else-holds : a ≢ broken → (standing : Standing) × (a ≡ holding 1 standing) × ((standing ≡ clear) ↔ (unmet (s .lines) (seenRun run) ≡ []))
+  -- else holding with live 1, clear exactly when no obligation is unmet
+  pub else-holds : a ≢ broken → (standing : Standing) × (a ≡ holding 1 standing) × ((standing ≡ clear) ↔ NoneUnmet (s .lines) (seenRun run))
 
 -- demand 2 of one answer
 abbrev pub SeenJudged : SheetValue → List Instant → Answer → Type 0

@@ -1,0 +1,34 @@
+-- Unmet obligations, in document 01's words and with quantifiers over the numbers of instants.
+-- Nothing here is taken from the executable definition `unmet`. Assumes nothing.
+use mathlib.Core.List.{List, List·Memᴰ}
+use mathlib.Core.Path.{_≡_}
+use Prim.Native.Nat.{ℕ, _<_}
+use lib.IntN.{ℤ, pos, _+ℤ_}
+use lib.ListN.{length}
+use Rattle.records.specs.declared.line.Line.{Line}
+use Rattle.records.specs.declared.line.Line.the-variants.{Sporadic, Delayed}
+use Rattle.tesl.specs.Run.{Filled}
+use Rattle.tesl.specs.Fits.{Obligation}
+use Rattle.tesl.specs.Formula.{Ticking, tag}
+
+-- an obligation is met by a tick of its clock at an instant, here number m, whose on-tag equals the due
+abbrev pub MetAt : List Filled → Obligation → ℕ → Type 0
+MetAt run o m = (m < length run) × Ticking run (o .clock) m × (tag run (o .on) m ≡ o .due)
+
+-- an unmet obligation of a filled run; `unmet` lists these and no others: `unmet-listed`, proofs/Unmet.antt
+pub data Unmet (ls : List Line) (run : List Filled) (o : Obligation) : Type 0 where
+  -- a sporadic line is one from the start, with clock A, due t, on B; no instant meets it
+  sporadic : (A B : ℕ) (t : ℤ) → List·Memᴰ (Sporadic A B t) ls
+      → o ≡ record { clock = A; due = t; on = B }
+      → ((m : ℕ) → MetAt run o m → ⊥)
+      → Unmet ls run o
+  -- each tick of A of a delay line, here at instant n, begins one: clock D, due tag(B) + d, on B; no later instant meets it
+  delayed : (A B D d : ℕ) → List·Memᴰ (Delayed A B D d) ls
+      → (n : ℕ) → n < length run → Ticking run A n
+      → o ≡ record { clock = D; due = tag run B n +ℤ pos d; on = B }
+      → ((m : ℕ) → n < m → MetAt run o m → ⊥)
+      → Unmet ls run o
+
+-- no obligation is unmet
+abbrev pub NoneUnmet : List Line → List Filled → Type 0
+NoneUnmet ls run = (o : Obligation) → Unmet ls run o → ⊥
