@@ -1,5 +1,5 @@
 -- The three questions together are what theory asks of a line, and what a line makes of what is carried is theory's. Assumes nothing.
-use mathlib.Core.Bool.{Bool, true, false, not, cond, _&&_, _||_, and-true, and-false, or-true, or-false}
+use mathlib.Core.Bool.{Bool, true, false, cond, _&&_, _||_, and-true, and-false, or-true, or-false}
 use mathlib.Core.List.{List, [], _∷_}
 use mathlib.Core.Path.{_≡_, refl, sym, ap, _∙_}
 use Prim.Native.Nat.{ℕ, _<_}
@@ -16,19 +16,12 @@ use Rattle.theory.specs.Step.{lineOk, linesOk, nextLead}
 use Rattle.judge.specs.View.{filledOf}
 use Rattle.judge.specs.Questions.{tickIn, tagsHold, ticksHold, carriedHolds, leadAfter, stoppedAfter}
 
--- B ticks neither after A nor with it
-kills : (b s a : Bool) → not (b && (s || a)) ≡ (not (b && a) && not (b && s))
-kills false s a = refl
-kills true false a = sym (and-true (not a))
-kills true true true = refl
-kills true true false = refl
-
-module _ (ticks : List Bool) (tags : List ℤ) (stopped : List Bool) where
-  pub line-ok : (l : Line) (lead : ℕ) → lineOk (filledOf ticks tags) stopped l lead ≡ (tagsHold tags l && (ticksHold ticks l && carriedHolds ticks stopped l lead))
+module _ (ticks : List Bool) (tags : List ℤ) where
+  pub line-ok : (l : Line) (lead : ℕ) → lineOk (filledOf ticks tags) l lead ≡ (tagsHold tags l && (ticksHold ticks l && carriedHolds ticks l lead))
   line-ok (Relation A B p q) lead = sym (and-true _)
   line-ok (Implies A B) lead = sym (and-true _)
   line-ok (Excludes A B) lead = sym (and-true _)
-  line-ok (Kills A B) lead = kills (tickIn ticks B) (tickIn stopped B) (tickIn ticks A)
+  line-ok (Kills A B) lead = sym (and-true _)
   line-ok (Weakly A B) lead = refl
   line-ok (Strictly A B) lead = refl
   line-ok (Sporadic A B t) lead = refl
@@ -44,14 +37,14 @@ regroup true true false true false z = refl
 regroup true true false true true z = refl
 regroup true true true x y z = refl
 
-module _ (ticks : List Bool) (tags : List ℤ) (stopped : List Bool) where
-  one-more : (l : Line) (n : ℕ) (x y z : Bool) {t : Bool} → t ≡ (x && (y && z)) → (lineOk (filledOf ticks tags) stopped l n && t) ≡ ((tagsHold tags l && x) && ((ticksHold ticks l && y) && (carriedHolds ticks stopped l n && z)))
-  one-more l n x y z e = rw (line-ok ticks tags stopped l n, e) (regroup (tagsHold tags l) (ticksHold ticks l) (carriedHolds ticks stopped l n) x y z)
+module _ (ticks : List Bool) (tags : List ℤ) where
+  one-more : (l : Line) (n : ℕ) (x y z : Bool) {t : Bool} → t ≡ (x && (y && z)) → (lineOk (filledOf ticks tags) l n && t) ≡ ((tagsHold tags l && x) && ((ticksHold ticks l && y) && (carriedHolds ticks l n && z)))
+  one-more l n x y z e = rw (line-ok ticks tags l n, e) (regroup (tagsHold tags l) (ticksHold ticks l) (carriedHolds ticks l n) x y z)
 
-  pub lines-ok : (ls : List Line) (leads : List ℕ) → linesOk (lineOk (filledOf ticks tags) stopped) ls leads ≡ (all (tagsHold tags) ls && (all (ticksHold ticks) ls && linesOk (carriedHolds ticks stopped) ls leads))
+  pub lines-ok : (ls : List Line) (leads : List ℕ) → linesOk (lineOk (filledOf ticks tags)) ls leads ≡ (all (tagsHold tags) ls && (all (ticksHold ticks) ls && linesOk (carriedHolds ticks) ls leads))
   lines-ok [] leads = refl
-  lines-ok (l ∷ ls) [] = one-more l 0 (all (tagsHold tags) ls) (all (ticksHold ticks) ls) (linesOk (carriedHolds ticks stopped) ls []) (lines-ok ls [])
-  lines-ok (l ∷ ls) (n ∷ leads) = one-more l n (all (tagsHold tags) ls) (all (ticksHold ticks) ls) (linesOk (carriedHolds ticks stopped) ls leads) (lines-ok ls leads)
+  lines-ok (l ∷ ls) [] = one-more l 0 (all (tagsHold tags) ls) (all (ticksHold ticks) ls) (linesOk (carriedHolds ticks) ls []) (lines-ok ls [])
+  lines-ok (l ∷ ls) (n ∷ leads) = one-more l n (all (tagsHold tags) ls) (all (ticksHold ticks) ls) (linesOk (carriedHolds ticks) ls leads) (lines-ok ls leads)
 
 pub lead-after : (ticks : List Bool) (tags : List ℤ) (l : Line) (lead : ℕ) → nextLead (filledOf ticks tags) l lead ≡ leadAfter ticks l lead
 lead-after ticks tags (Weakly A B) lead = refl

@@ -1,35 +1,13 @@
 -- What a filling makes of the leads and stopped clocks, by what depends on the filling alone.
-use mathlib.Core.Bool.{Bool, true, false, cond, _&&_, _||_}
+use mathlib.Core.Bool.{Bool, _||_}
 use mathlib.Core.List.{List, [], _∷_}
 use Prim.Native.Nat.{ℕ, _-_}
-use lib.ListN.{set}
 use Rattle.records.specs.declared.line.Line.{Line}
 use Rattle.records.specs.declared.line.Line.the-variants.{Sporadic, Relation, Implies, Excludes, Delayed, Weakly, Strictly, Kills}
 use Rattle.theory.specs.Step.{bit}
 use Rattle.judge.specs.Questions.{tickIn}
 
 -- ---- stopped clocks
-
--- the clocks that tick and that a kills line may have stopped
-abbrev pub barredBy : List Bool → Line → List Bool → List Bool
-barredBy ticks (Kills A B) barred = cond (tickIn ticks B) (set barred B true) barred
-barredBy ticks (Sporadic A B t) barred = barred
-barredBy ticks (Relation A B p q) barred = barred
-barredBy ticks (Implies A B) barred = barred
-barredBy ticks (Excludes A B) barred = barred
-barredBy ticks (Delayed A B D d) barred = barred
-barredBy ticks (Weakly A B) barred = barred
-barredBy ticks (Strictly A B) barred = barred
-
-abbrev pub allBarred : List Bool → List Line → List Bool → List Bool
-allBarred ticks [] barred = barred
-allBarred ticks (l ∷ ls) barred = allBarred ticks ls (barredBy ticks l barred)
-
--- some clock is in both
-abbrev pub overlap : List Bool → List Bool → Bool
-overlap [] ys = false
-overlap (x ∷ xs) [] = false
-overlap (x ∷ xs) (y ∷ ys) = (x && y) || overlap xs ys
 
 -- the clocks in either
 abbrev pub either : List Bool → List Bool → List Bool

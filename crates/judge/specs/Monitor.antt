@@ -14,7 +14,6 @@ use Rattle.records.specs.Sheet.{SheetValue, sheetValue, sheetOf}
 use Rattle.tesl.specs.Lists.{all, flatMap}
 use Rattle.tesl.specs.Fits.{Obligation, owedAtStart}
 use Rattle.tesl.specs.Remainder.{Remainder}
-use Rattle.theory.specs.Step.{wellFormed}
 use Rattle.judge.specs.declared.remainder.Remainder as arrays
 use Rattle.judge.specs.declared.held.Count.the-variants.{Live}
 use Rattle.judge.specs.declared.answer.Reply.the-variants as reply
@@ -64,7 +63,6 @@ refusal n m = record { reply = reply.Refused n; monitor = m }
 pub record Workable (m : Monitor) : Type 0 where
   pub lines : m .sheet .count ≤ 16
   pub clocks : m .sheet .clocks ≤ 8
-  pub below : T (wellFormed (sheetBy m))
   pub room : m .instants < 4000
   pub leads : T (all smallLeads (liveOf (sheetBy m) (m .held)))
   pub fits : T (sized (m .held))

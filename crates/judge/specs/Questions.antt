@@ -40,16 +40,16 @@ ticksHold ticks (Delayed A B D d) = true
 ticksHold ticks (Weakly A B) = true
 ticksHold ticks (Strictly A B) = true
 
--- of a kills line: its A at an instant before
-abbrev pub carriedHolds : List Bool → List Bool → Line → ℕ → Bool
-carriedHolds ticks stopped (Kills A B) lead = not (tickIn ticks B && tickIn stopped B)
-carriedHolds ticks stopped (Weakly A B) lead = leb (bit (tickIn ticks B)) (lead + bit (tickIn ticks A))
-carriedHolds ticks stopped (Strictly A B) lead = leb (bit (tickIn ticks B)) lead
-carriedHolds ticks stopped (Sporadic A B t) lead = true
-carriedHolds ticks stopped (Relation A B p q) lead = true
-carriedHolds ticks stopped (Implies A B) lead = true
-carriedHolds ticks stopped (Excludes A B) lead = true
-carriedHolds ticks stopped (Delayed A B D d) lead = true
+-- what a kills line has stopped bars by itself
+abbrev pub carriedHolds : List Bool → Line → ℕ → Bool
+carriedHolds ticks (Weakly A B) lead = leb (bit (tickIn ticks B)) (lead + bit (tickIn ticks A))
+carriedHolds ticks (Strictly A B) lead = leb (bit (tickIn ticks B)) lead
+carriedHolds ticks (Sporadic A B t) lead = true
+carriedHolds ticks (Relation A B p q) lead = true
+carriedHolds ticks (Implies A B) lead = true
+carriedHolds ticks (Excludes A B) lead = true
+carriedHolds ticks (Delayed A B D d) lead = true
+carriedHolds ticks (Kills A B) lead = true
 
 -- ---- what is carried on
 

@@ -1,5 +1,5 @@
 -- What an instant makes of the remainders held, in the order in which the monitor works: `none` once exhausted.
-use mathlib.Core.Bool.{Bool, true, false, cond, _&&_, Bool·beq}
+use mathlib.Core.Bool.{Bool, true, false, not, cond, _&&_, Bool·beq}
 use mathlib.Core.List.{List, [], _∷_, _++_}
 use mathlib.Core.Option.{Option, none, some}
 use Prim.Native.Nat.{ℕ, _+_}
@@ -13,7 +13,7 @@ use Rattle.tesl.specs.Lists.{all, any, flatMap, within, sameList}
 use Rattle.tesl.specs.Run.{Filled}
 use Rattle.tesl.specs.Fits.{Obligation, noneFalls, owedFrom}
 use Rattle.tesl.specs.Remainder.{Remainder, sameObligation}
-use Rattle.theory.specs.Step.{linesOk, nextLeads}
+use Rattle.theory.specs.Step.{overlap, linesOk, nextLeads}
 use Rattle.judge.specs.Advanced.{Advanced, fails, over, onto}
 use Rattle.judge.specs.View.{filledOf}
 use Rattle.judge.specs.Questions.{tagsHold, ticksHold, carriedHolds, leadAfter}
@@ -44,10 +44,10 @@ abbrev pub withKept : SheetValue → List Bool → List Obligation → Remainder
 withKept v ticks begun r none = fails
 withKept v ticks begun r (some os) = withBegun v ticks r (addedAll begun os)
 
--- by what is carried, what is met or late, and what is begun
+-- by the stopped clocks, the leads, what is met or late, and what is begun
 unfoldable pub advanced : SheetValue → Filled → List Obligation → Remainder → Advanced
 advanced v f begun r =
-    cond (linesOk (carriedHolds (f .ticks) (r .stopped)) (v .lines) (r .leads)) (withKept v (f .ticks) begun r (kept f (r .owed))) fails
+    cond (not (overlap (f .ticks) (r .stopped)) && linesOk (carriedHolds (f .ticks)) (v .lines) (r .leads)) (withKept v (f .ticks) begun r (kept f (r .owed))) fails
 
 -- ---- those held
 

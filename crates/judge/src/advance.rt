@@ -13,24 +13,26 @@ ghost use mathlib.Core.Bool.{true};
 ghost use Prim.Native.Nat.{ℕ, _+_, _-_, _≤_, _<_};
 ghost use lib.Dec.{leb};
 ghost use lib.ListN.{length, getD};
+ghost use Rattle.records.specs.Lists.{listed};
 ghost use Rattle.tesl.specs.Lists.{any, below};
 ghost use Rattle.tesl.specs.Remainder.{sameObligation};
+ghost use Rattle.theory.specs.Step.{overlap};
 ghost use Rattle.judge.specs.View.{obligationOf, filledOf};
-ghost use Rattle.judge.specs.Carried.{overlap, either};
+ghost use Rattle.judge.specs.Carried.{either};
 ghost use Rattle.judge.specs.Owed.{added, kept};
 ghost use Rattle.judge.specs.Work.{addedAll};
 ghost use Rattle.judge.specs.Begun.{begunCount, begunIn};
-ghost use Rattle.judge.specs.Rows.{rowCount, rowOwed, rowLead, rowLeads, rowStopped, provided, OwedStays};
+ghost use Rattle.judge.specs.Rows.{rowCount, rowOwed, rowLead, rowLeads, rowStop, rowStopped, provided, OwedStays};
 
-// A clock among these is stopped in row i.
-pub(crate) fn is_barred(stopped: &[bool], i: usize, barred: [bool; 8]) -> bool
-    requires { ⌜ (length (now stopped) ≡ 264) × (i < 33) ⌝ }
-    ensures { λ r. ⌜ r ≡ overlap barred (rowStopped (now (stopped .entry)) i) ⌝ }
+// A clock of the sheet that is stopped in row i ticks.
+pub(crate) fn is_barred(clocks: usize, stopped: &[bool], i: usize, ticks: [bool; 8]) -> bool
+    requires { ⌜ (clocks ≤ 8) × ((length (now stopped) ≡ 264) × (i < 33)) ⌝ }
+    ensures { λ r. ⌜ r ≡ overlap ticks (listed (rowStop (now (stopped .entry)) i) clocks) ⌝ }
 {
     let mut found = false;
     let mut k = 0;
-    while k < 8 {
-        if barred[k] {
+    while k < clocks {
+        if ticks[k] {
             if stopped[8 * i + k] {
                 found = true;
             }

@@ -23,7 +23,6 @@ ghost use Rattle.records.specs.Sheet.{sheetValue};
 ghost use Rattle.records.specs.Instant.{tickAt};
 ghost use Rattle.tesl.specs.Lists.{all, filter};
 ghost use Rattle.tesl.specs.Fits.{noneFalls};
-ghost use Rattle.theory.specs.Step.{wellFormed};
 ghost use Rattle.judge.specs.View.{live, seenOf, tagsBefore};
 ghost use Rattle.judge.specs.Questions.{tagsHold};
 ghost use Rattle.judge.specs.Lines.{smallLeads};
@@ -139,7 +138,7 @@ pub(crate) fn work_rows(
     outstopped: &mut [bool],
     list: &mut [bool],
 ) -> Count
-    requires { ⌜ (room ≤ 32) × ((s .count ≤ 16) × ((s .clocks ≤ 8) × (Planned s plan (now lines) × (Roomy (rows (now marks) (now dues) (now leads) (now stopped)) × (SmallIn count 32 (now marks) × (T (all smallLeads (live (foundIn (sheetValue s) count (rows (now marks) (now dues) (now leads) (now stopped))))) × (Roomy (rows (now outmarks) (now outdues) (now outleads) (now outstopped)) × ((length (now list) ≡ 2048) × (T (wellFormed (sheetValue s))))))))))) ⌝ }
+    requires { ⌜ (room ≤ 32) × ((s .count ≤ 16) × ((s .clocks ≤ 8) × (Planned s plan (now lines) × (Roomy (rows (now marks) (now dues) (now leads) (now stopped)) × (SmallIn count 32 (now marks) × (T (all smallLeads (live (foundIn (sheetValue s) count (rows (now marks) (now dues) (now leads) (now stopped))))) × (Roomy (rows (now outmarks) (now outdues) (now outleads) (now outstopped)) × (length (now list) ≡ 2048)))))))) ⌝ }
     ensures { λ r. ⌜ (foundIn (sheetValue s) r (rows (now (outmarks .exit)) (now (outdues .exit)) (now (outleads .exit)) (now (outstopped .exit))) ≡ worked room (sheetValue s) (tagsBefore first was) (seenOf (s .clocks) (instant .ticks)) (instant .tags) (foundIn (sheetValue s) count (rows (now (marks .entry)) (now (dues .entry)) (now (leads .entry)) (now (stopped .entry))))) × (Roomy (rows (now (outmarks .exit)) (now (outdues .exit)) (now (outleads .exit)) (now (outstopped .exit))) × ((length (now (list .exit)) ≡ 2048) × SmallIn r room (now (outmarks .exit)))) ⌝ }
 {
     match count {

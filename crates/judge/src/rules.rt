@@ -13,7 +13,6 @@ ghost use lib.Dec.{ltb};
 ghost use lib.ListN.{length, replicate};
 ghost use Rattle.tesl.specs.Lists.{any};
 ghost use Rattle.judge.specs.Lines.{allStopped};
-ghost use Rattle.judge.specs.Carried.{barredBy, allBarred};
 ghost use Rattle.judge.specs.Plan.{linesIn};
 ghost use Rattle.judge.specs.Rules.{allowed, isSettled, cuts};
 
@@ -72,37 +71,6 @@ pub(crate) fn is_cut(lines: &[u16], n: usize, k: usize, ticks: [bool; 8]) -> boo
         }
     }
     false
-}
-
-// A clock that ticks and that a kills line may have stopped.
-fn barred_by(l: Line, ticks: [bool; 8], barred: [bool; 8]) -> [bool; 8]
-    ensures { λ r. ⌜ r ≡ barredBy ticks l barred ⌝ }
-{
-    match l {
-        Line::Kills { a: _, b } => {
-            if ticks_at(ticks, b) {
-                stop(barred, b)
-            } else {
-                barred
-            }
-        }
-        _ => barred,
-    }
-}
-
-pub(crate) fn all_barred(lines: &[u16], n: usize, ticks: [bool; 8]) -> [bool; 8]
-    requires { ⌜ (length (now lines) ≡ 320) × (n ≤ 16) ⌝ }
-    ensures { λ b. ⌜ b ≡ allBarred ticks (linesIn (now (lines .entry)) 32 n) (replicate 8 false) ⌝ }
-{
-    let mut barred = [false; 8];
-    let mut i = 0;
-    while i < n {
-        let l = line_in(lines, RULES + i);
-        let next = barred_by(l, ticks, barred);
-        barred = next;
-        i += 1;
-    }
-    barred
 }
 
 // The clocks that the kills lines stop.

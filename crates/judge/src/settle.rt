@@ -16,7 +16,6 @@ use crate::remainder::Remainder;
 use crate::rows::flags_at;
 use crate::rows::put_row;
 use crate::rows::row_at;
-use crate::rules::all_barred;
 use crate::rules::all_stops;
 use records::sheet::Sheet;
 ghost use mathlib.Core.Path.{_≡_};
@@ -27,7 +26,6 @@ ghost use lib.Dec.{T, leb};
 ghost use lib.ListN.{length, take};
 ghost use Rattle.records.specs.Sheet.{SheetValue, sheetValue};
 ghost use Rattle.tesl.specs.Lists.{all};
-ghost use Rattle.theory.specs.Step.{wellFormed};
 ghost use Rattle.judge.specs.declared.remainder.Remainder as arrays;
 ghost use Rattle.judge.specs.View.{viewOf, heldIn, liveOf, sized, sizedIn};
 ghost use Rattle.judge.specs.Lines.{smallLeads};
@@ -66,7 +64,7 @@ fn settle(
     outleads: &mut [u16],
     outstopped: &mut [bool],
 ) -> Count
-    requires { ⌜ (room ≤ 32) × ((s .count ≤ 16) × ((s .clocks ≤ 8) × (Planned s plan (now lines) × ((n ≤ 32) × ((found ≤ room) × (Roomy (rows (now marks) (now dues) (now leads) (now stopped)) × (Small n (now marks) × (T (all smallLeads (rowsOf (sheetValue s) n (rows (now marks) (now dues) (now leads) (now stopped)))) × (Roomy (rows (now outmarks) (now outdues) (now outleads) (now outstopped)) × (Small found (now outmarks) × (T (wellFormed (sheetValue s))))))))))))) ⌝ }
+    requires { ⌜ (room ≤ 32) × ((s .count ≤ 16) × ((s .clocks ≤ 8) × (Planned s plan (now lines) × ((n ≤ 32) × ((found ≤ room) × (Roomy (rows (now marks) (now dues) (now leads) (now stopped)) × (Small n (now marks) × (T (all smallLeads (rowsOf (sheetValue s) n (rows (now marks) (now dues) (now leads) (now stopped)))) × (Roomy (rows (now outmarks) (now outdues) (now outleads) (now outstopped)) × Small found (now outmarks)))))))))) ⌝ }
     ensures { λ r. ⌜ (foundIn (sheetValue s) r (rows (now (outmarks .exit)) (now (outdues .exit)) (now (outleads .exit)) (now (outstopped .exit))) ≡ settling room (sheetValue s) tags (rowsOf (sheetValue s) n (rows (now (marks .entry)) (now (dues .entry)) (now (leads .entry)) (now (stopped .entry)))) (some (rowsOf (sheetValue s) found (rows (now (outmarks .entry)) (now (outdues .entry)) (now (outleads .entry)) (now (outstopped .entry))))) ticks) × (Roomy (rows (now (outmarks .exit)) (now (outdues .exit)) (now (outleads .exit)) (now (outstopped .exit))) × SmallIn r room (now (outmarks .exit))) ⌝ }
 {
     let clocks = clocks_of(s);
@@ -74,7 +72,6 @@ fn settle(
     let precede = plan.precede;
     let rules = plan.rules;
     let delays = plan.delays;
-    let barred = all_barred(lines, rules, ticks);
     let stops = all_stops(lines, rules, ticks);
     let mut begun = [0u8; 33];
     let mut begundues = [0i32; 16];
@@ -86,7 +83,7 @@ fn settle(
     while i < n {
         let at = i;
         i += 1;
-        if is_barred(stopped, at, barred) {
+        if is_barred(clocks, stopped, at, ticks) {
             continue;
         }
         if !leads_hold(reach, &asks, leads, at) {
@@ -139,7 +136,7 @@ pub(crate) fn settle_all(
     outleads: &mut [u16],
     outstopped: &mut [bool],
 ) -> Count
-    requires { ⌜ (room ≤ 32) × ((s .count ≤ 16) × ((s .clocks ≤ 8) × (Planned s plan (now lines) × ((m ≤ 256) × ((length (now list) ≡ 2048) × ((n ≤ 32) × (Roomy (rows (now marks) (now dues) (now leads) (now stopped)) × (Small n (now marks) × (T (all smallLeads (rowsOf (sheetValue s) n (rows (now marks) (now dues) (now leads) (now stopped)))) × (Roomy (rows (now outmarks) (now outdues) (now outleads) (now outstopped)) × (T (wellFormed (sheetValue s))))))))))))) ⌝ }
+    requires { ⌜ (room ≤ 32) × ((s .count ≤ 16) × ((s .clocks ≤ 8) × (Planned s plan (now lines) × ((m ≤ 256) × ((length (now list) ≡ 2048) × ((n ≤ 32) × (Roomy (rows (now marks) (now dues) (now leads) (now stopped)) × (Small n (now marks) × (T (all smallLeads (rowsOf (sheetValue s) n (rows (now marks) (now dues) (now leads) (now stopped)))) × Roomy (rows (now outmarks) (now outdues) (now outleads) (now outstopped))))))))))) ⌝ }
     ensures { λ r. ⌜ (foundIn (sheetValue s) r (rows (now (outmarks .exit)) (now (outdues .exit)) (now (outleads .exit)) (now (outstopped .exit))) ≡ takenBy (settling room (sheetValue s) tags (rowsOf (sheetValue s) n (rows (now (marks .entry)) (now (dues .entry)) (now (leads .entry)) (now (stopped .entry))))) (fillingsIn (now (list .entry)) m) (some [])) × (Roomy (rows (now (outmarks .exit)) (now (outdues .exit)) (now (outleads .exit)) (now (outstopped .exit))) × SmallIn r room (now (outmarks .exit))) ⌝ }
 {
     let mut live = 0;

@@ -5,7 +5,7 @@ use mathlib.Core.Path.{_≡_, sym, _∙_, subst}
 use Prim.Native.Nat.{ℕ, suc, _≤_, _<_}
 use native.Mathlib.Omega.{arith}
 use lib.Dec.{T, leb}
-use lib.ListN.{length, getD}
+use lib.ListN.{length}
 use Rattle.records.specs.declared.line.Line.{Line}
 use Rattle.records.specs.declared.line.Line.the-variants.{Sporadic, Relation, Implies, Excludes, Delayed, Weakly, Strictly, Kills}
 use Rattle.records.specs.Line.{isSporadic, kindOf}
@@ -27,10 +27,6 @@ ordered run (Implies A B) = true
 ordered run (Excludes A B) = true
 ordered run (Delayed A B D d) = true
 ordered run (Kills A B) = true
-
--- no clock that is stopped ticks at f
-abbrev pub Quiet : List Bool → Filled → Type 0
-Quiet stopped f = (k : ℕ) → T (getD stopped k false) → T (ticksAt f k) → ⊥
 
 -- ---- the line's lead
 pub record Leads (l : Line) : Type 0 where
@@ -54,12 +50,11 @@ pub record Owes (l : Line) : Type 0 where
   pub start-dues : IsLineValue l → T (all (λ (o : Obligation). dueOk (o .due)) (owedAtStart l))
   pub begun-dues : (f : Filled) → ((k : ℕ) → IsTag (tagAt f k)) → IsLineValue l → T (all (λ (o : Obligation). dueOk (o .due)) (owedFrom f l))
 
--- ---- the step asks of it what the definition asks, where the stopped clocks are those that its kind has stopped and none ticks
+-- ---- the step asks of it what the definition asks, where no clock that it has stopped ticks
 pub record Judged (l : Line) : Type 0 where
-  pub asks : (run : List Filled) (f : Filled) (stopped : List Bool) → Quiet stopped f → T (ordered run l)
-      → T (holdsAt l run f) → T (lineOk f stopped l (leadOf run l))
-  pub suffices : (run : List Filled) (f : Filled) (stopped : List Bool) → ((k : ℕ) → T (stops run k l) → T (getD stopped k false)) → T (ordered run l)
-      → T (lineOk f stopped l (leadOf run l)) → T (holdsAt l run f)
+  pub asks : (run : List Filled) (f : Filled) → T (ordered run l) → T (holdsAt l run f) → T (lineOk f l (leadOf run l))
+  pub suffices : (run : List Filled) (f : Filled) → ((k : ℕ) → T (stops run k l) → T (ticksAt f k) → ⊥) → T (ordered run l)
+      → T (lineOk f l (leadOf run l)) → T (holdsAt l run f)
 
 pub record Law (l : Line) : Type 0 where
   pub leads : Leads l
@@ -94,8 +89,8 @@ no-owed l e g = record {
   begun-dues = λ f t v. rw (g f) tt;
 }
 
-pub by-instant : (l : Line) → ((run : List Filled) (f : Filled) (stopped : List Bool) → lineOk f stopped l (leadOf run l) ≡ holdsAt l run f) → Judged l
+pub by-instant : (l : Line) → ((run : List Filled) (f : Filled) → lineOk f l (leadOf run l) ≡ holdsAt l run f) → Judged l
 by-instant l e = record {
-  asks = λ run f stopped q o h. subst T (sym (e run f stopped)) h;
-  suffices = λ run f stopped i o h. subst T (e run f stopped) h;
+  asks = λ run f o h. subst T (sym (e run f)) h;
+  suffices = λ run f q o h. subst T (e run f) h;
 }

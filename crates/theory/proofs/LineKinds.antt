@@ -1,12 +1,11 @@
 -- The law of each kind of line, one after the other; a new kind adds its law and its clause of `law`. Assumes nothing.
-use mathlib.Core.Bool.{Bool, true, false, cond, _&&_, _||_, and-or-distrib-left}
+use mathlib.Core.Bool.{Bool, true, false, cond, _&&_, and-or-distrib-left}
 use mathlib.Core.List.{List, [], _∷_, _++_}
 use mathlib.Core.Path.{_≡_, refl, sym, subst}
 use Prim.Native.Nat.{ℕ, suc, _+_, _-_, _≤_, _<_}
 use native.Mathlib.Omega.{arith}
 use lib.Dec.{T, T-not, not-T, leb, ltb, eqb, leb→le, le→leb, ltb→lt, eqb→eq, eqb-refl}
 use lib.IntN.{ℤ, pos, _+ℤ_}
-use lib.ListN.{getD}
 use Rattle.records.specs.declared.line.Line.{Line}
 use Rattle.records.specs.declared.line.Line.the-variants.{Sporadic, Relation, Implies, Excludes, Delayed, Weakly, Strictly, Kills}
 use Rattle.records.specs.Line.{clocksOf}
@@ -39,7 +38,7 @@ sporadic-law A B t = record {
     start-dues = λ v. and-i (dueOk t) true (tag-due t (v .2)) tt;
     begun-dues = λ f g v. tt;
   };
-  judged = by-instant (Sporadic A B t) (λ run f stopped. refl);
+  judged = by-instant (Sporadic A B t) (λ run f. refl);
 }
 
 -- ---- relation, implies, excludes: by the instant alone
@@ -49,7 +48,7 @@ relation-law A B p q = record {
   leads = no-lead (Relation A B p q) (λ run. refl) (λ run. refl) (λ f n. refl);
   stops = no-stop (Relation A B p q) (λ run k. refl);
   owes = no-owed (Relation A B p q) refl (λ f. refl);
-  judged = by-instant (Relation A B p q) (λ run f stopped. refl);
+  judged = by-instant (Relation A B p q) (λ run f. refl);
 }
 
 implies-law : (A B : ℕ) → Law (Implies A B)
@@ -57,7 +56,7 @@ implies-law A B = record {
   leads = no-lead (Implies A B) (λ run. refl) (λ run. refl) (λ f n. refl);
   stops = no-stop (Implies A B) (λ run k. refl);
   owes = no-owed (Implies A B) refl (λ f. refl);
-  judged = by-instant (Implies A B) (λ run f stopped. refl);
+  judged = by-instant (Implies A B) (λ run f. refl);
 }
 
 excludes-law : (A B : ℕ) → Law (Excludes A B)
@@ -65,7 +64,7 @@ excludes-law A B = record {
   leads = no-lead (Excludes A B) (λ run. refl) (λ run. refl) (λ f n. refl);
   stops = no-stop (Excludes A B) (λ run k. refl);
   owes = no-owed (Excludes A B) refl (λ f. refl);
-  judged = by-instant (Excludes A B) (λ run f stopped. refl);
+  judged = by-instant (Excludes A B) (λ run f. refl);
 }
 
 -- ---- delayed: each tick of A begins an obligation
@@ -90,7 +89,7 @@ delayed-law A B D d = record {
     start-dues = λ v. tt;
     begun-dues = λ f g v. when-ticks (λ (o : Obligation). dueOk (o .due)) (ticksAt f A) (begun f) (delay-due (tagAt f B) d (g B) (v .3));
   };
-  judged = by-instant (Delayed A B D d) (λ run f stopped. refl);
+  judged = by-instant (Delayed A B D d) (λ run f. refl);
 }
   where
     begun : Filled → Obligation
@@ -121,9 +120,9 @@ weakly-law A B = record {
   stops = no-stop (Weakly A B) (λ run k. refl);
   owes = no-owed (Weakly A B) refl (λ f. refl);
   judged = record {
-    asks = λ run f stopped q o h. le→leb (bit (ticksAt f B)) (ticksIn A run - ticksIn B run + bit (ticksAt f A))
+    asks = λ run f o h. le→leb (bit (ticksAt f B)) (ticksIn A run - ticksIn B run + bit (ticksAt f A))
         (omega (arith, leb→le (ticksIn B run) (ticksIn A run) o, leb→le (ticksIn B (run ++ (f ∷ []))) (ticksIn A (run ++ (f ∷ []))) h, ticksIn-snoc A run f, ticksIn-snoc B run f));
-    suffices = λ run f stopped i o h. le→leb (ticksIn B (run ++ (f ∷ []))) (ticksIn A (run ++ (f ∷ [])))
+    suffices = λ run f q o h. le→leb (ticksIn B (run ++ (f ∷ []))) (ticksIn A (run ++ (f ∷ [])))
         (omega (arith, leb→le (ticksIn B run) (ticksIn A run) o, leb→le (bit (ticksAt f B)) (ticksIn A run - ticksIn B run + bit (ticksAt f A)) h, ticksIn-snoc A run f, ticksIn-snoc B run f));
   };
 }
@@ -141,9 +140,9 @@ strictly-law A B = record {
   stops = no-stop (Strictly A B) (λ run k. refl);
   owes = no-owed (Strictly A B) refl (λ f. refl);
   judged = record {
-    asks = λ run f stopped q o h. le→leb (bit (ticksAt f B)) (ticksIn A run - ticksIn B run)
+    asks = λ run f o h. le→leb (bit (ticksAt f B)) (ticksIn A run - ticksIn B run)
         (omega (arith, leb→le (ticksIn B run) (ticksIn A run) o, leb→le (ticksIn B (run ++ (f ∷ []))) (ticksIn A run) h, ticksIn-snoc B run f));
-    suffices = λ run f stopped i o h. le→leb (ticksIn B (run ++ (f ∷ []))) (ticksIn A run)
+    suffices = λ run f q o h. le→leb (ticksIn B (run ++ (f ∷ []))) (ticksIn A run)
         (omega (arith, leb→le (ticksIn B run) (ticksIn A run) o, leb→le (bit (ticksAt f B)) (ticksIn A run - ticksIn B run) h, ticksIn-snoc B run f));
   };
 }
@@ -164,22 +163,15 @@ kills-law A B = record {
   };
   owes = no-owed (Kills A B) refl (λ f. refl);
   judged = record {
-    asks = λ run f stopped q o h.
-        let dead = getD stopped B false || ticked f in
-        not-T (ticksAt f B && dead)
-        (λ t. or-e (getD stopped B false) (ticked f) (and-r (ticksAt f B) dead t)
-        (λ u. q B u (and-l (ticksAt f B) dead t))
-        (λ u. T-not (ticksAt f B && any ticked (run ++ (f ∷ []))) h
-        (and-i (ticksAt f B) (any ticked (run ++ (f ∷ []))) (and-l (ticksAt f B) dead t)
-        (subst T (sym (any-snoc ticked run f)) (or-r (any ticked run) (ticked f) u)))));
-    suffices = λ run f stopped i o h.
-        let dead = getD stopped B false || ticked f in
-        not-T (ticksAt f B && any ticked (run ++ (f ∷ [])))
-        (λ t. T-not (ticksAt f B && dead) h
-        (and-i (ticksAt f B) dead (and-l (ticksAt f B) (any ticked (run ++ (f ∷ []))) t)
-        (or-e (any ticked run) (ticked f) (subst T (any-snoc ticked run f) (and-r (ticksAt f B) (any ticked (run ++ (f ∷ []))) t))
-        (λ u. or-l (getD stopped B false) (ticked f) (i B (and-i (eqb B B) (any ticked run) (eqb-refl B) u)))
-        (λ u. or-r (getD stopped B false) (ticked f) u))));
+    asks = λ run f o h. not-T (ticksAt f B && ticked f)
+        (λ t. T-not (ticksAt f B && any ticked (run ++ (f ∷ []))) h
+        (and-i (ticksAt f B) (any ticked (run ++ (f ∷ []))) (and-l (ticksAt f B) (ticked f) t)
+        (subst T (sym (any-snoc ticked run f)) (or-r (any ticked run) (ticked f) (and-r (ticksAt f B) (ticked f) t)))));
+    suffices = λ run f q o h. not-T (ticksAt f B && any ticked (run ++ (f ∷ [])))
+        (λ t. let b = and-l (ticksAt f B) (any ticked (run ++ (f ∷ []))) t in
+        or-e (any ticked run) (ticked f) (subst T (any-snoc ticked run f) (and-r (ticksAt f B) (any ticked (run ++ (f ∷ []))) t))
+        (λ u. q B (and-i (eqb B B) (any ticked run) (eqb-refl B) u) b)
+        (λ u. T-not (ticksAt f B && ticked f) h (and-i (ticksAt f B) (ticked f) b u)));
   };
 }
   where

@@ -1,10 +1,10 @@
 -- The step: a filled run with one more instant fits where the run fits and the instant may follow its remainder, and its remainder is the step's. Assumes nothing.
-use mathlib.Core.Bool.{Bool, true, false, _&&_, _||_, and-true, and-false}
+use mathlib.Core.Bool.{Bool, true, false, not, _&&_, _||_, and-true, and-false}
 use mathlib.Core.List.{List, [], _∷_, _++_, map}
 use mathlib.Core.Option.{some}
 use mathlib.Core.Path.{_≡_, refl, sym, ap, _∙_, subst, fun-ext}
 use Prim.Native.Nat.{ℕ, zero, suc, _<_}
-use lib.Dec.{T}
+use lib.Dec.{T, T-not, not-T}
 use lib.ListN.{getD}
 use Rattle.records.specs.declared.line.Line.{Line}
 use Rattle.records.specs.Sheet.{SheetValue}
@@ -12,10 +12,10 @@ use Rattle.tesl.specs.Lists.{all, any, table, always}
 use Rattle.tesl.specs.Run.{Filled, ticksAt}
 use Rattle.tesl.specs.Fits.{lastTags, noneFalls, holdsAt, fitsAt, unmet, notLate, fits}
 use Rattle.tesl.specs.Remainder.{leadOf, stops, remainder}
-use Rattle.theory.specs.Step.{lineOk, linesOk, nextLead, nextLeads, nextOwed, next, stepOk, lineBelow, wellFormed}
+use Rattle.theory.specs.Step.{lineOk, overlap, linesOk, nextLead, nextLeads, nextOwed, next, stepOk, lineBelow, wellFormed}
 use Rattle.tesl.proofs.Tests.{and-l, and-r, and-i, or-l, or-r, or-e, T→≡}
 use Rattle.theory.proofs.Lists.{bool-ext, lastOf-map-snoc, always-snoc, snoc-ind, all-of, all-imp, table-at, table-ext}
-use Rattle.theory.proofs.Law.{ordered, Quiet}
+use Rattle.theory.proofs.Law.{ordered}
 use Rattle.theory.proofs.LineKinds.{law}
 use Rattle.theory.proofs.Owed.{unmet-snoc, unmet-clocks, earlier}
 
@@ -67,25 +67,37 @@ remainder-snoc s run f t = λ i. record {
 
 -- ---- lines
 
-module _ (run : List Filled) (f : Filled) (stopped : List Bool) where
-  all-ask : Quiet stopped f → (ls : List Line) → T (all (ordered run) ls)
-      → T (all (λ (l : Line). holdsAt l run f) ls) → T (linesOk (lineOk f stopped) ls (map (leadOf run) ls))
-  all-ask quiet [] o h = tt
-  all-ask quiet (l ∷ ls) o h =
+module _ (run : List Filled) (f : Filled) where
+  all-ask : (ls : List Line) → T (all (ordered run) ls) → T (all (λ (l : Line). holdsAt l run f) ls) → T (linesOk (lineOk f) ls (map (leadOf run) ls))
+  all-ask [] o h = tt
+  all-ask (l ∷ ls) o h =
       let hs = all (λ (l : Line). holdsAt l run f) ls in
-      and-i (lineOk f stopped l (leadOf run l)) (linesOk (lineOk f stopped) ls (map (leadOf run) ls))
-      (law l .judged .asks run f stopped quiet (and-l (ordered run l) (all (ordered run) ls) o) (and-l (holdsAt l run f) hs h))
-      (all-ask quiet ls (and-r (ordered run l) (all (ordered run) ls) o) (and-r (holdsAt l run f) hs h))
+      and-i (lineOk f l (leadOf run l)) (linesOk (lineOk f) ls (map (leadOf run) ls))
+      (law l .judged .asks run f (and-l (ordered run l) (all (ordered run) ls) o) (and-l (holdsAt l run f) hs h))
+      (all-ask ls (and-r (ordered run l) (all (ordered run) ls) o) (and-r (holdsAt l run f) hs h))
 
-  all-suffice : (ls : List Line) → ((k : ℕ) → T (any (stops run k) ls) → T (getD stopped k false)) → T (all (ordered run) ls)
-      → T (linesOk (lineOk f stopped) ls (map (leadOf run) ls)) → T (all (λ (l : Line). holdsAt l run f) ls)
-  all-suffice [] among o h = tt
-  all-suffice (l ∷ ls) among o h =
-      let ok = lineOk f stopped l (leadOf run l) in
-      let oks = linesOk (lineOk f stopped) ls (map (leadOf run) ls) in
+  all-suffice : (ls : List Line) → ((k : ℕ) → T (any (stops run k) ls) → T (ticksAt f k) → ⊥) → T (all (ordered run) ls)
+      → T (linesOk (lineOk f) ls (map (leadOf run) ls)) → T (all (λ (l : Line). holdsAt l run f) ls)
+  all-suffice [] quiet o h = tt
+  all-suffice (l ∷ ls) quiet o h =
+      let ok = lineOk f l (leadOf run l) in
+      let oks = linesOk (lineOk f) ls (map (leadOf run) ls) in
       and-i (holdsAt l run f) (all (λ (l : Line). holdsAt l run f) ls)
-      (law l .judged .suffices run f stopped (λ k t. among k (or-l (stops run k l) (any (stops run k) ls) t)) (and-l (ordered run l) (all (ordered run) ls) o) (and-l ok oks h))
-      (all-suffice ls (λ k t. among k (or-r (stops run k l) (any (stops run k) ls) t)) (and-r (ordered run l) (all (ordered run) ls) o) (and-r ok oks h))
+      (law l .judged .suffices run f (λ k t. quiet k (or-l (stops run k l) (any (stops run k) ls) t)) (and-l (ordered run l) (all (ordered run) ls) o) (and-l ok oks h))
+      (all-suffice ls (λ k t. quiet k (or-r (stops run k l) (any (stops run k) ls) t)) (and-r (ordered run l) (all (ordered run) ls) o) (and-r ok oks h))
+
+-- clocks in two lists
+no-overlap : (xs ys : List Bool) → ((k : ℕ) → T (getD xs k false) → T (getD ys k false) → ⊥) → T (overlap xs ys) → ⊥
+no-overlap [] ys h t = t
+no-overlap (x ∷ xs) [] h t = t
+no-overlap (x ∷ xs) (y ∷ ys) h t =
+    or-e (x && y) (overlap xs ys) t (λ u. h 0 (and-l x y u) (and-r x y u)) (no-overlap xs ys (λ k. h (suc k)))
+
+overlap-at : (xs ys : List Bool) (k : ℕ) → T (getD xs k false) → T (getD ys k false) → T (overlap xs ys)
+overlap-at [] ys k t u = absurd t
+overlap-at (x ∷ xs) [] k t u = absurd u
+overlap-at (x ∷ xs) (y ∷ ys) zero t u = or-l (x && y) (overlap xs ys) (and-i x y t u)
+overlap-at (x ∷ xs) (y ∷ ys) (suc k) t u = or-r (x && y) (overlap xs ys) (overlap-at xs ys k t u)
 
 -- a stopped clock does not tick at f, where every line holds; and it is one of the sheet's
 quiet-all : (run : List Filled) (f : Filled) (k : ℕ) (ls : List Line) → T (all (λ (l : Line). holdsAt l run f) ls) → T (any (stops run k) ls) → T (ticksAt f k) → ⊥
@@ -109,14 +121,19 @@ table-says (suc n) p zero t = t
 table-says (suc n) p (suc k) t = table-says n (λ j. p (suc j)) k t
 
 lines-same : (s : SheetValue) (run : List Filled) (f : Filled) → T (wellFormed s) → T (all (ordered run) (s .lines))
-    → all (λ (l : Line). holdsAt l run f) (s .lines) ≡ linesOk (lineOk f (remainder s run .stopped)) (s .lines) (remainder s run .leads)
+    → all (λ (l : Line). holdsAt l run f) (s .lines) ≡ (not (overlap (f .ticks) (remainder s run .stopped)) && linesOk (lineOk f) (s .lines) (remainder s run .leads))
 unfolding remainder
 lines-same s run f w o =
     let stopped = remainder s run .stopped in
-    bool-ext (all (λ (l : Line). holdsAt l run f) (s .lines)) (linesOk (lineOk f stopped) (s .lines) (remainder s run .leads))
-    (λ h. all-ask run f stopped (λ k t. quiet-all run f k (s .lines) h (table-says (s .clocks) (λ j. any (stops run j) (s .lines)) k t)) (s .lines) o h)
-    (λ h. all-suffice run f stopped (s .lines)
-    (λ k t. subst T (sym (table-at (s .clocks) (λ j. any (stops run j) (s .lines)) k false (stops-below run (s .clocks) k (s .lines) w t))) t) o h)
+    let both = overlap (f .ticks) stopped in
+    let oks = linesOk (lineOk f) (s .lines) (remainder s run .leads) in
+    let stop : ℕ → Bool = λ j. any (stops run j) (s .lines) in
+    bool-ext (all (λ (l : Line). holdsAt l run f) (s .lines)) (not both && oks)
+    (λ h. and-i (not both) oks (not-T both (no-overlap (f .ticks) stopped (λ k u t. quiet-all run f k (s .lines) h (table-says (s .clocks) stop k t) u))) (all-ask run f (s .lines) o h))
+    (λ h. all-suffice run f (s .lines)
+    (λ k t u. T-not both (and-l (not both) oks h)
+    (overlap-at (f .ticks) stopped k u (subst T (sym (table-at (s .clocks) stop k false (stops-below run (s .clocks) k (s .lines) w t))) t)))
+    o (and-r (not both) oks h))
 
 -- ---- a filled run with one more instant
 
@@ -139,7 +156,7 @@ fits-snoc s run f w =
     hold = all (λ (l : Line). holdsAt l run f) (s .lines)
 
     may : Bool
-    may = linesOk (lineOk f (remainder s run .stopped)) (s .lines) (remainder s run .leads)
+    may = not (overlap (f .ticks) (remainder s run .stopped)) && linesOk (lineOk f) (s .lines) (remainder s run .leads)
 
     due : Bool
     due = notLate (lastTags run) (unmet (s .lines) run)

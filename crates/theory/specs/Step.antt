@@ -19,16 +19,16 @@ abbrev pub bit : Bool → ℕ
 bit true = 1
 bit false = 0
 
--- ---- a line at the instant f: does it hold, by the clocks stopped before and the line's lead; and its lead after
-abbrev pub lineOk : Filled → List Bool → Line → ℕ → Bool
-lineOk f stopped (Relation A B p q) lead = eqZ (tagAt f A) (p *ℤ tagAt f B +ℤ q)
-lineOk f stopped (Implies A B) lead = not (ticksAt f A) || ticksAt f B
-lineOk f stopped (Excludes A B) lead = not (ticksAt f A && ticksAt f B)
-lineOk f stopped (Kills A B) lead = not (ticksAt f B && (getD stopped B false || ticksAt f A))
-lineOk f stopped (Weakly A B) lead = leb (bit (ticksAt f B)) (lead + bit (ticksAt f A))
-lineOk f stopped (Strictly A B) lead = leb (bit (ticksAt f B)) lead
-lineOk f stopped (Sporadic A B t) lead = true
-lineOk f stopped (Delayed A B D d) lead = true
+-- ---- a line at the instant f: does it hold, by the line's lead; and its lead after. A kills line asks of its own instant only: what it stopped before bars by itself
+abbrev pub lineOk : Filled → Line → ℕ → Bool
+lineOk f (Relation A B p q) lead = eqZ (tagAt f A) (p *ℤ tagAt f B +ℤ q)
+lineOk f (Implies A B) lead = not (ticksAt f A) || ticksAt f B
+lineOk f (Excludes A B) lead = not (ticksAt f A && ticksAt f B)
+lineOk f (Kills A B) lead = not (ticksAt f B && ticksAt f A)
+lineOk f (Weakly A B) lead = leb (bit (ticksAt f B)) (lead + bit (ticksAt f A))
+lineOk f (Strictly A B) lead = leb (bit (ticksAt f B)) lead
+lineOk f (Sporadic A B t) lead = true
+lineOk f (Delayed A B D d) lead = true
 
 abbrev pub nextLead : Filled → Line → ℕ → ℕ
 nextLead f (Weakly A B) lead = lead + bit (ticksAt f A) - bit (ticksAt f B)
@@ -39,6 +39,12 @@ nextLead f (Implies A B) lead = 0
 nextLead f (Excludes A B) lead = 0
 nextLead f (Delayed A B D d) lead = 0
 nextLead f (Kills A B) lead = 0
+
+-- ---- some clock is in both
+abbrev pub overlap : List Bool → List Bool → Bool
+overlap [] ys = false
+overlap (x ∷ xs) [] = false
+overlap (x ∷ xs) (y ∷ ys) = (x && y) || overlap xs ys
 
 -- ---- all lines; a line past the end of the leads has lead 0
 abbrev pub linesOk : (Line → ℕ → Bool) → List Line → List ℕ → Bool
@@ -63,11 +69,11 @@ next s f r = record {
   stopped = table (s .clocks) (λ k. getD (r .stopped) k false || any (stops (f ∷ []) k) (s .lines));
 }
 
--- f may follow a run with the remainder r, whose last tags are `last`
+-- f may follow a run with the remainder r, whose last tags are `last`: no tag falls, no stopped clock ticks, each line holds, nothing owed is late
 unfoldable pub stepOk : SheetValue → Option (List ℤ) → Filled → Remainder → Bool
 stepOk s last f r =
     noneFalls (s .clocks) last (f .tags)
-    && linesOk (lineOk f (r .stopped)) (s .lines) (r .leads)
+    && (not (overlap (f .ticks) (r .stopped)) && linesOk (lineOk f) (s .lines) (r .leads))
     && notLate (some (f .tags)) (nextOwed (s .lines) f (r .owed))
 
 -- the tags of a run's last instant

@@ -9,7 +9,8 @@ use lib.ListN.{length, drop, getD, set}
 use lib.Seq.{drop-cons, getD-take}
 use Rattle.records.specs.Lists.{listedFrom, listed}
 use Rattle.records.proofs.Lists.{listed-cons, listed-end, length-listed}
-use Rattle.judge.specs.Carried.{overlap, either}
+use Rattle.theory.specs.Step.{overlap}
+use Rattle.judge.specs.Carried.{either}
 use Rattle.judge.proofs.Listing.{listed-at, Copied, copied-more}
 
 -- ---- a clock in both: found so far, or from place k on

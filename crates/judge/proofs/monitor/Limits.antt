@@ -117,7 +117,6 @@ pub workable : (m : Monitor) → Limits m → m .instants < 4000 → Workable m
 workable m l h = record {
   lines = subst (λ (k : ℕ). k ≤ 16) (length-listed (lineAt (m .sheet)) (m .sheet .count)) (l .sheet .lines-most);
   clocks = l .sheet .clocks-most;
-  below = l .sheet .clocks-below;
   room = h;
   leads = all-imp (withinLimits (m .sheet .clocks) (m .instants)) smallLeads (live (heldBy m)) (small-leads (m .sheet .clocks) (m .instants) (l .instants)) (l .views);
   fits = l .fits;

@@ -1,28 +1,10 @@
 -- What lines make of the stopped clocks, one after the other. Assumes nothing.
-use mathlib.Core.Bool.{Bool}
 use mathlib.Core.List.{List, [], _∷_}
-use mathlib.Core.Path.{_≡_, refl, sym, _∙_}
+use mathlib.Core.Path.{_≡_, sym, _∙_}
 use Prim.Native.Nat.{ℕ, _+_, _-_, _<_, _≤_}
-use types.Run.{OneOf, miss}
-use denote.Enum.Declared.{tagOf}
-use Rattle.records.proofs.line.Line.{the-type}
 use Rattle.records.specs.declared.line.Line.{Line}
-use Rattle.records.specs.declared.line.Line.the-variants.{Sporadic, Relation, Implies, Excludes, Delayed, Weakly, Strictly, Kills}
 use Rattle.records.specs.Lists.{listedFrom}
 use Rattle.records.proofs.Lists.{listed-cons, listed-end}
-use Rattle.judge.specs.Carried.{barredBy}
-use Rattle.judge.proofs.line.Laws.{stopped-keys}
-
--- all but kills
-pub rest-barred : (ticks : List Bool) (l : Line) (barred : List Bool) → OneOf stopped-keys (tagOf the-type l) → barred ≡ barredBy ticks l barred
-rest-barred ticks (Kills A B) barred h = absurd (miss stopped-keys 7 tt h)
-rest-barred ticks (Sporadic A B t) barred h = refl
-rest-barred ticks (Relation A B p q) barred h = refl
-rest-barred ticks (Implies A B) barred h = refl
-rest-barred ticks (Excludes A B) barred h = refl
-rest-barred ticks (Delayed A B D d) barred h = refl
-rest-barred ticks (Weakly A B) barred h = refl
-rest-barred ticks (Strictly A B) barred h = refl
 
 -- what all lines make of a value is what those from i on make of x
 module _ {A : Type 0} (step : Line → A → A) (fold : List Line → A → A) (none : (x : A) → fold [] x ≡ x) (more : (l : Line) (ls : List Line) (x : A) → fold (l ∷ ls) x ≡ fold ls (step l x)) (at : ℕ → Line) (n i : ℕ) (x : A) {whole : A} (w : whole ≡ fold (listedFrom at i (n - i)) x) where

@@ -8,12 +8,13 @@ use lib.Dec.{T, leb}
 use lib.IntN.{ℤ}
 use lib.ListN.{getD, replicate, take}
 use borrow.Author.Tests.{not-true, not-false}
+use Rattle.records.specs.Lists.{listed}
 use Rattle.records.specs.Sheet.{SheetValue}
-use Rattle.records.proofs.Lists.{length-listed}
+use Rattle.records.proofs.Lists.{listed-take, length-listed}
 use Rattle.tesl.specs.Lists.{below, filter, flatMap}
 use Rattle.tesl.specs.Fits.{Obligation, owedFrom}
 use Rattle.tesl.specs.Remainder.{Remainder}
-use Rattle.theory.specs.Step.{linesOk, nextLeads, wellFormed}
+use Rattle.theory.specs.Step.{overlap, linesOk, nextLeads}
 use Rattle.judge.specs.Advanced.{Advanced, fails, over, onto}
 use Rattle.judge.specs.View.{filledOf, inUse, cut}
 use Rattle.judge.specs.Questions.{carriedHolds, leadAfter}
@@ -21,7 +22,7 @@ use Rattle.judge.specs.Lines.{allStopped, smallLeads}
 use Rattle.judge.specs.Owed.{owing, kept}
 use Rattle.judge.specs.Once.{onceEach}
 use Rattle.judge.specs.Plan.{isRule}
-use Rattle.judge.specs.Carried.{allBarred, overlap, either, needOf, gainOf, lossOf}
+use Rattle.judge.specs.Carried.{either, needOf, gainOf, lossOf}
 use Rattle.judge.specs.Rows.{Rows, Leading, rowOwed, rowLead, rowLeads, rowStop, rowStopped, rowOf, provided}
 use Rattle.judge.specs.Work.{addedAll, carried, withBegun, withKept, advanced}
 use Rattle.judge.proofs.Below.{below-ext}
@@ -29,13 +30,11 @@ use Rattle.judge.proofs.work.Carried.{sheetLine, carried-holds, carried
 use Rattle.judge.proofs.Listing.{listed-at}
 
 -- what was computed of a filling is what the sheet's lines make of it
-pub record Asked (v : SheetValue) (clocks reach : ℕ) (precede ticks : List Bool) (tags : List ℤ) (begun : List Obligation) (barred stops : List Bool) (asks : List ℕ) : Type 0 where
+pub record Asked (v : SheetValue) (clocks reach : ℕ) (precede ticks : List Bool) (tags : List ℤ) (begun : List Obligation) (stops : List Bool) (asks : List ℕ) : Type 0 where
   pub as-many : v .clocks ≡ clocks
   pub few-clocks : v .clocks ≤ 8
-  pub well : T (wellFormed v)
   pub leading : Leading v reach precede
   pub begins : begun ≡ onceEach (flatMap (owedFrom (filledOf ticks tags)) (v .lines))
-  pub bars : barred ≡ allBarred ticks (filter isRule (v .lines)) (replicate 8 false)
   pub ends : stops ≡ allStopped ticks (filter isRule (v .lines)) (replicate 8 false)
   pub moves : (k : ℕ) → k < reach → (getD asks k 0 ≡ needOf ticks (sheetLine v k)) × ((getD asks (16 + k) 0 ≡ gainOf ticks (sheetLine v k)) × (getD asks (32 + k) 0 ≡ lossOf ticks (sheetLine v k)))
 
@@ -45,8 +44,8 @@ row-gain v ticks R i t k h fits {gain} e =
     let at = listed-at (rowLead (R .leads) i) 0 16 k h in
     omega (arith, small-gain v ticks (rowOf R i) t k (omega (arith, at, fits)), at, e)
 
-module _ {v : SheetValue} {clocks reach : ℕ} {precede ticks : List Bool} {tags : List ℤ} {begun : List Obligation} {barred stops : List Bool} {asks : List ℕ}
-    (a : Asked v clocks reach precede ticks tags begun barred stops asks) (R : Rows) (i : ℕ) where
+module _ {v : SheetValue} {clocks reach : ℕ} {precede ticks : List Bool} {tags : List ℤ} {begun : List Obligation} {stops : List Bool} {asks : List ℕ}
+    (a : Asked v clocks reach precede ticks tags begun stops asks) (R : Rows) (i : ℕ) where
   abbrev row : Remainder
   row = cut v (rowOf R i)
 
@@ -60,13 +59,21 @@ module _ {v : SheetValue} {clocks reach : ℕ} {precede ticks : List Bool} {tags
   lead-at : (leads : List ℕ) (j k : ℕ) → k < reach → getD (rowLeads leads j) k 0 ≡ rowLead leads j k
   lead-at leads j k h = let r = a .leading .0 in listed-at (rowLead leads j) 0 16 k (omega arith)
 
-  holds : linesOk (carriedHolds ticks (row .stopped)) (v .lines) (row .leads) ≡ (not (overlap barred (rowStopped (R .stopped) i)) && enough)
-  holds =
-      carried-holds v ticks reach precede (a .leading) (rowLeads (R .leads) i) (a .well) (a .few-clocks) (rowStopped (R .stopped) i)
-      ∙ ap₂ (λ (bs : List Bool) (b : Bool). not (overlap bs (rowStopped (R .stopped) i)) && b) (sym (a .bars)) (below-ext reach _ _ (λ k h. ap₂ leb (sym (a .moves k h .0)) (lead-at (R .leads) i k h)))
+  -- a clock that ticks is stopped in the row
+  abbrev barred : Bool
+  barred = overlap ticks (listed (rowStop (R .stopped) i) clocks)
+
+  row-stopped : row .stopped ≡ listed (rowStop (R .stopped) i) clocks
+  row-stopped =
+      sym (listed-take false (rowStop (R .stopped) i) (v .clocks) (rowStopped (R .stopped) i) (omega (arith, a .few-clocks, length-listed (rowStop (R .stopped) i) 8)) (λ k h. sym (listed-at (rowStop (R .stopped) i) false 8 k (omega (arith, a .few-clocks)))))
+      ∙ ap (listed (rowStop (R .stopped) i)) (a .as-many)
+
+  holds : (not (overlap ticks (row .stopped)) && linesOk (carriedHolds ticks) (v .lines) (row .leads)) ≡ (not barred && enough)
+  holds = ap₂ (λ (bs : List Bool) (b : Bool). not (overlap ticks bs) && b) row-stopped
+      (carried-holds v ticks reach precede (a .leading) (rowLeads (R .leads) i) ∙ below-ext reach _ _ (λ k h. ap₂ leb (sym (a .moves k h .0)) (lead-at (R .leads) i k h)))
 
   -- a stopped clock ticks; a lead is too short
-  module _ {b : Bool} (e : b ≡ overlap barred (rowStopped (R .stopped) i)) where
+  module _ {b : Bool} (e : b ≡ barred) where
     pub row-barred : b ≡ true → became ≡ fails
     unfolding advanced
     row-barred t = rw (holds, sym e, t)

@@ -14,7 +14,7 @@ use Rattle.tesl.specs.Fits.{Obligation, meets, owedFrom, notLate}
 use Rattle.tesl.specs.Remainder.{Remainder, sameObligation, sameRemainder, owes}
 use Rattle.tesl.proofs.Tests.{or-l, or-r, or-e}
 use Rattle.theory.specs.Sets.{apart, Covers, SameSet}
-use Rattle.theory.specs.Step.{linesOk, next}
+use Rattle.theory.specs.Step.{overlap, linesOk, next}
 use Rattle.theory.proofs.Lists.{bool-ext, any-append}
 use Rattle.theory.proofs.Sets.{any-same, apart-snoc, filter-once, distinct-set, distinct-apart, length-le}
 use Rattle.theory.proofs.Respect.{sameObligation→eq, owed-equivalence, same-of}
@@ -116,7 +116,7 @@ with-begun (full h) = nine h
 advance-moves : (v : SheetValue) (f : Filled) (r : Remainder) → Moves v f r (goesOn v f r) (advanced v f (flatMap (owedFrom f) (v .lines)) r)
 unfolding advanced kept
 advance-moves v f r =
-    by-tests (linesOk (carriedHolds (f .ticks) (r .stopped)) (v .lines) (r .leads)) (notLate (some (f .tags)) (left f (r .owed)))
+    by-tests (not (overlap (f .ticks) (r .stopped)) && linesOk (carriedHolds (f .ticks)) (v .lines) (r .leads)) (notLate (some (f .tags)) (left f (r .owed)))
   where
     begun : List Obligation
     begun = flatMap (owedFrom f) (v .lines)

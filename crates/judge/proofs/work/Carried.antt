@@ -1,30 +1,29 @@
 -- What a filling makes of the leads and stopped clocks, by what depends on it alone, is what the lines ask and make of them. Assumes nothing.
-use mathlib.Core.Bool.{Bool, true, false, not, cond, _&&_, _||_, true≢false, and-true, or-true, or-false, or-assoc}
+use mathlib.Core.Bool.{Bool, true, false, cond, _&&_, _||_, true≢false, or-true, or-false}
 use mathlib.Core.List.{List, [], _∷_}
 use mathlib.Core.Path.{_≡_, refl, sym, ap, ap₂, _∙_}
 use Prim.Native.Nat.{ℕ, zero, suc, _+_, _-_, _<_, _≤_}
 use native.Mathlib.Nat.{add-zero}
 use native.Mathlib.Omega.{arith}
 use lib.Dec.{T, leb, ltb, leb·zero, ltb→lt}
-use lib.ListN.{length, getD, take, set, replicate, length-set, length-replicate, List·getD-eq-default}
-use lib.Seq.{getD-take}
+use lib.ListN.{length, getD, take, set, replicate, length-replicate, List·getD-eq-default}
 use borrow.Author.Tests.{le-leb, le-ltb, ltb-true}
 use Rattle.records.specs.declared.line.Line.{Line}
 use Rattle.records.specs.declared.line.Line.the-variants.{Sporadic, Relation, Implies, Excludes, Delayed, Weakly, Strictly, Kills}
-use Rattle.records.specs.Line.{clocksOf, blankLine}
+use Rattle.records.specs.Line.{blankLine}
 use Rattle.records.specs.Sheet.{SheetValue}
 use Rattle.records.proofs.Lists.{both}
-use Rattle.tesl.specs.Lists.{all, any, filter, below, table}
+use Rattle.tesl.specs.Lists.{all, filter, below, table}
 use Rattle.tesl.specs.Remainder.{Remainder}
 use Rattle.tesl.proofs.Tests.{and-l, and-r}
-use Rattle.theory.specs.Step.{bit, linesOk, nextLeads, lineBelow, wellFormed}
+use Rattle.theory.specs.Step.{bit, linesOk, nextLeads}
 use Rattle.theory.proofs.Lists.{table-ext}
 use Rattle.judge.specs.View.{inUse, cut}
 use Rattle.judge.specs.Questions.{tickIn, carriedHolds, leadAfter, stoppedAfter}
 use Rattle.judge.specs.Lines.{allStopped, smallLeads}
 use Rattle.judge.specs.Plan.{isRule}
 use Rattle.judge.specs.Rows.{isPrecedes, Leading}
-use Rattle.judge.specs.Carried.{barredBy, allBarred, overlap, either, needOf, gainOf, lossOf}
+use Rattle.judge.specs.Carried.{either, needOf, gainOf, lossOf}
 use Rattle.judge.proofs.Below.{below-front, below-either}
 use Rattle.judge.proofs.lines.Carried.{all-as-many}
 
@@ -50,26 +49,6 @@ next-next f g (l ∷ ls) (n ∷ leads) = ap (λ (ns : List ℕ). g l (f l n) ∷
 
 -- ---- clocks in two lists
 
-overlap-set : (xs ys : List Bool) (k : ℕ) → k < length xs → overlap (set xs k true) ys ≡ (overlap xs ys || getD ys k false)
-overlap-set [] ys k h = absurd (omega arith)
-overlap-set (x ∷ xs) [] zero h = refl
-overlap-set (x ∷ xs) [] (suc k) h = refl
-overlap-set (x ∷ xs) (y ∷ ys) zero h = by-tests x y (overlap xs ys)
-  where
-    by-tests : (a b c : Bool) → (b || c) ≡ ((a && b || c) || b)
-    by-tests true true c = refl
-    by-tests true false c = sym (or-false c)
-    by-tests false true true = refl
-    by-tests false true false = refl
-    by-tests false false c = sym (or-false c)
-overlap-set (x ∷ xs) (y ∷ ys) (suc k) h =
-    ap (λ (b : Bool). x && y || b) (overlap-set xs ys k (omega arith)) ∙ sym (or-assoc (x && y) (overlap xs ys) (getD ys k false))
-
-overlap-none : (n : ℕ) (ys : List Bool) → overlap (replicate n false) ys ≡ false
-overlap-none zero ys = refl
-overlap-none (suc n) [] = refl
-overlap-none (suc n) (y ∷ ys) = overlap-none n ys
-
 either-set : (xs ys : List Bool) (k : ℕ) → length xs ≤ length ys → either xs (set ys k true) ≡ set (either xs ys) k true
 either-set [] ys k h = refl
 either-set (x ∷ xs) [] k h = absurd (omega arith)
@@ -83,21 +62,6 @@ either-none (x ∷ xs) (suc n) = ap₂ (λ (b : Bool) (bs : List Bool). b ∷ bs
 
 -- ---- what a line asks
 
--- a kills line's B ticks and is stopped
-abbrev hits : List Bool → List Bool → Line → Bool
-hits ticks stopped (Kills A B) = tickIn ticks B && tickIn stopped B
-hits ticks stopped (Sporadic A B t) = false
-hits ticks stopped (Relation A B p q) = false
-hits ticks stopped (Implies A B) = false
-hits ticks stopped (Excludes A B) = false
-hits ticks stopped (Delayed A B D d) = false
-hits ticks stopped (Weakly A B) = false
-hits ticks stopped (Strictly A B) = false
-
-kills-below : (c A B : ℕ) → T (lineBelow c (Kills A B)) → B < c
-unfolding clocksOf
-kills-below c A B w = ltb→lt B c (and-l (ltb B c) true (and-r (ltb A c) (ltb B c && true) w))
-
 -- the tick of B by what A's tick leaves of it
 weakly : (a b : Bool) (lead : ℕ) → leb (bit b) (lead + bit a) ≡ leb (bit b - bit a) lead
 weakly true true lead = le-leb 1 (lead + 1) (omega arith) ∙ sym (leb·zero lead)
@@ -109,74 +73,20 @@ weakly false false lead = rw add-zero
 abbrev asks : List Bool → Line → ℕ → Bool
 asks ticks l lead = leb (needOf ticks l) lead
 
-regroup : (a b x y : Bool) → (not a && b && (not x && y)) ≡ (not (a || x) && (b && y))
-regroup true b x y = refl
-regroup false false true y = refl
-regroup false false false y = refl
-regroup false true x y = refl
+line-holds : (ticks : List Bool) (l : Line) (lead : ℕ) → carriedHolds ticks l (inUse l lead) ≡ asks ticks l lead
+line-holds ticks (Weakly A B) lead = weakly (tickIn ticks A) (tickIn ticks B) lead
+line-holds ticks (Strictly A B) lead = refl
+line-holds ticks (Sporadic A B t) lead = sym (leb·zero lead)
+line-holds ticks (Relation A B p q) lead = sym (leb·zero lead)
+line-holds ticks (Implies A B) lead = sym (leb·zero lead)
+line-holds ticks (Excludes A B) lead = sym (leb·zero lead)
+line-holds ticks (Delayed A B D d) lead = sym (leb·zero lead)
+line-holds ticks (Kills A B) lead = sym (leb·zero lead)
 
--- a line that is no rule bars no clock
-rule-bars : (ticks : List Bool) (l : Line) (rules : List Line) (barred : List Bool) → allBarred ticks (cond (isRule l) (l ∷ rules) rules) barred ≡ allBarred ticks rules (barredBy ticks l barred)
-rule-bars ticks (Sporadic A B t) rules barred = refl
-rule-bars ticks (Relation A B p q) rules barred = refl
-rule-bars ticks (Implies A B) rules barred = refl
-rule-bars ticks (Excludes A B) rules barred = refl
-rule-bars ticks (Delayed A B D d) rules barred = refl
-rule-bars ticks (Weakly A B) rules barred = refl
-rule-bars ticks (Strictly A B) rules barred = refl
-rule-bars ticks (Kills A B) rules barred = refl
-
-module _ (ticks stopped : List Bool) (c : ℕ) where
-  line-holds : (l : Line) (lead : ℕ) → T (lineBelow c l) → carriedHolds ticks (take c stopped) l (inUse l lead) ≡ (not (hits ticks stopped l) && asks ticks l lead)
-  line-holds (Kills A B) lead w = rw (getD-take c stopped B false (kills-below c A B w), leb·zero lead) (sym (and-true _))
-  line-holds (Weakly A B) lead w = weakly (tickIn ticks A) (tickIn ticks B) lead
-  line-holds (Strictly A B) lead w = refl
-  line-holds (Sporadic A B t) lead w = sym (leb·zero lead)
-  line-holds (Relation A B p q) lead w = sym (leb·zero lead)
-  line-holds (Implies A B) lead w = sym (leb·zero lead)
-  line-holds (Excludes A B) lead w = sym (leb·zero lead)
-  line-holds (Delayed A B D d) lead w = sym (leb·zero lead)
-
-  one-more : (l : Line) (lead : ℕ) (x y : Bool) {t : Bool} → T (lineBelow c l) → t ≡ (not x && y)
-      → (carriedHolds ticks (take c stopped) l (inUse l lead) && t) ≡ (not (hits ticks stopped l || x) && (asks ticks l lead && y))
-  one-more l lead x y w e = ap₂ _&&_ (line-holds l lead w) e ∙ regroup (hits ticks stopped l) (asks ticks l lead) x y
-
-  lines-hold : (ls : List Line) (leads : List ℕ) → T (all (lineBelow c) ls)
-      → linesOk (carriedHolds ticks (take c stopped)) ls (nextLeads inUse ls leads) ≡ (not (any (hits ticks stopped) ls) && linesOk (asks ticks) ls leads)
-  lines-hold [] leads w = refl
-  lines-hold (l ∷ ls) [] w =
-      one-more l 0 (any (hits ticks stopped) ls) (linesOk (asks ticks) ls []) (and-l (lineBelow c l) _ w) (lines-hold ls [] (and-r (lineBelow c l) _ w))
-  lines-hold (l ∷ ls) (n ∷ leads) w =
-      one-more l n (any (hits ticks stopped) ls) (linesOk (asks ticks) ls leads) (and-l (lineBelow c l) _ w) (lines-hold ls leads (and-r (lineBelow c l) _ w))
-
-  -- ---- a clock is stopped and barred if a kills line hits it
-
-  -- a line leaves as many places, and bars the clock that it hits
-  bars : (l : Line) (barred : List Bool) → T (lineBelow c l) → c ≤ length barred
-      → (length (barredBy ticks l barred) ≡ length barred) × (overlap (barredBy ticks l barred) stopped ≡ (overlap barred stopped || hits ticks stopped l))
-  bars (Kills A B) barred w h = let k = kills-below c A B w in by-test (tickIn ticks B) (omega arith)
-    where
-      by-test : (t : Bool) → B < length barred
-          → (length (cond t (set barred B true) barred) ≡ length barred) × (overlap (cond t (set barred B true) barred) stopped ≡ (overlap barred stopped || t && tickIn stopped B))
-      by-test true k = (length-set barred B true, overlap-set barred stopped B k)
-      by-test false k = (refl, sym (or-false _))
-  bars (Sporadic A B t) barred w h = (refl, sym (or-false _))
-  bars (Relation A B p q) barred w h = (refl, sym (or-false _))
-  bars (Implies A B) barred w h = (refl, sym (or-false _))
-  bars (Excludes A B) barred w h = (refl, sym (or-false _))
-  bars (Delayed A B D d) barred w h = (refl, sym (or-false _))
-  bars (Weakly A B) barred w h = (refl, sym (or-false _))
-  bars (Strictly A B) barred w h = (refl, sym (or-false _))
-
-  all-bar : (ls : List Line) (barred : List Bool) → T (all (lineBelow c) ls) → c ≤ length barred
-      → overlap (allBarred ticks (filter isRule ls) barred) stopped ≡ (overlap barred stopped || any (hits ticks stopped) ls)
-  all-bar [] barred w h = sym (or-false _)
-  all-bar (l ∷ ls) barred w h =
-      let b = bars l barred (and-l (lineBelow c l) _ w) h in
-      ap (λ (bs : List Bool). overlap bs stopped) (rule-bars ticks l (filter isRule ls) barred)
-      ∙ all-bar ls (barredBy ticks l barred) (and-r (lineBelow c l) _ w) (omega (arith, b .0))
-      ∙ ap (λ (t : Bool). t || any (hits ticks stopped) ls) (b .1)
-      ∙ or-assoc (overlap barred stopped) (hits ticks stopped l) (any (hits ticks stopped) ls)
+lines-hold : (ticks : List Bool) (ls : List Line) (leads : List ℕ) → linesOk (carriedHolds ticks) ls (nextLeads inUse ls leads) ≡ linesOk (asks ticks) ls leads
+lines-hold ticks [] leads = refl
+lines-hold ticks (l ∷ ls) [] = ap₂ _&&_ (line-holds ticks l 0) (lines-hold ticks ls [])
+lines-hold ticks (l ∷ ls) (n ∷ leads) = ap₂ _&&_ (line-holds ticks l n) (lines-hold ticks ls leads)
 
 -- ---- what a line makes of the stopped clocks
 
@@ -309,19 +219,13 @@ module _ (v : SheetValue) (ticks : List Bool) where
   small-gain raw t k h = gains ticks (sheetLine v k) (getD (raw .leads) k 0) (used-small (v .lines) (raw .leads) t k) h
 
   module _ (reach : ℕ) (precede : List Bool) (leading : Leading v reach precede) (leads : List ℕ) where
-    -- the lines hold if no stopped clock is barred, and each lead is at least what its line needs
-    pub carried-holds : T (wellFormed v) → v .clocks ≤ 8 → (stopped : List Bool)
-        → linesOk (carriedHolds ticks (take (v .clocks) stopped)) (v .lines) (nextLeads inUse (v .lines) leads)
-        ≡ (not (overlap (allBarred ticks (filter isRule (v .lines)) (replicate 8 false)) stopped) && below reach (λ k. leb (needOf ticks (sheetLine v k)) (getD leads k 0)))
-    carried-holds w few stopped =
-        lines-hold ticks stopped (v .clocks) (v .lines) leads w
-        ∙ ap₂ (λ (a b : Bool). not a && b) (sym barred) (ok-places (asks ticks) (v .lines) leads ∙ below-either (needed v ticks leads) (length (v .lines)) reach past-lines past-reach)
+    -- the lines hold if each lead is at least what its line needs
+    pub carried-holds : linesOk (carriedHolds ticks) (v .lines) (nextLeads inUse (v .lines) leads) ≡ below reach (λ k. leb (needOf ticks (sheetLine v k)) (getD leads k 0))
+    carried-holds =
+        lines-hold ticks (v .lines) leads
+        ∙ ok-places (asks ticks) (v .lines) leads
+        ∙ below-either (needed v ticks leads) (length (v .lines)) reach past-lines past-reach
       where
-        barred : overlap (allBarred ticks (filter isRule (v .lines)) (replicate 8 false)) stopped ≡ any (hits ticks stopped) (v .lines)
-        barred =
-            all-bar ticks stopped (v .clocks) (v .lines) (replicate 8 false) w (omega (arith, length-replicate 8 false))
-            ∙ ap (λ (b : Bool). b || any (hits ticks stopped) (v .lines)) (overlap-none 8 stopped)
-
         past-lines : (k : ℕ) → length (v .lines) ≤ k → needed v ticks leads k ≡ true
         past-lines k h = rw (List·getD-eq-default (v .lines) blankLine {n = k} h) (leb·zero (getD leads k 0))
 

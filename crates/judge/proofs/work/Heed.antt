@@ -1,6 +1,7 @@
--- An unseen tick that no line and no obligation held names may count as idle: a filling with it makes of the remainders held what the filling without it does, and what was found once is not found again. Assumes nothing.
-use mathlib.Core.Bool.{Bool, true, false, cond, _&&_, Bool·beq, or-true, true≢false}
+-- An unseen tick that no line and no obligation held names may count as idle: a filling with it makes of the remainders held what the filling without it does, or is barred, and what was found once is not found again. Assumes nothing.
+use mathlib.Core.Bool.{Bool, true, false, not, cond, _&&_, Bool·beq, or-true, true≢false}
 use mathlib.Core.List.{List, [], _∷_, _++_, map}
+use mathlib.Core.Logic.{_⊎_, inl, inr, ⊎-elim}
 use mathlib.Core.Option.{Option, none, some}
 use mathlib.Core.Path.{_≡_, refl, sym, ap, _∙_}
 use Prim.Native.Nat.{ℕ, zero, suc, _+_, _<_}
@@ -22,8 +23,8 @@ use Rattle.tesl.specs.Lists.{all, any, flatMap, within, sameList}
 use Rattle.tesl.specs.Run.{Filled}
 use Rattle.tesl.specs.Fits.{Obligation, owedFrom}
 use Rattle.tesl.specs.Remainder.{Remainder, sameObligation, sameRemainder}
-use Rattle.tesl.proofs.Tests.{and-l, and-r, and-i, T→≡, ≡→T}
-use Rattle.theory.specs.Step.{linesOk, nextLeads}
+use Rattle.tesl.proofs.Tests.{and-l, and-r, and-i, or-l, or-r, or-e, T→≡, ≡→T}
+use Rattle.theory.specs.Step.{overlap, linesOk, nextLeads}
 use Rattle.theory.proofs.Lists.{any-append, any-snoc}
 use Rattle.theory.proofs.Respect.{remainder-equivalence}
 use Rattle.judge.specs.Advanced.{Advanced, fails, over, onto}
@@ -38,22 +39,6 @@ use Rattle.judge.proofs.Listing.{map-listed}
 
 abbrev Found : Type 0
 Found = Option (List Remainder)
-
--- ---- fillings, where a tick of clock k changes nothing
-module _ (g : Found → List Bool → Found) where
-  abbrev Ignores : ℕ → Type 0
-  Ignores k = (found : Found) (ticks : List Bool) → g found (set ticks k true) ≡ g found ticks
-
-  fill-ignores : (k j : ℕ) → k < j → Ignores k → (seen : List Tick) (ticks : List Bool) (found : Found) → fillFrom g j seen (set ticks k true) found ≡ fillFrom g j seen ticks found
-  fill-ignores k j h e [] ticks found = e found ticks
-  fill-ignores k j h e (Idle ∷ seen) ticks found = fill-ignores k (j + 1) (omega arith) e seen ticks found
-  fill-ignores k j h e (Ticks ∷ seen) ticks found =
-      ap (λ (t : List Bool). fillFrom g (j + 1) seen t found) (set-comm ticks k j true true (λ z. absurd (omega arith)))
-      ∙ fill-ignores k (j + 1) (omega arith) e seen (set ticks j true) found
-  fill-ignores k j h e (Unseen ∷ seen) ticks found =
-      ap (λ (t : List Bool). fillFrom g (j + 1) seen t (fillFrom g (j + 1) seen (set ticks k true) found)) (set-comm ticks k j true true (λ z. absurd (omega arith)))
-      ∙ fill-ignores k (j + 1) (omega arith) e seen (set ticks j true) (fillFrom g (j + 1) seen (set ticks k true) found)
-      ∙ ap (fillFrom g (j + 1) seen (set ticks j true)) (fill-ignores k (j + 1) (omega arith) e seen ticks found)
 
 -- ---- outcomes found again
 counted-self : (x : Remainder) → T (sameCounted x x)
@@ -124,28 +109,18 @@ module _ (room : ℕ) where
       by-tests false true e = there x (rs ++ (x ∷ [])) (any-snoc (sameCounted x) rs x ∙ rw (T→≡ (sameCounted x x) (counted-self x)) (or-true (any (sameCounted x) rs)))
       by-tests false false e = refl
 
-  -- a step that takes outcomes: what it has taken is held, and leaves what holds it as it is
-  record Taking (go : Found → Found) : Type 0 where
-    pub holds : (p : Found) → Holds p (go p)
-    pub again : (p q : Found) → Holds (go p) q → go q ≡ q
-
-  take-nothing : Taking (λ p. p)
-  take-nothing = record { holds = λ p a h. h; again = λ p q h. refl }
-
-  take-one : (a : Advanced) → Taking (λ p. took room p a)
-  take-one a = record { holds = λ p. took-holds p a; again = λ p q h. h a (took-again p a) }
+  -- a step that takes outcomes: what was held before it is held after it
+  abbrev Taking : (Found → Found) → Type 0
+  Taking go = (p : Found) → Holds p (go p)
 
   take-both : (f g : Found → Found) → Taking f → Taking g → Taking (λ p. g (f p))
-  take-both f g a b = record {
-    holds = λ p o h. b .holds (f p) o (a .holds p o h);
-    again = λ p q h. ap g (a .again p q (λ o k. h o (b .holds (f p) o k))) ∙ b .again (f p) q h;
-  }
+  take-both f g a b p o h = b (f p) o (a p o h)
 
   module _ (v : SheetValue) where
     settling-takes : (f : Filled) (begun : List Obligation) (rs : List Remainder) → Taking (settledAll room v f begun rs)
     unfolding settledAll
-    settling-takes f begun [] = take-nothing
-    settling-takes f begun (r ∷ rs) = take-both (λ p. took room p (advanced v f begun r)) (settledAll room v f begun rs) (take-one (advanced v f begun r)) (settling-takes f begun rs)
+    settling-takes f begun [] = λ p o h. h
+    settling-takes f begun (r ∷ rs) = take-both (λ p. took room p (advanced v f begun r)) (settledAll room v f begun rs) (λ p. took-holds p (advanced v f begun r)) (settling-takes f begun rs)
 
     filling-takes : (tags : List ℤ) (rs : List Remainder) (ticks : List Bool) → Taking (λ p. filling room v tags rs p ticks)
     unfolding filling
@@ -156,7 +131,7 @@ module _ (room : ℕ) where
 
         by-test : (b : Bool) → Taking (λ p. cond b (settledAll room v (filledOf ticks tags) begun rs p) p)
         by-test true = settling-takes (filledOf ticks tags) begun rs
-        by-test false = take-nothing
+        by-test false = λ p o h. h
 
   -- ---- fillings, where those of a clock that p doesn't heed do as one
   module _ (g : Found → List Bool → Found) (takes : (ticks : List Bool) → Taking (λ p. g p ticks)) where
@@ -167,7 +142,23 @@ module _ (room : ℕ) where
     fill-takes k (Unseen ∷ seen) ticks =
         take-both (fillFrom g (k + 1) seen ticks) (fillFrom g (k + 1) seen (set ticks k true)) (fill-takes (k + 1) seen ticks) (fill-takes (k + 1) seen (set ticks k true))
 
-    module _ (p : ℕ → Bool) (ignores : (k : ℕ) → p k ≡ false → Ignores g k) where
+    -- a tick of clock k finds nothing that is not found without it
+    abbrev Ignores : ℕ → Type 0
+    Ignores k = (p q : Found) (ticks : List Bool) → Holds (g p ticks) q → g q (set ticks k true) ≡ q
+
+    fill-ignores : (k j : ℕ) → k < j → Ignores k → (seen : List Tick) (ticks : List Bool) (p q : Found) → Holds (fillFrom g j seen ticks p) q → fillFrom g j seen (set ticks k true) q ≡ q
+    fill-ignores k j h e [] ticks p q t = e p q ticks t
+    fill-ignores k j h e (Idle ∷ seen) ticks p q t = fill-ignores k (j + 1) (omega arith) e seen ticks p q t
+    fill-ignores k j h e (Ticks ∷ seen) ticks p q t =
+        ap (λ (b : List Bool). fillFrom g (j + 1) seen b q) (set-comm ticks k j true true (λ z. absurd (omega arith)))
+        ∙ fill-ignores k (j + 1) (omega arith) e seen (set ticks j true) p q t
+    fill-ignores k j h e (Unseen ∷ seen) ticks p q t =
+        let before = fillFrom g (j + 1) seen ticks p in
+        ap (λ (b : List Bool). fillFrom g (j + 1) seen b (fillFrom g (j + 1) seen (set ticks k true) q)) (set-comm ticks k j true true (λ z. absurd (omega arith)))
+        ∙ ap (fillFrom g (j + 1) seen (set (set ticks j true) k true)) (fill-ignores k (j + 1) (omega arith) e seen ticks p q (λ a u. t a (fill-takes (j + 1) seen (set ticks j true) before a u)))
+        ∙ fill-ignores k (j + 1) (omega arith) e seen (set ticks j true) before q t
+
+    module _ (p : ℕ → Bool) (ignores : (k : ℕ) → p k ≡ false → Ignores k) where
       abbrev Alike : ℕ → List Tick → List Tick → Type 0
       Alike k left seen = (ticks : List Bool) (found : Found) → fillFrom g k seen ticks found ≡ fillFrom g k left ticks found
 
@@ -178,9 +169,7 @@ module _ (room : ℕ) where
       by-flag false k e Ticks left seen ih ticks found = ih (set ticks k true) found
       by-flag true k e Unseen left seen ih ticks found = ih (set ticks k true) (fillFrom g (k + 1) seen ticks found) ∙ ap (fillFrom g (k + 1) left (set ticks k true)) (ih ticks found)
       by-flag false k e Unseen left seen ih ticks found =
-          fill-ignores g k (k + 1) (omega arith) (ignores k e) seen ticks (fillFrom g (k + 1) seen ticks found)
-          ∙ fill-takes (k + 1) seen ticks .again found (fillFrom g (k + 1) seen ticks found) (λ a h. h)
-          ∙ ih ticks found
+          fill-ignores k (k + 1) (omega arith) (ignores k e) seen ticks found (fillFrom g (k + 1) seen ticks found) (λ a h. h) ∙ ih ticks found
 
       fill-heeded : (k : ℕ) (seen : List Tick) → Alike k (heeded p k seen) seen
       fill-heeded k [] ticks found = refl
@@ -194,7 +183,7 @@ clocksOf r = map (λ (o : Obligation). o .clock) (r .owed)
 module _ (k : ℕ) (t u : List Bool) (e : (a : ℕ) → eqb k a ≡ false → tickIn u a ≡ tickIn t a) where
   record Same (l : Line) : Type 0 where
     pub rule : ticksHold u l ≡ ticksHold t l
-    pub holds : (stopped : List Bool) (lead : ℕ) → carriedHolds u stopped l lead ≡ carriedHolds t stopped l lead
+    pub holds : (lead : ℕ) → carriedHolds u l lead ≡ carriedHolds t l lead
     pub begun : (tags : List ℤ) → owedFrom (filledOf u tags) l ≡ owedFrom (filledOf t tags) l
     pub lead : (n : ℕ) → leadAfter u l n ≡ leadAfter t l n
     pub stop : (stopped : List Bool) → stoppedAfter u l stopped ≡ stoppedAfter t l stopped
@@ -207,14 +196,14 @@ module _ (k : ℕ) (t u : List Bool) (e : (a : ℕ) → eqb k a ≡ false → ti
     two = e B (neither (eqb k B) (neither (eqb k A) h .1) .0)
 
   same : (l : Line) → any (eqb k) (namedBy l) ≡ false → Same l
-  same (Implies A B) h = record { rule = rw (one A B h, two A B h); holds = λ s n. refl; begun = λ tags. refl; lead = λ n. refl; stop = λ s. refl }
-  same (Excludes A B) h = record { rule = rw (one A B h, two A B h); holds = λ s n. refl; begun = λ tags. refl; lead = λ n. refl; stop = λ s. refl }
-  same (Weakly A B) h = record { rule = refl; holds = λ s n. rw (one A B h, two A B h); begun = λ tags. refl; lead = λ n. rw (one A B h, two A B h); stop = λ s. refl }
-  same (Strictly A B) h = record { rule = refl; holds = λ s n. rw (two A B h); begun = λ tags. refl; lead = λ n. rw (one A B h, two A B h); stop = λ s. refl }
-  same (Kills A B) h = record { rule = rw (one A B h, two A B h); holds = λ s n. rw (two A B h); begun = λ tags. refl; lead = λ n. refl; stop = λ s. rw (one A B h) }
-  same (Delayed A B D d) h = record { rule = refl; holds = λ s n. refl; begun = λ tags. rw (e A (neither (eqb k A) h .0)); lead = λ n. refl; stop = λ s. refl }
-  same (Sporadic A B d) h = record { rule = refl; holds = λ s n. refl; begun = λ tags. refl; lead = λ n. refl; stop = λ s. refl }
-  same (Relation A B p q) h = record { rule = refl; holds = λ s n. refl; begun = λ tags. refl; lead = λ n. refl; stop = λ s. refl }
+  same (Implies A B) h = record { rule = rw (one A B h, two A B h); holds = λ n. refl; begun = λ tags. refl; lead = λ n. refl; stop = λ s. refl }
+  same (Excludes A B) h = record { rule = rw (one A B h, two A B h); holds = λ n. refl; begun = λ tags. refl; lead = λ n. refl; stop = λ s. refl }
+  same (Weakly A B) h = record { rule = refl; holds = λ n. rw (one A B h, two A B h); begun = λ tags. refl; lead = λ n. rw (one A B h, two A B h); stop = λ s. refl }
+  same (Strictly A B) h = record { rule = refl; holds = λ n. rw (two A B h); begun = λ tags. refl; lead = λ n. rw (one A B h, two A B h); stop = λ s. refl }
+  same (Kills A B) h = record { rule = rw (one A B h, two A B h); holds = λ n. refl; begun = λ tags. refl; lead = λ n. refl; stop = λ s. rw (one A B h) }
+  same (Delayed A B D d) h = record { rule = refl; holds = λ n. refl; begun = λ tags. rw (e A (neither (eqb k A) h .0)); lead = λ n. refl; stop = λ s. refl }
+  same (Sporadic A B d) h = record { rule = refl; holds = λ n. refl; begun = λ tags. refl; lead = λ n. refl; stop = λ s. refl }
+  same (Relation A B p q) h = record { rule = refl; holds = λ n. refl; begun = λ tags. refl; lead = λ n. refl; stop = λ s. refl }
 
   same-all : (ls : List Line) → any (eqb k) (flatMap namedBy ls) ≡ false → All Same ls
   same-all [] h = tt
@@ -224,10 +213,10 @@ module _ (k : ℕ) (t u : List Bool) (e : (a : ℕ) → eqb k a ≡ false → ti
   rules-same [] h = refl
   rules-same (l ∷ ls) h = rw (h .0 .rule, rules-same ls (h .1))
 
-  holds-same : (stopped : List Bool) (ls : List Line) (leads : List ℕ) → All Same ls → linesOk (carriedHolds u stopped) ls leads ≡ linesOk (carriedHolds t stopped) ls leads
-  holds-same stopped [] leads h = refl
-  holds-same stopped (l ∷ ls) [] h = rw (h .0 .holds stopped 0, holds-same stopped ls [] (h .1))
-  holds-same stopped (l ∷ ls) (n ∷ leads) h = rw (h .0 .holds stopped n, holds-same stopped ls leads (h .1))
+  holds-same : (ls : List Line) (leads : List ℕ) → All Same ls → linesOk (carriedHolds u) ls leads ≡ linesOk (carriedHolds t) ls leads
+  holds-same [] leads h = refl
+  holds-same (l ∷ ls) [] h = rw (h .0 .holds 0, holds-same ls [] (h .1))
+  holds-same (l ∷ ls) (n ∷ leads) h = rw (h .0 .holds n, holds-same ls leads (h .1))
 
   begun-same : (tags : List ℤ) (ls : List Line) → All Same ls → flatMap (owedFrom (filledOf u tags)) ls ≡ flatMap (owedFrom (filledOf t tags)) ls
   begun-same tags [] h = refl
@@ -258,22 +247,50 @@ module _ (k : ℕ) (t u : List Bool) (e : (a : ℕ) → eqb k a ≡ false → ti
     with-kept begun r none = refl
     with-kept begun r (some os) = with-begun r (addedAll begun os)
 
-    advanced-same : (begun : List Obligation) (r : Remainder) → any (eqb k) (clocksOf r) ≡ false → advanced v (filledOf u tags) begun r ≡ advanced v (filledOf t tags) begun r
-    unfolding advanced kept
-    advanced-same begun r n = rw (holds-same (r .stopped) (v .lines) (r .leads) h, left-same tags (r .owed) n, with-kept begun r (kept (filledOf t tags) (r .owed)))
+    -- where a clock stopped that ticks in t ticks in u: a remainder is barred by u, or becomes what it becomes by t
+    module _ (more : (stopped : List Bool) → T (overlap t stopped) → T (overlap u stopped)) where
+      advanced-same : (begun : List Obligation) (r : Remainder) → any (eqb k) (clocksOf r) ≡ false
+          → (advanced v (filledOf u tags) begun r ≡ fails) ⊎ (advanced v (filledOf u tags) begun r ≡ advanced v (filledOf t tags) begun r)
+      unfolding advanced kept
+      advanced-same begun r n = by-tests (overlap u (r .stopped)) (overlap t (r .stopped)) (more (r .stopped))
+        where
+          by-tests : (a b : Bool) → (T b → T a)
+              → (cond (not a && linesOk (carriedHolds u) (v .lines) (r .leads)) (withKept v u begun r (kept (filledOf u tags) (r .owed))) fails ≡ fails)
+              ⊎ (cond (not a && linesOk (carriedHolds u) (v .lines) (r .leads)) (withKept v u begun r (kept (filledOf u tags) (r .owed))) fails
+              ≡ cond (not b && linesOk (carriedHolds t) (v .lines) (r .leads)) (withKept v t begun r (kept (filledOf t tags) (r .owed))) fails)
+          by-tests true b h = inl refl
+          by-tests false true h = absurd (h tt)
+          by-tests false false m = inr (rw (holds-same (v .lines) (r .leads) h, left-same tags (r .owed) n, with-kept begun r (kept (filledOf t tags) (r .owed))))
 
-    settled-same : (room : ℕ) (begun : List Obligation) (rs : List Remainder) (found : Found) → any (eqb k) (flatMap clocksOf rs) ≡ false
-        → settledAll room v (filledOf u tags) begun rs found ≡ settledAll room v (filledOf t tags) begun rs found
-    unfolding settledAll
-    settled-same room begun [] found n = refl
-    settled-same room begun (r ∷ rs) found n =
-        let m = neither (any (eqb k) (clocksOf r)) (sym (any-append (eqb k) (clocksOf r) (flatMap clocksOf rs)) ∙ n) in
-        rw (advanced-same begun r (m .0)) (settled-same room begun rs (took room found (advanced v (filledOf t tags) begun r)) (m .1))
+      settled-less : (room : ℕ) (begun : List Obligation) (rs : List Remainder) (p q : Found) → any (eqb k) (flatMap clocksOf rs) ≡ false
+          → Holds room (settledAll room v (filledOf t tags) begun rs p) q → settledAll room v (filledOf u tags) begun rs q ≡ q
+      unfolding settledAll
+      settled-less room begun [] p q n w = refl
+      settled-less room begun (r ∷ rs) p q n w =
+          let m = neither (any (eqb k) (clocksOf r)) (sym (any-append (eqb k) (clocksOf r) (flatMap clocksOf rs)) ∙ n) in
+          let a = advanced v (filledOf t tags) begun r in
+          let there : took room q a ≡ q = w a (settling-takes room v (filledOf t tags) begun rs (took room p a) a (took-again room p a)) in
+          ap (settledAll room v (filledOf u tags) begun rs) (⊎-elim (λ z. ap (took room q) z) (λ z. ap (took room q) z ∙ there) (advanced-same begun r (m .0)))
+          ∙ settled-less room begun rs (took room p a) q (m .1) w
 
-    filling-same : (room : ℕ) (rs : List Remainder) (found : Found) → any (eqb k) (flatMap clocksOf rs) ≡ false → filling room v tags rs found u ≡ filling room v tags rs found t
-    unfolding filling
-    filling-same room rs found n =
-        rw (rules-same (v .lines) h, begun-same tags (v .lines) h, settled-same room (flatMap (owedFrom (filledOf t tags)) (v .lines)) rs found n)
+      filling-less : (room : ℕ) (rs : List Remainder) (p q : Found) → any (eqb k) (flatMap clocksOf rs) ≡ false → Holds room (filling room v tags rs p t) q → filling room v tags rs q u ≡ q
+      unfolding filling
+      filling-less room rs p q n w = rw (rules-same (v .lines) h, begun-same tags (v .lines) h) (by-test (all (ticksHold t) (v .lines)) w)
+        where
+          begun : List Obligation
+          begun = flatMap (owedFrom (filledOf t tags)) (v .lines)
+
+          by-test : (b : Bool) → Holds room (cond b (settledAll room v (filledOf t tags) begun rs p) p) q → cond b (settledAll room v (filledOf u tags) begun rs q) q ≡ q
+          by-test true w = settled-less room begun rs p q n w
+          by-test false w = refl
+
+-- one more tick
+overlap-more : (xs ys : List Bool) (k : ℕ) → T (overlap xs ys) → T (overlap (set xs k true) ys)
+overlap-more [] ys k t = t
+overlap-more (x ∷ xs) [] k t = absurd t
+overlap-more (x ∷ xs) (y ∷ ys) zero t = or-e (x && y) (overlap xs ys) t (λ u. or-l y (overlap xs ys) (and-r x y u)) (or-r y (overlap xs ys))
+overlap-more (x ∷ xs) (y ∷ ys) (suc k) t =
+    or-e (x && y) (overlap xs ys) t (or-l (x && y) (overlap (set xs k true) ys)) (λ u. or-r (x && y) (overlap (set xs k true) ys) (overlap-more xs ys k u))
 
 -- ---- the clocks with a flag
 set-stays : (flags : List Bool) (a k : ℕ) → getD flags k true ≡ true → getD (set flags a true) k true ≡ true
@@ -325,11 +342,11 @@ pub heeded-enough : (room : ℕ) (v : SheetValue) (tags : List ℤ) (n : ℕ) (r
 heeded-enough room v tags n r seen ticks found =
     fill-heeded room (filling room v tags (rowsOf v n r)) (filling-takes room v tags (rowsOf v n r)) (heeds (v .lines) (rowsClocks (r .marks) n)) ignores 0 seen ticks found
   where
-    ignores : (k : ℕ) → heeds (v .lines) (rowsClocks (r .marks) n) k ≡ false → Ignores (filling room v tags (rowsOf v n r)) k
-    ignores k h found ticks =
+    ignores : (k : ℕ) → heeds (v .lines) (rowsClocks (r .marks) n) k ≡ false → Ignores room (filling room v tags (rowsOf v n r)) (filling-takes room v tags (rowsOf v n r)) k
+    ignores k h p q ticks w =
         let named = flagged (flatMap namedBy (v .lines)) (replicate 8 false) in
         let owed = unflagged (rowsClocks (r .marks) n) named k h in
         let lines = unflagged (flatMap namedBy (v .lines)) (replicate 8 false) k (owed .1) in
         let other : (a : ℕ) → eqb k a ≡ false → tickIn (set ticks k true) a ≡ tickIn ticks a = λ a e. getD-set-other ticks k a true false (λ z. true≢false (sym (eq-eqb k a (sym z)) ∙ e)) in
-        filling-same k ticks (set ticks k true) other v (same-all k ticks (set ticks k true) other (v .lines) (lines .0)) tags room (rowsOf v n r) found
-        (ap (any (eqb k)) (rows-clocks v n r) ∙ owed .0)
+        filling-less k ticks (set ticks k true) other v (same-all k ticks (set ticks k true) other (v .lines) (lines .0)) tags (λ stopped. overlap-more ticks stopped k) room (rowsOf v n r) p q
+        (ap (any (eqb k)) (rows-clocks v n r) ∙ owed .0) w

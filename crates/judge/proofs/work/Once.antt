@@ -1,5 +1,5 @@
 -- To add each of some obligations once is to add them all: one that is owed, or that was added before, is found there. Assumes nothing.
-use mathlib.Core.Bool.{Bool, true, false, cond, _||_}
+use mathlib.Core.Bool.{Bool, true, false, not, cond, _&&_, _||_}
 use mathlib.Core.List.{List, [], _∷_, _++_, append-nil, append-assoc}
 use mathlib.Core.Option.{Option, none, some}
 use mathlib.Core.Path.{_≡_, refl, sym, ap, _∙_, subst}
@@ -12,7 +12,7 @@ use Rattle.tesl.specs.Run.{Filled}
 use Rattle.tesl.specs.Fits.{Obligation}
 use Rattle.tesl.specs.Remainder.{Remainder, sameObligation}
 use Rattle.tesl.proofs.Tests.{or-l, or-r, or-e, T→≡}
-use Rattle.theory.specs.Step.{linesOk}
+use Rattle.theory.specs.Step.{overlap, linesOk}
 use Rattle.theory.proofs.Lists.{any-snoc}
 use Rattle.theory.proofs.Respect.{sameObligation→eq, owed-equivalence}
 use Rattle.judge.specs.Advanced.{Advanced, fails}
@@ -96,7 +96,7 @@ module _ (v : SheetValue) (f : Filled) (os : List Obligation) where
   advanced-once : (r : Remainder) → advanced v f (onceEach os) r ≡ advanced v f os r
   unfolding advanced
   advanced-once r =
-      ap (λ (a : Advanced). cond (linesOk (carriedHolds (f .ticks) (r .stopped)) (v .lines) (r .leads)) a fails) (kept-once r (kept f (r .owed)))
+      ap (λ (a : Advanced). cond (not (overlap (f .ticks) (r .stopped)) && linesOk (carriedHolds (f .ticks)) (v .lines) (r .leads)) a fails) (kept-once r (kept f (r .owed)))
 
   pub settled-once : (room : ℕ) (rs : List Remainder) (found : Option (List Remainder)) → settledAll room v f (onceEach os) rs found ≡ settledAll room v f os rs found
   unfolding settledAll

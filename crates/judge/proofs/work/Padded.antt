@@ -1,5 +1,5 @@
 -- A filled instant of a sheet's clocks and the same one of eight clocks, those from C on idle at tag 0, are one to every question. Assumes nothing.
-use mathlib.Core.Bool.{Bool, true, false, cond, _&&_, _||_, and-true}
+use mathlib.Core.Bool.{Bool, true, false, not, cond, _&&_, _||_, and-true}
 use mathlib.Core.List.{List, [], _∷_, _++_, List·Memᴰ, Memᴰ·of-map}
 use mathlib.Core.Option.{Option, none, some}
 use mathlib.Core.Path.{_≡_, refl, sym, ap, ap₂, _∙_}
@@ -18,7 +18,7 @@ use Rattle.tesl.specs.Run.{Instant, ticksOf, tagsOf, Filled, tagIn, tagAt, fill
 use Rattle.tesl.specs.Fits.{Obligation, noneFalls, owedFrom, notLate}
 use Rattle.tesl.specs.Remainder.{Remainder, stops}
 use Rattle.tesl.proofs.FormulaLists.{all-append}
-use Rattle.theory.specs.Step.{linesOk, nextOwed, next, stepOk}
+use Rattle.theory.specs.Step.{overlap, linesOk, nextOwed, next, stepOk}
 use Rattle.theory.proofs.Lists.{table-ext}
 use Rattle.theory.proofs.Fill.{settled, fillings-settled, foldl, fillFold-is}
 use Rattle.judge.specs.View.{filledOf, tagsBefore}
@@ -29,7 +29,7 @@ use Rattle.judge.specs.Work.{carried, fillFrom}
 use Rattle.judge.proofs.Questions.{lines-ok}
 use Rattle.judge.proofs.lines.Carried.{leads-after, all-as-many, all-stopped}
 use Rattle.judge.proofs.Below.{below-ext}
-use Rattle.judge.proofs.work.PaddedLaws.{Alike, filled-reads, table-reads, fills, foldl-map, all-begun-later, same-lines, same-leads, same-begun, same-stops, same-left, same-late}
+use Rattle.judge.proofs.work.PaddedLaws.{Alike, filled-reads, table-reads, fills, foldl-map, all-begun-later, same-overlap, same-lines, same-leads, same-begun, same-stops, same-left, same-late}
 
 abbrev pub padded : Filled → Filled
 padded f = filledOf (filled 8 false (f .ticks)) (filled 8 (pos 0) (f .tags))
@@ -43,7 +43,7 @@ abbrev pub tagsFit : SheetValue → Option (List ℤ) → List ℤ → Bool
 tagsFit v last tags = noneFalls (v .clocks) last tags && all (tagsHold tags) (v .lines)
 
 abbrev pub goesOn : SheetValue → Filled → Remainder → Bool
-goesOn v f r = linesOk (carriedHolds (f .ticks) (r .stopped)) (v .lines) (r .leads) && notLate (some (f .tags)) (left f (r .owed))
+goesOn v f r = (not (overlap (f .ticks) (r .stopped)) && linesOk (carriedHolds (f .ticks)) (v .lines) (r .leads)) && notLate (some (f .tags)) (left f (r .owed))
 
 -- ---- alike at each clock
 
@@ -67,11 +67,14 @@ late ls f os =
     ∙ same-late (alike f) (left f os)
     ∙ ap (notLate (some (padded f .tags))) (same-left (alike f) os)
 
-regroup : (n a b c d : Bool) → (n && (a && (b && c)) && d) ≡ (n && a && (b && (c && d)))
-regroup false a b c d = refl
-regroup true false b c d = refl
-regroup true true false c d = refl
-regroup true true true c d = refl
+regroup : (n q a b c d : Bool) → (n && (q && (a && (b && c))) && d) ≡ (n && a && (b && (q && c && d)))
+regroup false q a b c d = refl
+regroup true false false b c d = refl
+regroup true false true false c d = refl
+regroup true false true true c d = refl
+regroup true true false b c d = refl
+regroup true true true false c d = refl
+regroup true true true true c d = refl
 
 pub step-ok : (v : SheetValue) (first : Bool) (was : List ℤ) (f : Filled) (r : Remainder)
     → stepOk v (lastIn v first was) f r ≡ (tagsFit v (tagsBefore first was) (padded f .tags) && (all (ticksHold (padded f .ticks)) (v .lines) && goesOn v (padded f) r))
@@ -80,12 +83,13 @@ step-ok v first was f r =
     let g = padded f in
     rw (
       falls (v .clocks) first was f,
-      same-lines (alike f) (r .stopped) (v .lines) (r .leads),
-      lines-ok (g .ticks) (g .tags) (r .stopped) (v .lines) (r .leads),
+      same-overlap (f .ticks) (g .ticks) (r .stopped) (alike f .ticks),
+      same-lines (alike f) (v .lines) (r .leads),
+      lines-ok (g .ticks) (g .tags) (v .lines) (r .leads),
       late (v .lines) f (r .owed),
     )
-    (regroup (noneFalls (v .clocks) (tagsBefore first was) (g .tags)) (all (tagsHold (g .tags)) (v .lines)) (all (ticksHold (g .ticks)) (v .lines))
-    (linesOk (carriedHolds (g .ticks) (r .stopped)) (v .lines) (r .leads)) (notLate (some (g .tags)) (left g (r .owed))))
+    (regroup (noneFalls (v .clocks) (tagsBefore first was) (g .tags)) (not (overlap (g .ticks) (r .stopped))) (all (tagsHold (g .tags)) (v .lines)) (all (ticksHold (g .ticks)) (v .lines))
+    (linesOk (carriedHolds (g .ticks)) (v .lines) (r .leads)) (notLate (some (g .tags)) (left g (r .owed))))
 
 stopped-next : (c : ℕ) (ls : List Line) (f : Filled) (stopped : List Bool) → length stopped ≡ c
     → table c (λ k. getD stopped k false || any (stops (f ∷ []) k) ls) ≡ allStopped (padded f .ticks) ls stopped

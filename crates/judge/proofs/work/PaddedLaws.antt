@@ -22,7 +22,7 @@ use Rattle.tesl.specs.Fits.{Obligation, owedFrom, notLate}
 use Rattle.tesl.specs.Remainder.{stops}
 use Rattle.tesl.proofs.FormulaLists.{all-append}
 use Rattle.tesl.proofs.Tests.{T→≡}
-use Rattle.theory.specs.Step.{lineOk, linesOk, nextLead, nextLeads}
+use Rattle.theory.specs.Step.{lineOk, overlap, linesOk, nextLead, nextLeads}
 use Rattle.theory.proofs.Fill.{foldl, fillFold}
 use Rattle.judge.specs.Owed.{left}
 use Rattle.judge.specs.Work.{fillFrom}
@@ -117,26 +117,36 @@ pub record Alike (f g : Filled) : Type 0 where
   pub ticks : (k : ℕ) → ticksAt f k ≡ ticksAt g k
   pub tags : (k : ℕ) → tagAt f k ≡ tagAt g k
 
+-- the clocks of two lists alike at each
+pub same-overlap : (xs ys zs : List Bool) → ((k : ℕ) → getD xs k false ≡ getD ys k false) → overlap xs zs ≡ overlap ys zs
+same-overlap [] [] zs e = refl
+same-overlap [] (y ∷ ys) [] e = refl
+same-overlap [] (y ∷ ys) (z ∷ zs) e = rw (sym (e 0)) (same-overlap [] ys zs (λ k. e (suc k)))
+same-overlap (x ∷ xs) [] [] e = refl
+same-overlap (x ∷ xs) [] (z ∷ zs) e = rw (e 0) (same-overlap xs [] zs (λ k. e (suc k)))
+same-overlap (x ∷ xs) (y ∷ ys) [] e = refl
+same-overlap (x ∷ xs) (y ∷ ys) (z ∷ zs) e = rw (e 0, same-overlap xs ys zs (λ k. e (suc k)))
+
 -- what a line says of both
 record Same (f g : Filled) (l : Line) : Type 0 where
-  holds : (stopped : List Bool) (lead : ℕ) → lineOk f stopped l lead ≡ lineOk g stopped l lead
+  holds : (lead : ℕ) → lineOk f l lead ≡ lineOk g l lead
   leads : (lead : ℕ) → nextLead f l lead ≡ nextLead g l lead
   begins : owedFrom f l ≡ owedFrom g l
   stop : (k : ℕ) → stops (f ∷ []) k l ≡ stops (g ∷ []) k l
 
 module _ {f g : Filled} (a : Alike f g) where
   same : (l : Line) → Same f g l
-  same (Relation A B p q) = record { holds = λ s n. rw (a .tags A, a .tags B); leads = λ n. refl; begins = refl; stop = λ k. refl }
-  same (Implies A B) = record { holds = λ s n. rw (a .ticks A, a .ticks B); leads = λ n. refl; begins = refl; stop = λ k. refl }
-  same (Excludes A B) = record { holds = λ s n. rw (a .ticks A, a .ticks B); leads = λ n. refl; begins = refl; stop = λ k. refl }
-  same (Weakly A B) = record { holds = λ s n. rw (a .ticks A, a .ticks B); leads = λ n. rw (a .ticks A, a .ticks B); begins = refl; stop = λ k. refl }
-  same (Strictly A B) = record { holds = λ s n. rw (a .ticks B); leads = λ n. rw (a .ticks A, a .ticks B); begins = refl; stop = λ k. refl }
-  same (Kills A B) = record { holds = λ s n. rw (a .ticks A, a .ticks B); leads = λ n. refl; begins = refl; stop = λ k. rw (a .ticks A) }
-  same (Sporadic A B t) = record { holds = λ s n. refl; leads = λ n. refl; begins = refl; stop = λ k. refl }
-  same (Delayed A B D d) = record { holds = λ s n. refl; leads = λ n. refl; begins = rw (a .ticks A, a .tags B); stop = λ k. refl }
+  same (Relation A B p q) = record { holds = λ n. rw (a .tags A, a .tags B); leads = λ n. refl; begins = refl; stop = λ k. refl }
+  same (Implies A B) = record { holds = λ n. rw (a .ticks A, a .ticks B); leads = λ n. refl; begins = refl; stop = λ k. refl }
+  same (Excludes A B) = record { holds = λ n. rw (a .ticks A, a .ticks B); leads = λ n. refl; begins = refl; stop = λ k. refl }
+  same (Weakly A B) = record { holds = λ n. rw (a .ticks A, a .ticks B); leads = λ n. rw (a .ticks A, a .ticks B); begins = refl; stop = λ k. refl }
+  same (Strictly A B) = record { holds = λ n. rw (a .ticks B); leads = λ n. rw (a .ticks A, a .ticks B); begins = refl; stop = λ k. refl }
+  same (Kills A B) = record { holds = λ n. rw (a .ticks A, a .ticks B); leads = λ n. refl; begins = refl; stop = λ k. rw (a .ticks A) }
+  same (Sporadic A B t) = record { holds = λ n. refl; leads = λ n. refl; begins = refl; stop = λ k. refl }
+  same (Delayed A B D d) = record { holds = λ n. refl; leads = λ n. refl; begins = rw (a .ticks A, a .tags B); stop = λ k. refl }
 
-  pub same-lines : (stopped : List Bool) (ls : List Line) (leads : List ℕ) → linesOk (lineOk f stopped) ls leads ≡ linesOk (lineOk g stopped) ls leads
-  same-lines stopped ls leads = ap (λ (ok : Line → ℕ → Bool). linesOk ok ls leads) (fun-ext (λ l. fun-ext (same l .holds stopped)))
+  pub same-lines : (ls : List Line) (leads : List ℕ) → linesOk (lineOk f) ls leads ≡ linesOk (lineOk g) ls leads
+  same-lines ls leads = ap (λ (ok : Line → ℕ → Bool). linesOk ok ls leads) (fun-ext (λ l. fun-ext (same l .holds)))
 
   pub same-leads : (ls : List Line) (leads : List ℕ) → nextLeads (nextLead f) ls leads ≡ nextLeads (nextLead g) ls leads
   same-leads ls leads = ap (λ (after : Line → ℕ → ℕ). nextLeads after ls leads) (fun-ext (λ l. fun-ext (same l .leads)))

@@ -32,7 +32,7 @@ returns c =
     let e = c .before .before .before .before .before .before .before .before .before .before .before .before in
     let a = e .args in
     let p = e .pre .1 .1 .1 .1 .1 .1 .1 in
-    (work-broken (a .room) (sheetValue (a .s)) (tagsBefore (a .first) (a .was)) (a .instant .ticks) (a .instant .tags) (a .count) (given e) (c .before .before .count .given .1) (c .if1 .taken) (lent e), (p .0, (p .1 .0, (omega arith, λ i l. absurd (omega arith)))))
+    (work-broken (a .room) (sheetValue (a .s)) (tagsBefore (a .first) (a .was)) (a .instant .ticks) (a .instant .tags) (a .count) (given e) (c .before .before .count .given .1) (c .if1 .taken) (lent e), (p .0, (p .1, (omega arith, λ i l. absurd (omega arith)))))
 
 clocks-of-requires : tie.Need-clocks-of-requires
 clocks-of-requires c κs = search needs
@@ -48,7 +48,7 @@ returns-2 c =
     let a = e .args in
     let p = e .pre .1 .1 .1 in
     let q = p .1 .1 .1 .1 in
-    (work-no (a .room) (sheetValue (a .s)) (tagsBefore (a .first) (a .was)) (a .instant .ticks) (a .instant .tags) (a .count) (given e) (c .before .before .before .before .before .before .count .given .1) (c .before .before .before .before .if1 .left) (c .before .before .before .clocks-of .ensures) (p .0 .relations) (c .before .tags-fit .ensures) (not-true _ (c .if2 .taken)) (lent e), (q .0, (q .1 .0, (omega arith, λ i l. absurd (omega arith)))))
+    (work-no (a .room) (sheetValue (a .s)) (tagsBefore (a .first) (a .was)) (a .instant .ticks) (a .instant .tags) (a .count) (given e) (c .before .before .before .before .before .before .count .given .1) (c .before .before .before .before .if1 .left) (c .before .before .before .clocks-of .ensures) (p .0 .relations) (c .before .tags-fit .ensures) (not-true _ (c .if2 .taken)) (lent e), (q .0, (q .1, (omega arith, λ i l. absurd (omega arith)))))
 
 heed-requires : tie.Need-heed-requires
 heed-requires c κs =
@@ -63,7 +63,7 @@ fill-requires c κs =
     let p = c .before .before .before .before .before .before .before .before .before .before .before .before .before .before .before .before .before .before .before .before .pre .1 .1 in
     let k = c .before .before .before .before .before .before .before .clocks-of in
     let l : k .result ≤ 8 = omega (arith, k .ensures, p .0) in
-    (p .1 .0 .size, (p .1 .0 .few-rules, (l, (omega arith, (p .1 .1 .1 .1 .1 .1 .0, at-most-256 (k .result) (c .before .heed .result) (replicate 8 false) l)))))
+    (p .1 .0 .size, (p .1 .0 .few-rules, (l, (omega arith, (p .1 .1 .1 .1 .1 .1, at-most-256 (k .result) (c .before .heed .result) (replicate 8 false) l)))))
 
 settle-all-requires : tie.Need-settle-all-requires
 settle-all-requires c κs =
@@ -75,14 +75,14 @@ settle-all-requires c κs =
     let q = p .1 .1 .1 in
     let small = small-live (e .args .count) (k .0 .0) 32 (now (e .args .marks)) (k .1) (q .1 .1 .0) in
     let few = few-listed (m .result) (f .before .before .heed .result) (replicate 8 false) (f .fill .result) (omega (arith, m .ensures, p .1 .1 .0)) (f .fill .ensures .1 .0) in
-    (p .0, (p .1 .0, (p .1 .1 .0, (q .0, (few, (f .fill .ensures .0, (small .0, (q .1 .0, (small .1, (rw (k .1) at (q .1 .1 .1 .0), (q .1 .1 .1 .1 .0, q .1 .1 .1 .1 .1 .1)))))))))))
+    (p .0, (p .1 .0, (p .1 .1 .0, (q .0, (few, (f .fill .ensures .0, (small .0, (q .1 .0, (small .1, (rw (k .1) at (q .1 .1 .1 .0), q .1 .1 .1 .1 .0))))))))))
 
 returns-3 : tie.Need-returns-3
 returns-3 c =
     let e = c .before .before .before .before .before .before .before .before .before .before in
     let a = e .args in
     let p = e .pre .1 .1 .1 .1 .1 .1 .1 in
-    (work-exhausted (a .room) (sheetValue (a .s)) (tagsBefore (a .first) (a .was)) (a .instant .ticks) (a .instant .tags) (a .count) (given e) (c .enum-told .given .1), (p .0, (p .1 .0, λ i h. absurd (omega arith))))
+    (work-exhausted (a .room) (sheetValue (a .s)) (tagsBefore (a .first) (a .was)) (a .instant .ticks) (a .instant .tags) (a .count) (given e) (c .enum-told .given .1), (p .0, (p .1, λ i h. absurd (omega arith))))
 
 same-length : tie.Need-same-length
 same-length c = search needs

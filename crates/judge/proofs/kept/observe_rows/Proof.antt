@@ -39,7 +39,7 @@ work-rows-requires c κs =
     let m = rowsMonitor (a .sheet) (a .instants) (a .was) (a .count) r in
     let l = limited (a .sheet) (a .instants) (a .was) (a .count) r (p .0 .value) (p .1 .0) in
     let w = can-work m (now (a .bytes)) l refl (c .before .before .before .before .before .before .before .before .before .read-instant .ensures) (c .before .before .before .before .before .before .before .enum-told .given .1) (omega (arith, c .before .before .before .before .before .before .if1 .left)) in
-    (omega arith, (w .lines, (w .clocks, (p .0 .plan, (p .1 .1 .0, (small-rows (a .count) r (w .fits), (leads-rows (a .sheet) (a .instants) (a .was) (a .count) r w, (p .1 .1 .1 .0, (p .1 .1 .1 .1, w .below)))))))))
+    (omega arith, (w .lines, (w .clocks, (p .0 .plan, (p .1 .1 .0, (small-rows (a .count) r (w .fits), (leads-rows (a .sheet) (a .instants) (a .was) (a .count) r w, (p .1 .1 .1 .0, p .1 .1 .1 .1))))))))
 
 say-rows-requires : tie.Need-say-rows-requires
 say-rows-requires c κs = search needs

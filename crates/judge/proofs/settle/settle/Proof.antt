@@ -1,4 +1,4 @@
--- `settle` meets its contract. The invariant, for each sheet of which these are the clocks, bars and needs: settling all rows from what was found is settling those from i on from what is found so far. Assumes nothing.
+-- `settle` meets its contract. The invariant, for each sheet of which these are the clocks and needs: settling all rows from what was found is settling those from i on from what is found so far. Assumes nothing.
 use mathlib.Core.List.{List}
 use mathlib.Core.Option.{Option, some}
 use mathlib.Core.Path.{_≡_, refl, sym, ap, _∙_}
@@ -27,19 +27,19 @@ use Rattle.judge.proofs.settle.settle.Statement.{statement}
 use Rattle.judge.proofs.settle.settle.Tie as tie
 
 abbrev Inv-loop : tie.InvT-loop
-Inv-loop room lines ticks tags n marks dues leads stopped found outmarks₀ outdues₀ outleads₀ outstopped₀ clocks reach precede rules delays barred stops begun begundues asks live₀ i₀ outmarks outdues outleads outstopped live i =
+Inv-loop room lines ticks tags n marks dues leads stopped found outmarks₀ outdues₀ outleads₀ outstopped₀ clocks reach precede rules delays stops begun begundues asks live₀ i₀ outmarks outdues outleads outstopped live i =
     (i ≤ n) × (live ≤ room) × Roomy (rows outmarks outdues outleads outstopped) × Small live outmarks
-    × ((v : SheetValue) → Asked v clocks reach precede ticks tags (begunIn begun begundues) barred stops asks
+    × ((v : SheetValue) → Asked v clocks reach precede ticks tags (begunIn begun begundues) stops asks
     → settling room v tags (rowsOf v n (rows marks dues leads stopped)) (some (rowsOf v found (rows outmarks₀ outdues₀ outleads₀ outstopped₀))) ticks
     ≡ settledFrom room v (filledOf ticks tags) (begunIn begun begundues) (rows marks dues leads stopped) n i (some (rowsOf v live (rows outmarks outdues outleads outstopped))))
 
 abbrev μ-loop : tie.MeasureT-loop
-μ-loop room lines ticks tags n marks dues leads stopped found outmarks₀ outdues₀ outleads₀ outstopped₀ clocks reach precede rules delays barred stops begun begundues asks live₀ i₀ outmarks outdues outleads outstopped live i =
+μ-loop room lines ticks tags n marks dues leads stopped found outmarks₀ outdues₀ outleads₀ outstopped₀ clocks reach precede rules delays stops begun begundues asks live₀ i₀ outmarks outdues outleads outstopped live i =
     n - i
 
 -- the call, its sheet, its plan, the rows given, and the arrays to fill
 abbrev start : tie.At-loop Inv-loop μ-loop → tie.Start Inv-loop μ-loop
-start at = at .before .before .before .before .before .before .before .before .before .before .before .before .before .before .before .before .before .before .before .before
+start at = at .before .before .before .before .before .before .before .before .before .before .before .before .before .before .before .before .before .before .before
 
 abbrev sheet : tie.At-loop Inv-loop μ-loop → SheetValue
 sheet at = sheetValue (start at .args .s)
@@ -64,7 +64,7 @@ begun at = let l = at .before .before .before .before .before .before .begin-all
 abbrev AskedOf : tie.At-loop Inv-loop μ-loop → SheetValue → Type 0
 AskedOf at v =
     let a = start at .args in
-    Asked v (at .before .before .before .before .before .before .before .before .before .before .before .before .clocks-of .result) (a .plan .reach) (a .plan .precede) (a .ticks) (a .tags) (begun at) (at .before .before .before .before .before .before .before .before .before .before .all-barred .result) (at .before .before .before .before .before .before .before .before .before .all-stops .result) (at .before .before .ask-leads .last .1 .1 .1 .0)
+    Asked v (at .before .before .before .before .before .before .before .before .before .before .before .clocks-of .result) (a .plan .reach) (a .plan .precede) (a .ticks) (a .tags) (begun at) (at .before .before .before .before .before .before .before .before .before .all-stops .result) (at .before .before .ask-leads .last .1 .1 .1 .0)
 
 line-at : (e : tie.Start Inv-loop μ-loop) (k : ℕ) → k < e .args .plan .reach → lineIn (e .args .lines .now) k ≡ sheetLine (sheetValue (e .args .s)) k
 line-at e k h = planned e .all k (omega (arith, h, planned e .far))
@@ -76,15 +76,16 @@ asked at =
     let plan = planned e in
     let asks = at .before .before .ask-leads .ensures .1 in
     record {
-      as-many = sym (at .before .before .before .before .before .before .before .before .before .before .before .before .clocks-of .ensures);
+      as-many = sym (at .before .before .before .before .before .before .before .before .before .before .before .clocks-of .ensures);
       few-clocks = p .1 .0;
-      well = p .1 .1 .1 .1 .1 .1 .1 .1 .1 .1;
       leading = plan .leading;
       begins = rw (at .before .before .before .before .before .before .begin-all .ensures .1 .1 .1, plan .delays, delays-enough (filledOf (e .args .ticks) (e .args .tags)) (sheet at .lines));
-      bars = rw (← plan .rules) (at .before .before .before .before .before .before .before .before .before .before .all-barred .ensures);
       ends = rw (← plan .rules) (at .before .before .before .before .before .before .before .before .before .all-stops .ensures);
       moves = λ k h. (asks k h .0 ∙ ap (needOf (e .args .ticks)) (line-at e k h), (asks k h .1 .0 ∙ ap (gainOf (e .args .ticks)) (line-at e k h), asks k h .1 .1 ∙ ap (lossOf (e .args .ticks)) (line-at e k h)));
     }
+
+few-clocks : (at : tie.At-loop Inv-loop μ-loop) → at .before .before .before .before .before .before .before .before .before .before .before .clocks-of .result ≤ 8
+few-clocks at = omega (arith, asked at .as-many, asked at .few-clocks)
 
 -- the rows found at a turn; the row that is read, and the one that is built
 abbrev soFar : tie.At-loop Inv-loop μ-loop → Rows
@@ -198,11 +199,8 @@ among c v a = c .is-among .ensures v (a .as-many) (a .leading)
 clocks-of-requires : tie.Need-clocks-of-requires Inv-loop μ-loop
 clocks-of-requires c κs = search needs
 
-all-barred-requires : tie.Need-all-barred-requires Inv-loop μ-loop
-all-barred-requires c κs = let p = planned (c .before .before .before .before .before .before .before .before .before) in (p .size, p .few-rules)
-
 all-stops-requires : tie.Need-all-stops-requires Inv-loop μ-loop
-all-stops-requires c κs = let p = planned (c .before .before .before .before .before .before .before .before .before .before) in (p .size, p .few-rules)
+all-stops-requires c κs = let p = planned (c .before .before .before .before .before .before .before .before .before) in (p .size, p .few-rules)
 
 slice-aggregate-begin-all : tie.Need-slice-aggregate-begin-all Inv-loop μ-loop
 slice-aggregate-begin-all c = search needs
@@ -211,19 +209,19 @@ slice-aggregate-begin-all-2 : tie.Need-slice-aggregate-begin-all-2 Inv-loop μ-l
 slice-aggregate-begin-all-2 c = search needs
 
 begin-all-requires : tie.Need-begin-all-requires Inv-loop μ-loop
-begin-all-requires c κs = let p = planned (c .before .before .before .before .before .before .before .before .before .before .before .before .before) in (p .size, (p .few-delays, (refl, refl)))
+begin-all-requires c κs = let p = planned (c .before .before .before .before .before .before .before .before .before .before .before .before) in (p .size, (p .few-delays, (refl, refl)))
 
 slice-aggregate-ask-leads : tie.Need-slice-aggregate-ask-leads Inv-loop μ-loop
 slice-aggregate-ask-leads c = search needs
 
 ask-leads-requires : tie.Need-ask-leads-requires Inv-loop μ-loop
-ask-leads-requires c κs = let p = planned (c .before .before .before .before .before .before .before .before .before .before .before .before .before .before .before .before .before) in (p .size, (p .leading .0, refl))
+ask-leads-requires c κs = let p = planned (c .before .before .before .before .before .before .before .before .before .before .before .before .before .before .before .before) in (p .size, (p .leading .0, refl))
 
 loop-holds : tie.Need-loop-holds Inv-loop μ-loop
 loop-holds c =
-    let e = c .before .before .before .before .before .before .before .before .before .before .before .before .before .before .before .before .before .before .before in
+    let e = c .before .before .before .before .before .before .before .before .before .before .before .before .before .before .before .before .before .before in
     let p = e .pre .1 .1 .1 .1 .1 in
-    (omega arith, p .0, had e .1, p .1 .1 .1 .1 .1 .0, λ v a. settled-start _ v _ _ (given e) _ (a .begins) _)
+    (omega arith, p .0, had e .1, p .1 .1 .1 .1 .1, λ v a. settled-start _ v _ _ (given e) _ (a .begins) _)
 
 -- ---- a turn
 
@@ -231,7 +229,7 @@ add-i : tie.Need-add-i Inv-loop μ-loop
 add-i c = search needs
 
 is-barred-requires : tie.Need-is-barred-requires Inv-loop μ-loop
-is-barred-requires c κs = let at = c .before in (had (start at) .0 .stopped, in-rows at (c .loop-test .taken))
+is-barred-requires c κs = let at = c .before in (few-clocks at, (had (start at) .0 .stopped, in-rows at (c .loop-test .taken)))
 
 loop-less : tie.Need-loop-less Inv-loop μ-loop
 loop-less c = search needs
@@ -326,7 +324,7 @@ leads-on-requires c κs =
     let e = start at in
     let p = e .pre .1 .1 .1 .1 .1 .1 .1 .1 in
     let r = asked at .leading .0 in
-    (r, (at .before .before .ask-leads .ensures .0, (had e .0 .leads, (in-rows at (taken k), (at .loop .inv .2 .leads, (has-row at, λ j l. row-gain (sheet at) (e .args .ticks) (given e) (at .loop .i) (row-small (sheet at) (given e) (e .args .n) (at .loop .i) (taken k) (p .0)) j (omega (arith, r, l)) (at .before .before .before .before .before .before .before .before .before .before .before .before .before .before .before .before .before .shared-slice-known3 .given (16 * at .loop .i + j) .fits) (asked at .moves j l .1 .0)))))))
+    (r, (at .before .before .ask-leads .ensures .0, (had e .0 .leads, (in-rows at (taken k), (at .loop .inv .2 .leads, (has-row at, λ j l. row-gain (sheet at) (e .args .ticks) (given e) (at .loop .i) (row-small (sheet at) (given e) (e .args .n) (at .loop .i) (taken k) (p .0)) j (omega (arith, r, l)) (at .before .before .before .before .before .before .before .before .before .before .before .before .before .before .before .before .shared-slice-known3 .given (16 * at .loop .i + j) .fits) (asked at .moves j l .1 .0)))))))
 
 stopped-on-requires : tie.Need-stopped-on-requires Inv-loop μ-loop
 stopped-on-requires c κs =
@@ -339,7 +337,7 @@ is-among-requires c κs =
     let s = c .before .before .before .before .before .before in
     let at = turnOf s in
     let p = start at .pre in
-    (omega (arith, at .before .before .before .before .before .before .before .before .before .before .before .before .clocks-of .ensures, p .1 .1 .0), (asked at .leading .0, (next-roomy s, (omega (arith, p .0, at .loop .inv .1), next-small s))))
+    (few-clocks at, (asked at .leading .0, (next-roomy s, (omega (arith, p .0, at .loop .inv .1), next-small s))))
 
 loop-less-4 : tie.Need-loop-less-4 Inv-loop μ-loop
 loop-less-4 c = omega (arith, taken (keeping (beginning (c .before .before .before .before .before .before .before .before))))
@@ -411,7 +409,6 @@ settle-spec =
     Inv-loop
     μ-loop
     clocks-of-requires
-    all-barred-requires
     all-stops-requires
     slice-aggregate-begin-all
     slice-aggregate-begin-all-2

@@ -37,7 +37,7 @@ abbrev arrays : tie.Start Inv-loop μ-loop → Rows
 arrays e = rows (e .args .outmarks .now) (e .args .outdues .now) (e .args .outleads .now) (e .args .outstopped .now)
 
 had : (e : tie.Start Inv-loop μ-loop) → Roomy (arrays e)
-had e = e .pre .1 .1 .1 .1 .1 .1 .1 .1 .1 .1 .0
+had e = e .pre .1 .1 .1 .1 .1 .1 .1 .1 .1 .1
 
 abbrev wanted : tie.Start Inv-loop μ-loop → Option (List Remainder)
 wanted e = takenBy (settling (e .args .room) (sheet e) (e .args .tags) (given e)) (fillingsIn (e .args .list .now) (e .args .m)) (some [])
@@ -75,7 +75,7 @@ settle-requires c κs =
     let p = start at .pre in
     let q = p .1 .1 .1 .1 in
     let r = q .1 .1 .1 in
-    (p .0, (p .1 .0, (p .1 .1 .0, (p .1 .1 .1 .0, (q .1 .1 .0, (at .loop .inv .1, (r .0, (r .1 .0, (r .1 .1 .0, (at .loop .inv .2, (at .loop .inv .3, r .1 .1 .1 .1)))))))))))
+    (p .0, (p .1 .0, (p .1 .1 .0, (p .1 .1 .1 .0, (q .1 .1 .0, (at .loop .inv .1, (r .0, (r .1 .0, (r .1 .1 .0, (at .loop .inv .2, at .loop .inv .3))))))))))
 
 -- what is asked is what the filling made of those found, and then the rest
 turned : (c : tie.After-settle Inv-loop μ-loop) → wanted (start (turn c)) ≡ leftFrom (start (turn c)) (turn c .loop .f + 1) (foundIn (sheet (start (turn c))) (c .settle .result) (after c))
