@@ -7,12 +7,12 @@ ghost use mathlib.Core.Path.{_≡_};
 ghost use mathlib.Core.Bool.{Bool};
 ghost use mathlib.Core.List.{List};
 ghost use Prim.Native.Nat.{ℕ, _≤_};
-ghost use lib.Dec.{T, eqb};
+ghost use lib.Dec.{T};
 ghost use lib.IntN.{ℤ};
 ghost use lib.ListN.{length};
 ghost use Rattle.records.specs.Sheet.{SheetValue};
 ghost use Rattle.tesl.specs.Lists.{any};
-ghost use Rattle.tesl.specs.Remainder.{Remainder, owes};
+ghost use Rattle.tesl.specs.Remainder.{isClear};
 ghost use Rattle.judge.specs.View.{heldOf, liveOf, sized};
 ghost use Rattle.judge.specs.Answer.{answerOf, saidBy};
 ghost use Rattle.judge.specs.Rows.{rows, rowsOf, foundIn, SmallIn};
@@ -33,7 +33,7 @@ pub enum Reply {
 // One of those held has no obligation.
 fn is_clear(h: Held) -> bool
     requires { ⌜ T (sized h) ⌝ }
-    ensures { λ r. ⌜ ((v : SheetValue) → r ≡ any (λ (q : Remainder). eqb (owes q) 0) (liveOf v h)) ⌝ }
+    ensures { λ r. ⌜ ((v : SheetValue) → r ≡ any isClear (liveOf v h)) ⌝ }
 {
     let n = live_count(h);
     let mut i = 0;
@@ -70,7 +70,7 @@ pub(crate) fn say(h: Held) -> Answer
 // One of the first n rows has no obligation.
 fn is_clear_in(n: usize, marks: &[u8]) -> bool
     requires { ⌜ (length (now marks) ≡ 561) × (n ≤ 32) ⌝ }
-    ensures { λ r. ⌜ ((v : SheetValue) (dues : List ℤ) (leads : List ℕ) (stopped : List Bool) → r ≡ any (λ (q : Remainder). eqb (owes q) 0) (rowsOf v n (rows (now (marks .entry)) dues leads stopped))) ⌝ }
+    ensures { λ r. ⌜ ((v : SheetValue) (dues : List ℤ) (leads : List ℕ) (stopped : List Bool) → r ≡ any isClear (rowsOf v n (rows (now (marks .entry)) dues leads stopped))) ⌝ }
 {
     let mut i = 0;
     while i < n {

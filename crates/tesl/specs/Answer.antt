@@ -2,13 +2,13 @@
 use mathlib.Core.Bool.{Bool, cond, _||_}
 use mathlib.Core.List.{List, [], _∷_, map}
 use Prim.Native.Nat.{ℕ}
-use lib.Dec.{ltb, eqb}
+use lib.Dec.{ltb}
 use lib.ListN.{length}
 use Rattle.records.specs.Sheet.{SheetValue}
 use Rattle.tesl.specs.Lists.{any, filter, distinct, beginnings}
 use Rattle.tesl.specs.Run.{Instant, runFillings}
 use Rattle.tesl.specs.Fits.{fits}
-use Rattle.tesl.specs.Remainder.{Remainder, remainder, sameRemainder, owes}
+use Rattle.tesl.specs.Remainder.{Remainder, remainder, sameRemainder, overfull, isClear}
 
 -- clear: some remainder has no obligation; else owed
 pub data Standing : Type 0 where
@@ -25,10 +25,10 @@ remainders s run = distinct sameRemainder (map (remainder s) (filter (fits s) (r
 
 -- more than 32 distinct remainders, or one with more than 8 obligations
 unfoldable pub tooMany : List Remainder → Bool
-tooMany rs = ltb 32 (length rs) || any (λ (r : Remainder). ltb 8 (owes r)) rs
+tooMany rs = ltb 32 (length rs) || any overfull rs
 
 abbrev pub standing : List Remainder → Standing
-standing rs = cond (any (λ (r : Remainder). eqb (owes r) 0) rs) clear owed
+standing rs = cond (any isClear rs) clear owed
 
 -- broken, if no filling fits; else holding
 unfoldable pub judged : List Remainder → Answer

@@ -2,7 +2,7 @@
 use mathlib.Core.Bool.{Bool, false, _&&_, Bool·beq}
 use mathlib.Core.List.{List, map}
 use Prim.Native.Nat.{ℕ, _-_}
-use lib.Dec.{eqb}
+use lib.Dec.{ltb, eqb}
 use lib.ListN.{length}
 use Rattle.records.specs.declared.line.Line.{Line}
 use Rattle.records.specs.declared.line.Line.the-variants.{Sporadic, Relation, Implies, Excludes, Delayed, Weakly, Strictly, Kills}
@@ -62,3 +62,11 @@ sameRemainder a b =
 -- how many obligations a remainder owes
 unfoldable pub owes : Remainder → ℕ
 owes r = length (distinct sameObligation (r .owed))
+
+-- it owes more than 8
+unfoldable pub overfull : Remainder → Bool
+overfull r = ltb 8 (owes r)
+
+-- it owes nothing
+unfoldable pub isClear : Remainder → Bool
+isClear r = eqb (owes r) 0

@@ -1,26 +1,26 @@
 -- What to answer from what is held: exhausted and broken stay; what an observer must find to answer exhausted; and the answer else. Assumes nothing.
-use mathlib.Core.Bool.{Bool, true, false, not, cond, _||_, and-true, or-true, or-false}
+use mathlib.Core.Bool.{Bool, true, false, not, cond, _||_, or-true, or-false}
 use mathlib.Core.List.{List, [], _∷_, _++_, map, append-assoc, append-nil}
 use mathlib.Core.Logic.{_≢_}
 use mathlib.Core.Path.{_≡_, refl, sym, ap, _∙_, subst}
 use Prim.Native.Nat.{ℕ, _≤_, _<_}
 use native.Mathlib.Omega.{arith}
-use lib.Dec.{T, T-not, not-T, ltb, leb, lt→ltb, ltb→lt, leb→le, le→leb, nleb→lt, nltb→le}
+use lib.Dec.{T, T-not, not-T, ltb, lt→ltb, ltb→lt, nltb→le}
 use lib.ListN.{length}
 use Rattle.records.specs.Sheet.{SheetValue}
-use Rattle.tesl.specs.Lists.{all, any, filter, beginnings}
+use Rattle.tesl.specs.Lists.{any, filter, beginnings}
 use Rattle.tesl.specs.Run.{Instant, runFillings}
 use Rattle.tesl.specs.Fits.{fits}
-use Rattle.tesl.specs.Remainder.{Remainder, remainder, sameRemainder, owes}
+use Rattle.tesl.specs.Remainder.{Remainder, remainder, sameRemainder, overfull}
 use Rattle.tesl.specs.Answer.{Answer, exhausted, broken, holding, Standing, remainders, tooMany, judged, answer}
 use Rattle.theory.specs.Sets.{apart, Covers}
 use Rattle.theory.specs.Step.{lastTagsOf, wellFormed}
 use Rattle.theory.specs.Held.{Held, successors}
 use Rattle.tesl.proofs.Tests.{or-l, or-r, or-e, T→≡}
-use Rattle.theory.proofs.Lists.{F→≡, any-snoc, any-imp, all-as-any, beginnings-snoc, snoc-ind}
+use Rattle.theory.proofs.Lists.{F→≡, any-snoc, beginnings-snoc, snoc-ind}
 use Rattle.theory.proofs.Sets.{distinct-apart}
-use Rattle.theory.proofs.Respect.{remainder-equivalence}
-use Rattle.theory.proofs.Held.{held-step, many-found, one-more-found, owed-found, held-tooMany, held-judged, held-start}
+use Rattle.theory.proofs.Respect.{remainder-equivalence, overfull-respects}
+use Rattle.theory.proofs.Held.{held-step, many-found, one-more-found, held-tooMany, held-judged, held-start, one-found}
 
 -- ---- exhausted, by the beginnings
 
@@ -80,7 +80,7 @@ module _ (s : SheetValue) (wf : T (wellFormed s)) (run : List Instant) (i : Inst
   unfolding tooMany
   by-number l =
       let new = remainders s (run ++ (i ∷ [])) in
-      exhausted-now s run i (or-l (ltb 32 (length new)) (any (λ (r : Remainder). ltb 8 (owes r)) new) (lt→ltb 32 (length new) l))
+      exhausted-now s run i (or-l (ltb 32 (length new)) (any overfull new) (lt→ltb 32 (length new) l))
 
   pub exhausted-by-many : (among : List Remainder) → T (apart sameRemainder among) → Covers sameRemainder among (successors s (lastTagsOf run) i rs) → 32 < length among
       → answer s (run ++ (i ∷ [])) ≡ exhausted
@@ -91,25 +91,21 @@ module _ (s : SheetValue) (wf : T (wellFormed s)) (run : List Instant) (i : Inst
   exhausted-by-one-more among a c l x t n = by-number (one-more-found s wf run i rs h 32 among a c l x t n)
 
   -- b: one successor with more than eight obligations
-  pub exhausted-by-owed : (x : Remainder) → T (any (sameRemainder x) (successors s (lastTagsOf run) i rs)) → 8 < owes x → answer s (run ++ (i ∷ [])) ≡ exhausted
+  pub exhausted-by-owed : (x : Remainder) → T (any (sameRemainder x) (successors s (lastTagsOf run) i rs)) → T (overfull x) → answer s (run ++ (i ∷ [])) ≡ exhausted
   unfolding tooMany
   exhausted-by-owed x t l =
       let new = remainders s (run ++ (i ∷ [])) in
-      exhausted-now s run i (or-r (ltb 32 (length new)) (any (λ (r : Remainder). ltb 8 (owes r)) new) (owed-found s wf run i rs h 8 x t l))
+      exhausted-now s run i (or-r (ltb 32 (length new)) (any overfull new) (one-found s wf run i rs h overfull overfull-respects x t l))
 
 -- ---- else the answer goes by what is held
 
-few : (rs : List Remainder) → length rs ≤ 32 → T (all (λ (r : Remainder). leb (owes r) 8) rs) → T (not (tooMany rs))
+few : (rs : List Remainder) → length rs ≤ 32 → T (not (any overfull rs)) → T (not (tooMany rs))
 unfolding tooMany
-few rs l a = not-T (ltb 32 (length rs) || any (λ (r : Remainder). ltb 8 (owes r)) rs)
-    (λ t. or-e (ltb 32 (length rs)) (any (λ (r : Remainder). ltb 8 (owes r)) rs) t
-    (λ u. let k = ltb→lt 32 (length rs) u in absurd (omega arith))
-    (λ u. T-not (any (λ (r : Remainder). not (leb (owes r) 8)) rs) (subst T (all-as-any (λ (r : Remainder). leb (owes r) 8) rs) a)
-    (any-imp (λ (r : Remainder). ltb 8 (owes r)) (λ (r : Remainder). not (leb (owes r) 8)) rs
-    (λ r v. not-T (leb (owes r) 8) (λ w. let k = ltb→lt 8 (owes r) v in let j = leb→le (owes r) 8 w in absurd (omega arith))) u)))
+few rs l a = not-T (ltb 32 (length rs) || any overfull rs)
+    (λ t. or-e (ltb 32 (length rs)) (any overfull rs) t (λ u. let k = ltb→lt 32 (length rs) u in absurd (omega arith)) (T-not (any overfull rs) a))
 
 pub answer-next : (s : SheetValue) (run : List Instant) (i : Instant) (new : List Remainder) → answer s run ≢ exhausted → Held s (run ++ (i ∷ [])) new
-    → length new ≤ 32 → T (all (λ (r : Remainder). leb (owes r) 8) new) → answer s (run ++ (i ∷ [])) ≡ judged new
+    → length new ≤ 32 → T (not (any overfull new)) → answer s (run ++ (i ∷ [])) ≡ judged new
 unfolding many
 answer-next s run i new n h l a = answer-by s (run ++ (i ∷ [])) false
     (over-snoc s run i
@@ -119,24 +115,22 @@ answer-next s run i new n h l a = answer-by s (run ++ (i ∷ [])) false
     ∙ sym (held-judged s (run ++ (i ∷ [])) new h)
 
 -- at the opening
-pub answer-start : (s : SheetValue) (r : Remainder) → T (sameRemainder r (remainder s [])) → owes r ≤ 8 → answer s [] ≡ judged (r ∷ [])
+pub answer-start : (s : SheetValue) (r : Remainder) → T (sameRemainder r (remainder s [])) → T (not (overfull r)) → answer s [] ≡ judged (r ∷ [])
 unfolding over many
 answer-start s r e l =
     let h = held-start s e in
     answer-by s [] false
     (or-false (many s []) ∙ sym (held-tooMany s [] (r ∷ []) h) ∙ F→≡ (tooMany (r ∷ []))
-    (few (r ∷ []) (omega arith) (subst T (sym (and-true (leb (owes r) 8))) (le→leb (owes r) 8 l))))
+    (few (r ∷ []) (omega arith) (subst (λ (b : Bool). T (not b)) (sym (or-false (overfull r))) l)))
     ∙ sym (held-judged s [] (r ∷ []) h)
 
 -- what is held where the answer isn't exhausted is within the bounds
 pub held-few : (s : SheetValue) (run : List Instant) (rs : List Remainder) → answer s run ≢ exhausted → Held s run rs
-    → (length rs ≤ 32) × T (all (λ (r : Remainder). leb (owes r) 8) rs)
+    → (length rs ≤ 32) × T (not (any overfull rs))
 unfolding tooMany over many
 held-few s run rs n h = (
-  nltb→le 32 (length rs) (not-T (ltb 32 (length rs)) (λ t. not-many (or-l (ltb 32 (length rs)) (any (λ (r : Remainder). ltb 8 (owes r)) rs) t))),
-  subst T (sym (all-as-any (λ (r : Remainder). leb (owes r) 8) rs)) (not-T (any (λ (r : Remainder). not (leb (owes r) 8)) rs)
-      (λ t. not-many (or-r (ltb 32 (length rs)) (any (λ (r : Remainder). ltb 8 (owes r)) rs)
-      (any-imp (λ (r : Remainder). not (leb (owes r) 8)) (λ (r : Remainder). ltb 8 (owes r)) rs (λ r u. lt→ltb 8 (owes r) (nleb→lt (owes r) 8 u)) t)))),
+  nltb→le 32 (length rs) (not-T (ltb 32 (length rs)) (λ t. not-many (or-l (ltb 32 (length rs)) (any overfull rs) t))),
+  not-T (any overfull rs) (λ t. not-many (or-r (ltb 32 (length rs)) (any overfull rs) t)),
 )
   where
     whole : (b : List Instant) → T (many s b) → T (over s b)

@@ -6,14 +6,14 @@ use mathlib.Core.Path.{_≡_, refl, sym, ap, _∙_, subst, fun-ext}
 use Prim.Native.Nat.{ℕ, _≤_, _<_}
 use native.Mathlib.Nat.{suc-ne-zero}
 use native.Mathlib.Omega.{arith}
-use lib.Dec.{T, ltb, eqb, lt→ltb}
+use lib.Dec.{T}
 use lib.IntN.{ℤ}
 use lib.ListN.{length, length-append}
 use Rattle.records.specs.Sheet.{SheetValue}
 use Rattle.tesl.specs.Lists.{any}
 use Rattle.tesl.specs.Run.{Instant, Filled, fillings, runFillings}
 use Rattle.tesl.specs.Fits.{fits}
-use Rattle.tesl.specs.Remainder.{Remainder, remainder, sameRemainder, owes}
+use Rattle.tesl.specs.Remainder.{Remainder, remainder, sameRemainder, overfull, isClear}
 use Rattle.tesl.specs.Answer.{clear, owed, holding, remainders, tooMany, judged}
 use Rattle.theory.specs.Sets.{apart, Covers, SameSet, EachOnce}
 use Rattle.theory.specs.Step.{next, stepOk, lastTagsOf, nexts, wellFormed}
@@ -21,7 +21,7 @@ use Rattle.theory.specs.Held.{Held, successors}
 use Rattle.tesl.proofs.Tests.{and-l, and-r, and-i, or-e}
 use Rattle.theory.proofs.Lists.{any-flatMap, any-imp, any-snoc, member-any}
 use Rattle.theory.proofs.Sets.{any-same, any-set, distinct-set, distinct-apart, length-same, length-le, apart-snoc, fresh}
-use Rattle.theory.proofs.Respect.{remainder-equivalence, owes-same, next-same, stepOk-same}
+use Rattle.theory.proofs.Respect.{remainder-equivalence, Respects, overfull-respects, clear-respects, next-same, stepOk-same}
 use Rattle.theory.proofs.Fillings.{found, any-nexts, found-snoc}
 
 -- ---- the successors
@@ -88,13 +88,10 @@ module _ (s : SheetValue) (wf : T (wellFormed s)) (run : List Instant) (i : Inst
       (λ v. any-same sameRemainder remainder-equivalence z x (successors s (lastTagsOf run) i rs) v t))
       (omega (arith, length-append among (x ∷ [])))
 
-  -- one with more than `most` obligations among the successors
-  pub owed-found : (most : ℕ) (x : Remainder) → T (any (sameRemainder x) (successors s (lastTagsOf run) i rs)) → most < owes x
-      → T (any (λ (r : Remainder). ltb most (owes r)) (remainders s (run ++ (i ∷ []))))
-  owed-found most x t l =
-      any-imp (sameRemainder x) (λ (r : Remainder). ltb most (owes r)) (remainders s (run ++ (i ∷ [])))
-      (λ r u. lt→ltb most (owes r) (subst (λ (n : ℕ). most < n) (owes-same x r u) l))
-      (subst T (successors-are x) t)
+  -- one of which p holds among the successors
+  pub one-found : (p : Remainder → Bool) → Respects p → (x : Remainder) → T (any (sameRemainder x) (successors s (lastTagsOf run) i rs)) → T (p x)
+      → T (any p (remainders s (run ++ (i ∷ []))))
+  one-found p respects x t l = any-imp (sameRemainder x) p (remainders s (run ++ (i ∷ []))) (λ r u. respects x r u l) (subst T (successors-are x) t)
 
 -- ---- what is held tells the number, the standing and whether it is too many
 
@@ -103,18 +100,18 @@ module _ (s : SheetValue) (run : List Instant) (rs : List Remainder) (h : Held s
   unfolding remainders
   held-length = length-same sameRemainder remainder-equivalence rs (remainders s run) (h .each-once) (distinct-apart sameRemainder remainder-equivalence (found s run)) (h .these)
 
-  pub held-owes : (p : ℕ → Bool) → any (λ (r : Remainder). p (owes r)) rs ≡ any (λ (r : Remainder). p (owes r)) (remainders s run)
-  held-owes p = any-set sameRemainder remainder-equivalence (λ (r : Remainder). p (owes r)) (λ x y e t. subst (λ (n : ℕ). T (p n)) (owes-same x y e) t) rs (remainders s run) (h .these)
+  pub held-any : (p : Remainder → Bool) → Respects p → any p rs ≡ any p (remainders s run)
+  held-any p respects = any-set sameRemainder remainder-equivalence p respects rs (remainders s run) (h .these)
 
   pub held-tooMany : tooMany rs ≡ tooMany (remainders s run)
   unfolding tooMany
-  held-tooMany = rw (held-length, held-owes (λ n. ltb 8 n))
+  held-tooMany = rw (held-length, held-any overfull overfull-respects)
 
   pub held-judged : judged rs ≡ judged (remainders s run)
   unfolding judged
-  held-judged = as-long rs (remainders s run) held-length (held-owes (λ n. eqb n 0))
+  held-judged = as-long rs (remainders s run) held-length (held-any isClear clear-respects)
     where
-      as-long : (xs ys : List Remainder) → length xs ≡ length ys → any (λ (r : Remainder). eqb (owes r) 0) xs ≡ any (λ (r : Remainder). eqb (owes r) 0) ys → judged xs ≡ judged ys
+      as-long : (xs ys : List Remainder) → length xs ≡ length ys → any isClear xs ≡ any isClear ys → judged xs ≡ judged ys
       as-long [] [] l c = refl
       as-long [] (b ∷ bs) l c = absurd (suc-ne-zero (length bs) (sym l))
       as-long (a ∷ xs) [] l c = absurd (suc-ne-zero (length xs) l)

@@ -1,10 +1,10 @@
 -- A sheet that is read, and any within its own limits: 1 to 8 clocks, at most 16 lines and 8 sporadic ones, the clocks of lines below C; so the answer of opening is never exhausted. Assumes nothing.
 use mathlib.Core.Bool.{Bool, true, false, cond, _&&_}
 use mathlib.Core.List.{List, [], _∷_, _++_, map, append-assoc, append-nil}
-use mathlib.Core.Path.{_≡_, refl, sym, ap, _∙_, subst}
+use mathlib.Core.Path.{_≡_, refl, ap, _∙_, subst}
 use Prim.Native.Nat.{ℕ, suc, _+_, _≤_}
 use native.Mathlib.Omega.{arith}
-use lib.Dec.{T, leb, leb→le}
+use lib.Dec.{T, not-T, leb, leb→le, ltb→lt}
 use lib.ListN.{length, length-append}
 use borrow.Author.Tests.{ltb-false, leb-false, not-false}
 use Rattle.records.specs.declared.line.Line.{Line}
@@ -16,7 +16,7 @@ use Rattle.records.proofs.Lists.{Passed, taken-passed, map-append}
 use Rattle.records.proofs.sheet.RoundTrip.{read-writes}
 use Rattle.tesl.specs.Lists.{all, flatMap, distinct}
 use Rattle.tesl.specs.Fits.{owedAtStart, unmet}
-use Rattle.tesl.specs.Remainder.{Remainder, remainder, sameObligation, sameRemainder, owes}
+use Rattle.tesl.specs.Remainder.{Remainder, remainder, sameObligation, sameRemainder, owes, overfull}
 use Rattle.tesl.specs.Answer.{answer, judged}
 use Rattle.theory.specs.Step.{bit, lineBelow}
 use Rattle.theory.specs.Limits.{SheetLimits}
@@ -24,7 +24,7 @@ use Rattle.tesl.proofs.Tests.{and-l, and-r, and-i, ≡→T}
 use Rattle.theory.proofs.Lists.{filter-true}
 use Rattle.theory.proofs.LineKinds.{law}
 use Rattle.theory.proofs.Sets.{distinct-set, distinct-apart, length-le}
-use Rattle.theory.proofs.Respect.{owed-equivalence, owes-same}
+use Rattle.theory.proofs.Respect.{owed-equivalence, overfull-respects}
 use Rattle.theory.proofs.Answers.{answer-start}
 
 -- ---- what passes the checks of a sheet value
@@ -98,4 +98,5 @@ opening-owes s h =
     rw e (omega (arith, start-owes (s .lines), h .sporadics-most))
 
 pub opening-answer : (s : SheetValue) → SheetLimits s → (r : Remainder) → T (sameRemainder r (remainder s [])) → answer s [] ≡ judged (r ∷ [])
-opening-answer s h r e = answer-start s r e (subst (λ (n : ℕ). n ≤ 8) (sym (owes-same r (remainder s []) e)) (opening-owes s h))
+unfolding overfull
+opening-answer s h r e = answer-start s r e (not-T (overfull r) (λ t. let k = ltb→lt 8 (owes (remainder s [])) (overfull-respects r (remainder s []) e t) in absurd (omega (arith, opening-owes s h))))

@@ -4,14 +4,14 @@ use mathlib.Core.List.{List, [], _∷_}
 use mathlib.Core.Option.{Option, some}
 use mathlib.Core.Path.{_≡_, refl, sym, ap, _∙_, subst}
 use Prim.Native.Nat.{ℕ}
-use lib.Dec.{T, eqb, eqb→eq, eqb-refl}
+use lib.Dec.{T, ltb, eqb, eqb→eq, eqb-refl}
 use lib.IntN.{ℤ}
 use Rattle.records.specs.declared.line.Line.{Line}
 use Rattle.records.specs.Sheet.{SheetValue}
 use Rattle.tesl.specs.Lists.{any, filter, flatMap, within, sameList}
 use Rattle.tesl.specs.Run.{Filled, tagIn}
 use Rattle.tesl.specs.Fits.{eqZ, Obligation, meets, owedFrom, notLate}
-use Rattle.tesl.specs.Remainder.{Remainder, sameObligation, sameRemainder, owes}
+use Rattle.tesl.specs.Remainder.{Remainder, sameObligation, sameRemainder, owes, overfull, isClear}
 use lib.Signed.{leZ}
 use Rattle.theory.specs.Sets.{SameSet}
 use Rattle.theory.specs.Step.{next, stepOk, nextOwed}
@@ -117,6 +117,18 @@ remainder-equivalence = record {
 pub owes-same : (a b : Remainder) → T (sameRemainder a b) → owes a ≡ owes b
 unfolding owes
 owes-same a b t = distinct-length sameObligation owed-equivalence (a .owed) (b .owed) (alike a b t .owed)
+
+-- what is asked of a remainder cannot tell apart what is the same
+abbrev pub Respects : (Remainder → Bool) → Type 0
+Respects p = (a b : Remainder) → T (sameRemainder a b) → T (p a) → T (p b)
+
+pub overfull-respects : Respects overfull
+unfolding overfull
+overfull-respects a b s t = subst (λ (n : ℕ). T (ltb 8 n)) (owes-same a b s) t
+
+pub clear-respects : Respects isClear
+unfolding isClear
+clear-respects a b s t = subst (λ (n : ℕ). T (eqb n 0)) (owes-same a b s) t
 
 -- ---- the step
 

@@ -6,7 +6,7 @@ use mathlib.Core.Path.{_≡_, refl, sym, ap, _∙_, subst}
 use Prim.Native.Nat.{ℕ, suc, _≤_}
 use native.Mathlib.Nat.{le-antisymm}
 use native.Mathlib.Omega.{arith}
-use lib.Dec.{T, ltb, eqb, ltb→lt, lt→ltb, eqb→eq, eqb-refl}
+use lib.Dec.{T, ltb, eqb, ltb→lt, lt→ltb, eqb→eq}
 use lib.ListN.{length, length-map}
 use Rattle.records.specs.declared.instant.Tick.{Tick}
 use Rattle.records.specs.declared.instant.Tick.the-variants.{Idle, Ticks, Unseen}
@@ -15,7 +15,7 @@ use Rattle.records.specs.Types.{All}
 use Rattle.tesl.specs.Lists.{any, filter, distinct, beginnings}
 use Rattle.tesl.specs.Run.{Instant, ticksOf, tagsOf, Filled, fillTicks, fillings, runFillings}
 use Rattle.tesl.specs.Fits.{Obligation, unmet, fits}
-use Rattle.tesl.specs.Remainder.{Remainder, remainder, sameRemainder, sameObligation, owes}
+use Rattle.tesl.specs.Remainder.{Remainder, remainder, sameRemainder, sameObligation, owes, overfull, isClear}
 use Rattle.tesl.specs.Answer.{Standing, clear, owed, Answer, exhausted, broken, holding, remainders, tooMany, standing, judged, answer}
 use Rattle.theory.specs.Sets.{apart}
 use Rattle.theory.specs.Unmet.{Unmet, NoneUnmet}
@@ -25,8 +25,7 @@ use Rattle.tesl.proofs.Formula.{fits-holds}
 use Rattle.theory.proofs.Lists.{any-map, member-any, any-member}
 use Rattle.theory.proofs.Members.{mem-flatMap, of-flatMap, distinct-map, mem-filter, of-filter, of-distinct, each-of, of-each, no-more, some-of, of-beginnings, a-beginning}
 use Rattle.theory.proofs.Sets.{Equivalence, distinct-set, distinct-apart}
-use Rattle.theory.proofs.Respect.{owed-equivalence, remainder-equivalence, owes-same}
-use Rattle.theory.proofs.Unmet.{unmet-listed, none-unmet}
+use Rattle.theory.proofs.Respect.{owed-equivalence, remainder-equivalence, overfull-respects, clear-respects}
 use Rattle.theory.proofs.Seen.{none-owed, clear-when}
 
 -- ---- the fillings of a run are those listed
@@ -167,9 +166,23 @@ owing-number s run n = (
 
 -- ---- exhausted
 
-too-many : (s : SheetValue) (run : List Instant) → T (tooMany (remainders s run)) ↔ TooMany s run
-unfolding tooMany
-too-many s run = (found, tested)
+too-many : (s : SheetValue) (run : List Instant) → T (tooMany (remainders s run)) ↔ (Leaves s run 33 ⊎ Owing s run 9)
+unfolding tooMany overfull
+too-many s run = (
+  λ t. or-e (ltb 32 (length rs)) (any overfull rs) t
+      (λ u. inl (leaves-number s run 33 .1 (subst (λ (n : ℕ). 33 ≤ n) as-many (ltb→lt 32 (length rs) u))))
+      (λ u.
+      let m = any-member (λ (f : List Filled). overfull (remainder s f)) ks (subst T all-owed u) in
+      inr (owing-number s run 9 .1 (m .0, of-each (Fitting s run) (kept-fits s run) (m .1), ltb→lt 8 (owes (remainder s (m .0))) (m .2)))),
+  ⊎-elim
+      (λ (l : Leaves s run 33). or-l (ltb 32 (length rs)) (any overfull rs) (lt→ltb 32 (length rs) (subst (λ (n : ℕ). 33 ≤ n) (sym as-many) (leaves-number s run 33 .0 l))))
+      (λ (w : Owing s run 9).
+      let h = owing-number s run 9 .0 w in
+      let g = kept-all s run (h .0) (h .1) in
+      or-r (ltb 32 (length rs)) (any overfull rs) (subst T (sym all-owed)
+      (member-any (λ (f : List Filled). overfull (remainder s f)) (g .1)
+      (overfull-respects (remainder s (h .0)) (remainder s (g .0)) (g .2) (lt→ltb 8 (owes (remainder s (h .0))) (h .2)))))),
+)
   where
     ks : List (List Filled)
     ks = kept s run
@@ -177,14 +190,11 @@ too-many s run = (found, tested)
     rs : List Remainder
     rs = remainders s run
 
-    nine : Remainder → Bool
-    nine r = ltb 8 (owes r)
-
     as-many : length rs ≡ length ks
     as-many = ap length (remainders-kept s run) ∙ length-map ks (remainder s)
 
-    all-owed : any nine rs ≡ any (λ (f : List Filled). nine (remainder s f)) ks
-    all-owed = ap (any nine) (remainders-kept s run) ∙ any-map nine (remainder s) ks
+    all-owed : any overfull rs ≡ any (λ (f : List Filled). overfull (remainder s f)) ks
+    all-owed = ap (any overfull) (remainders-kept s run) ∙ any-map overfull (remainder s) ks
 
     found : T (tooMany rs) → TooMany s run
     found t = or-e (ltb 32 (length rs)) (any nine rs) t
@@ -218,24 +228,21 @@ clear-of : (b : Bool) → T b → cond b clear owed ≡ clear
 clear-of true t = refl
 clear-of false t = absurd t
 
-clear-exactly : (s : SheetValue) (run : List Instant) → (standing (map (remainder s) (kept s run)) ≡ clear) ↔ ((f : List Filled) × Fitting s run f × NoneUnmet (s .lines) f)
-unfolding remainder owes
+clear-exactly : (s : SheetValue) (run : List Instant) → (standing (map (remainder s) (kept s run)) ≡ clear) ↔ ((f : List Filled) × Fitting s run f × (unmet (s .lines) f ≡ []))
+unfolding remainder owes isClear
 clear-exactly s run = (
   λ e.
-      let m = any-member (λ (f : List Filled). none (remainder s f)) ks (subst T (any-map none (remainder s) ks) (clear-when (any none (map (remainder s) ks)) e)) in
-      (m .0, of-each (Fitting s run) (kept-fits s run) (m .1), none-unmet (s .lines) (m .0) .0 (none-owed (unmet (s .lines) (m .0)) (eqb→eq (owes (remainder s (m .0))) 0 (m .2)))),
+      let m = any-member (λ (f : List Filled). isClear (remainder s f)) ks (subst T (any-map isClear (remainder s) ks) (clear-when (any isClear (map (remainder s) ks)) e)) in
+      (m .0, of-each (Fitting s run) (kept-fits s run) (m .1), none-owed (unmet (s .lines) (m .0)) (eqb→eq (owes (remainder s (m .0))) 0 (m .2))),
   λ h.
       let g = kept-all s run (h .0) (h .1) in
-      let e : owes (remainder s (g .0)) ≡ 0 = sym (owes-same (remainder s (h .0)) (remainder s (g .0)) (g .2)) ∙ ap (λ (os : List Obligation). length (distinct sameObligation os)) (none-unmet (s .lines) (h .0) .1 (h .2)) in
-      clear-of (any none (map (remainder s) ks)) (subst T (sym (any-map none (remainder s) ks))
-      (member-any (λ (f : List Filled). none (remainder s f)) (g .1) (subst (λ (n : ℕ). T (eqb n 0)) (sym e) (eqb-refl 0)))),
+      let e : T (isClear (remainder s (h .0))) = subst (λ (os : List Obligation). T (eqb (length (distinct sameObligation os)) 0)) (sym (h .2)) tt in
+      clear-of (any isClear (map (remainder s) ks)) (subst T (sym (any-map isClear (remainder s) ks))
+      (member-any (λ (f : List Filled). isClear (remainder s f)) (g .1) (clear-respects (remainder s (h .0)) (remainder s (g .0)) (g .2) e))),
 )
   where
     ks : List (List Filled)
     ks = kept s run
-
-    none : Remainder → Bool
-    none r = eqb (owes r) 0
 
 -- ---- the answer
 

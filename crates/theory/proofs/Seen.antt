@@ -19,7 +19,7 @@ use Rattle.records.specs.Types.{All}
 use Rattle.tesl.specs.Lists.{all, any, filter, distinct, flatMap, beginnings}
 use Rattle.tesl.specs.Run.{Instant, ticksOf, tagsOf, Filled, fillTicks, fillings, runFillings}
 use Rattle.tesl.specs.Fits.{ticksIn, Obligation, unmet, fits}
-use Rattle.tesl.specs.Remainder.{remainder, sameRemainder, sameObligation, owes}
+use Rattle.tesl.specs.Remainder.{remainder, sameRemainder, sameObligation, owes, isClear}
 use Rattle.tesl.specs.Answer.{Standing, clear, owed, exhausted, broken, holding, remainders, tooMany, standing, judged, answer}
 use Rattle.tesl.specs.Formula.{ticksBelow, Holds, NoneFalls, EachHolds}
 use Rattle.theory.specs.Unmet.{NoneUnmet}
@@ -105,7 +105,7 @@ clear-when true e = tt
 clear-when false e = let z : _≡_ {A = ℕ} 0 1 = cc in omega arith
 
 clear-exactly : (s : SheetValue) (f : List Filled) → (standing (remainder s f ∷ []) ≡ clear) ↔ (unmet (s .lines) f ≡ [])
-unfolding remainder owes
+unfolding remainder owes isClear
 clear-exactly s f = (
   λ e. let n = length (distinct sameObligation (unmet (s .lines) f)) in none-owed (unmet (s .lines) f) (eqb→eq n 0 (or-e (eqb n 0) false (clear-when (eqb n 0 || false) e) (λ u. u) absurd)),
   λ e. ap (λ (os : List Obligation). cond (eqb (length (distinct sameObligation os)) 0 || false) clear owed) e,

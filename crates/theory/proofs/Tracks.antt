@@ -4,14 +4,14 @@ use mathlib.Core.Option.{Option, none}
 use mathlib.Core.Path.{_≡_, refl, sym, _∙_, subst}
 use Prim.Native.Nat.{ℕ, suc, _<_}
 use native.Mathlib.Omega.{arith}
-use lib.Dec.{T}
+use lib.Dec.{T, lt→ltb}
 use lib.IntN.{ℤ}
 use lib.ListN.{length, length-append}
 use Rattle.records.specs.Sheet.{SheetValue}
 use Rattle.records.specs.Types.{IsInstant}
 use Rattle.tesl.specs.Run.{Instant, tagsOf, Filled, fillings}
 use Rattle.tesl.specs.Fits.{Obligation}
-use Rattle.tesl.specs.Remainder.{Remainder, remainder, sameObligation, sameRemainder}
+use Rattle.tesl.specs.Remainder.{Remainder, remainder, sameObligation, sameRemainder, owes, overfull}
 use Rattle.tesl.specs.Answer.{Answer, exhausted, judged, answer}
 use mathlib.Core.Logic.{_≢_}
 use Rattle.theory.specs.Sets.{apart, Covers}
@@ -31,8 +31,8 @@ pub nine-found : (s : SheetValue) (last : Option (List ℤ)) (i : Instant) {rs n
     → List·Memᴰ r rs → List·Memᴰ f (fillings i) → T (stepOk s last f r)
     → (among : List Obligation) → T (apart sameObligation among) → Covers sameObligation among (nextOwed (s .lines) f (r .owed)) → 8 < length among
     → Finding s last i rs exhausted new
-unfolding next
-nine-found s last i {r = r} {f = f} m n t among a c l = owed (next s f r) (successor-found s last i m n t) (owes-more (next s f r) 8 among a c l)
+unfolding next overfull
+nine-found s last i {r = r} {f = f} m n t among a c l = owed (next s f r) (successor-found s last i m n t) (lt→ltb 8 (owes (next s f r)) (owes-more (next s f r) 8 among a c l))
 
 pub tracks-start : (s : SheetValue) → SheetLimits s → (r : Remainder) → T (sameRemainder r (remainder s []))
     → Tracks s [] (record { instants = 0; last = none; said = judged (r ∷ []); live = r ∷ [] })

@@ -1,5 +1,5 @@
 -- The limits of a monitor (refusal 11), as numbers: of its sheet, of the list of instants, of a remainder of c clocks with `held` instants, and of those held. Assumes nothing.
-use mathlib.Core.Bool.{Bool, _&&_}
+use mathlib.Core.Bool.{Bool, not, _&&_}
 use mathlib.Core.List.{List, map}
 use mathlib.Core.Path.{_≡_}
 use Prim.Native.Nat.{ℕ, _≤_}
@@ -10,10 +10,10 @@ use lib.Signed.{leZ}
 use Rattle.records.specs.Line.{kindOf, sporadics}
 use Rattle.records.specs.Sheet.{SheetValue}
 use Rattle.records.specs.Types.{All, IsLineValue, IsInstant}
-use Rattle.tesl.specs.Lists.{all}
+use Rattle.tesl.specs.Lists.{all, any}
 use Rattle.tesl.specs.Run.{Instant}
 use Rattle.tesl.specs.Fits.{Obligation}
-use Rattle.tesl.specs.Remainder.{Remainder, owes}
+use Rattle.tesl.specs.Remainder.{Remainder, overfull}
 use Rattle.theory.specs.Step.{wellFormed}
 
 -- ---- a sheet value within its own
@@ -49,5 +49,5 @@ withinLimits c held r =
 -- ---- those held: live 0 to 32, obligations 0 to 8 each
 pub record HeldLimits (c held : ℕ) (rs : List Remainder) : Type 0 where
   pub live : length rs ≤ 32
-  pub owe : T (all (λ (r : Remainder). leb (owes r) 8) rs)
+  pub owe : T (not (any overfull rs))
   pub within : T (all (withinLimits c held) rs)

@@ -5,13 +5,13 @@ use mathlib.Core.Logic.{_≢_}
 use mathlib.Core.Option.{Option, some}
 use mathlib.Core.Path.{_≡_}
 use Prim.Native.Nat.{ℕ, suc, _≤_, _<_}
-use lib.Dec.{T, leb}
+use lib.Dec.{T}
 use lib.IntN.{ℤ}
 use lib.ListN.{length}
 use Rattle.records.specs.Sheet.{SheetValue}
-use Rattle.tesl.specs.Lists.{all, any}
+use Rattle.tesl.specs.Lists.{any}
 use Rattle.tesl.specs.Run.{Instant, tagsOf}
-use Rattle.tesl.specs.Remainder.{Remainder, sameRemainder, owes}
+use Rattle.tesl.specs.Remainder.{Remainder, sameRemainder, overfull}
 use Rattle.tesl.specs.Answer.{Answer, exhausted, judged, answer}
 use Rattle.theory.specs.Sets.{apart, Covers, EachOnce}
 use Rattle.theory.specs.Step.{lastTagsOf}
@@ -44,7 +44,7 @@ pub data Finding (s : SheetValue) (last : Option (List ℤ)) (i : Instant) (rs :
   one-more : {new : List Remainder} (among : List Remainder) → T (apart sameRemainder among) → Covers sameRemainder among (successors s last i rs) → 32 ≤ length among
       → (x : Remainder) → T (any (sameRemainder x) (successors s last i rs)) → T (not (any (sameRemainder x) among)) → Finding s last i rs exhausted new
   -- one with more than eight obligations among the successors
-  owed : {new : List Remainder} (x : Remainder) → T (any (sameRemainder x) (successors s last i rs)) → 8 < owes x → Finding s last i rs exhausted new
+  owed : {new : List Remainder} (x : Remainder) → T (any (sameRemainder x) (successors s last i rs)) → T (overfull x) → Finding s last i rs exhausted new
   -- every successor once, at most 32 with at most eight obligations each
-  every : {new : List Remainder} → EachOnce sameRemainder new (successors s last i rs) → length new ≤ 32 → T (all (λ (r : Remainder). leb (owes r) 8) new)
+  every : {new : List Remainder} → EachOnce sameRemainder new (successors s last i rs) → length new ≤ 32 → T (not (any overfull new))
       → Finding s last i rs (judged new) new

@@ -12,7 +12,7 @@ use Rattle.records.specs.Lists.{listedFrom}
 use Rattle.records.specs.Sheet.{SheetValue}
 use Rattle.records.proofs.Lists.{length-listed, listed-snoc}
 use Rattle.tesl.specs.Lists.{all, any, distinct}
-use Rattle.tesl.specs.Remainder.{Remainder, sameObligation, owes}
+use Rattle.tesl.specs.Remainder.{Remainder, sameObligation, owes, isClear}
 use Rattle.tesl.specs.Answer.{broken, holding, clear, owed, standing, judged}
 use Rattle.tesl.proofs.Tests.{and-l}
 use Rattle.theory.proofs.Lists.{any-snoc}
@@ -24,9 +24,6 @@ use Rattle.judge.specs.View.{obligationOf, firstOf, owedOf, cut, viewOf,
 use Rattle.judge.specs.Answer.{saidBy}
 use Rattle.judge.specs.Rows.{Rows, rowCount, rowObligation, rowOwed, rowOf, rowsOf, foundIn}
 use Rattle.judge.proofs.Listing.{any-of}
-
-abbrev pub isClear : Remainder → Bool
-isClear q = eqb (owes q) 0
 
 -- one of each of a list is none only of the empty list
 distinct-none : {A : Type 0} (same : A → A → Bool) (xs : List A) → eqb (length (distinct same xs)) 0 ≡ eqb (length xs) 0
@@ -43,7 +40,7 @@ distinct-none {A} same (x ∷ xs) = by-rest (distinct same xs) ∙ sym (ne-eqb (
 
 -- as `owed_count` hands out m
 pub clear-at : (v : SheetValue) (r : arrays.Remainder) (m : ℕ) → (m ≤ 8) × ((length (r .obligations) ≡ 8) × (firstOf m (r .obligations) ≡ owedOf r)) → isClear (viewOf v r) ≡ eqb m 0
-unfolding owes
+unfolding owes isClear
 clear-at v r m h =
     distinct-none sameObligation (owedOf r)
     ∙ ap (λ k. eqb k 0) (ap length (sym (h .1 .1)) ∙ length-map (take m (r .obligations)) obligationOf ∙ length-take-le m (r .obligations) (omega (arith, h .0, h .1 .0)))
@@ -67,7 +64,7 @@ said-some v h n e t l k b f =
 
 module _ (v : SheetValue) (r : Rows) where
   clear-row : (i : ℕ) → isClear (cut v (rowOf r i)) ≡ eqb (rowCount (r .marks) i) 0
-  unfolding owes
+  unfolding owes isClear
   clear-row i = distinct-none sameObligation (rowOwed (r .marks) (r .dues) i) ∙ ap (λ k. eqb k 0) (length-listed (rowObligation (r .marks) (r .dues) i) (rowCount (r .marks) i))
 
   pub row-owes : (i : ℕ) → any isClear (rowsOf v i r) ≡ false → (rowCount (r .marks) i ≡ 0 → ⊥) → any isClear (rowsOf v (i + 1) r) ≡ false

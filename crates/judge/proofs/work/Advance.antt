@@ -5,13 +5,13 @@ use mathlib.Core.Option.{Option, none, some}
 use mathlib.Core.Path.{_≡_, refl, sym, ap, _∙_, subst}
 use Prim.Native.Nat.{suc, _≤_, _<_}
 use native.Mathlib.Omega.{arith}
-use lib.Dec.{T, leb, ltb, ltb→lt, nltb→le, le→leb}
+use lib.Dec.{T, not-T, ltb, ltb→lt, lt→ltb, nltb→le}
 use lib.ListN.{length, length-append}
 use Rattle.records.specs.Sheet.{SheetValue}
 use Rattle.tesl.specs.Lists.{any, filter, flatMap, distinct}
 use Rattle.tesl.specs.Run.{Filled}
 use Rattle.tesl.specs.Fits.{Obligation, meets, owedFrom, notLate}
-use Rattle.tesl.specs.Remainder.{Remainder, sameObligation, sameRemainder, owes}
+use Rattle.tesl.specs.Remainder.{Remainder, sameObligation, sameRemainder, owes, overfull}
 use Rattle.tesl.proofs.Tests.{or-l, or-r, or-e}
 use Rattle.theory.specs.Sets.{apart, Covers, SameSet}
 use Rattle.theory.specs.Step.{overlap, linesOk, next}
@@ -130,16 +130,16 @@ advance-moves v f r =
 
 pub data Steps (v : SheetValue) (f : Filled) (r : Remainder) : Bool → Advanced → Type 0 where
   broken : Steps v f r false fails
-  too-many : (T (apart sameObligation (r .owed)) → 8 < owes (next v f r)) → Steps v f r true over
-  goes : {x : Remainder} → T (sameRemainder x (next v f r)) → T (leb (owes x) 8) → (T (apart sameObligation (r .owed)) → T (apart sameObligation (x .owed))) → Steps v f r true (onto x)
+  too-many : (T (apart sameObligation (r .owed)) → T (overfull (next v f r))) → Steps v f r true over
+  goes : {x : Remainder} → T (sameRemainder x (next v f r)) → T (not (overfull x)) → (T (apart sameObligation (r .owed)) → T (apart sameObligation (x .owed))) → Steps v f r true (onto x)
 
-owes-within : (r : Remainder) → length (r .owed) ≤ 8 → T (leb (owes r) 8)
-unfolding owes
+owes-within : (r : Remainder) → length (r .owed) ≤ 8 → T (not (overfull r))
+unfolding owes overfull
 owes-within r h =
     let os = distinct sameObligation (r .owed) in
     let le = length-le sameObligation owed-equivalence os (r .owed) (distinct-apart sameObligation owed-equivalence (r .owed))
     (λ o t. subst T (distinct-set sameObligation owed-equivalence (r .owed) o) t) in
-    le→leb (length os) 8 (omega arith)
+    not-T (ltb 8 (length os)) (λ t. let k = ltb→lt 8 (length os) t in absurd (omega arith))
 
 module _ (v : SheetValue) (f : Filled) (r : Remainder) (clocks : length (r .stopped) ≡ v .clocks) (few : length (r .owed) ≤ 8) where
   owing-next : List Obligation → Remainder
@@ -149,9 +149,9 @@ module _ (v : SheetValue) (f : Filled) (r : Remainder) (clocks : length (r .stop
   these = left (padded f) (r .owed) ++ flatMap (owedFrom (padded f)) (v .lines)
 
   moves-steps : {ok : Bool} {a : Advanced} → Moves v (padded f) r ok a → Steps v f r ok a
-  unfolding owing-next these
+  unfolding owing-next these overfull
   moves-steps stays = broken
-  moves-steps (nine h) = too-many (λ a. subst (λ (q : Remainder). 8 < owes q) (sym (step-next v f r clocks)) (owes-more (owing-next these) 8 (h .among) (h .once a) (h .covered) (h .many)))
+  moves-steps (nine h) = too-many (λ a. subst (λ (q : Remainder). T (overfull q)) (sym (step-next v f r clocks)) (lt→ltb 8 (owes (owing-next these)) (owes-more (owing-next these) 8 (h .among) (h .once a) (h .covered) (h .many))))
   moves-steps (moves {xs = xs} h) = goes
       (subst (λ (q : Remainder). T (sameRemainder (owing-next xs) q)) (sym (step-next v f r clocks))
       (same-of (owing-next xs) (owing-next these) (record { leads = refl; stopped = refl; owed = h .set })))

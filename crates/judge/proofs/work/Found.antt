@@ -1,18 +1,18 @@
 -- What the monitor's work on an instant has found: some of the successors; and every one once, or a reason to answer exhausted, where each remainder held has an obligation once. Assumes nothing.
-use mathlib.Core.Bool.{Bool}
+use mathlib.Core.Bool.{Bool, not}
 use mathlib.Core.List.{List}
 use mathlib.Core.Option.{Option, none, some}
 use mathlib.Core.Path.{_≡_, _∙_, subst}
 use Prim.Native.Nat.{ℕ, _≤_}
-use lib.Dec.{T, leb}
+use lib.Dec.{T}
 use lib.IntN.{ℤ, pos}
 use lib.ListN.{length}
 use Rattle.records.specs.Lists.{filled}
 use Rattle.records.specs.Types.{All}
 use Rattle.records.specs.Sheet.{SheetValue}
-use Rattle.tesl.specs.Lists.{all}
+use Rattle.tesl.specs.Lists.{any}
 use Rattle.tesl.specs.Run.{Instant, ticksOf, tagsOf, fillings}
-use Rattle.tesl.specs.Remainder.{Remainder, sameRemainder, owes}
+use Rattle.tesl.specs.Remainder.{Remainder, sameRemainder, overfull}
 use Rattle.tesl.specs.Answer.{exhausted}
 use Rattle.theory.specs.Sets.{Covers, EachOnce}
 use Rattle.theory.specs.Held.{successors}
@@ -37,7 +37,7 @@ Proper rs = All Once rs
 pub record Every (v : SheetValue) (last : Option (List ℤ)) (i : Instant) (rs new : List Remainder) : Type 0 where
   pub once : EachOnce sameRemainder new (successors v last i rs)
   pub live : length new ≤ 32
-  pub owe : T (all (λ (r : Remainder). leb (owes r) 8) new)
+  pub owe : T (not (any overfull new))
   pub proper : Proper new
 
 module _ (v : SheetValue) (first : Bool) (was : List ℤ) (i : Instant) (size : length i ≤ 8) (rs : List Remainder) (shaped : All (Shaped (v .clocks)) rs) where

@@ -1,21 +1,20 @@
 -- The successors found so far, each once, while there is room: what one more makes of them, and a fold. Assumes nothing.
-use mathlib.Core.Bool.{Bool, true, false, not, cond, _&&_}
+use mathlib.Core.Bool.{Bool, true, false, not, cond}
 use mathlib.Core.List.{List, [], _∷_, _++_, append-nil, append-assoc, List·Memᴰ}
 use mathlib.Core.Option.{Option, none, some}
 use mathlib.Core.Path.{_≡_, sym, subst}
 use Prim.Native.Nat.{_≤_}
 use native.Mathlib.Omega.{arith}
-use lib.Dec.{T, leb, ltb, ltb→lt, nltb→le}
+use lib.Dec.{T, T-not, not-T, ltb, ltb→lt, nltb→le}
 use lib.IntN.{ℤ}
 use lib.ListN.{length, length-append}
 use Rattle.records.specs.Sheet.{SheetValue}
 use Rattle.records.specs.Types.{All}
-use Rattle.tesl.specs.Lists.{all, any, flatMap}
+use Rattle.tesl.specs.Lists.{any, flatMap}
 use Rattle.tesl.specs.Run.{Instant, Filled, fillings}
-use Rattle.tesl.specs.Remainder.{Remainder, sameRemainder, owes}
+use Rattle.tesl.specs.Remainder.{Remainder, sameRemainder, overfull}
 use Rattle.tesl.specs.Answer.{exhausted}
-use Rattle.tesl.proofs.Tests.{and-i, or-e}
-use Rattle.tesl.proofs.FormulaLists.{all-append}
+use Rattle.tesl.proofs.Tests.{or-e}
 use Rattle.theory.specs.Sets.{Covers, EachOnce}
 use Rattle.theory.specs.Step.{next, stepOk}
 use Rattle.theory.specs.Held.{successors}
@@ -38,7 +37,7 @@ module _ (v : SheetValue) (last : Option (List ℤ)) (i : Instant) (rs : List Re
   pub record Gathered (reached xs : List Remainder) : Type 0 where
     pub among : Covers sameRemainder xs (successors v last i rs)
     pub live : length xs ≤ 32
-    pub owe : T (all (λ (r : Remainder). leb (owes r) 8) xs)
+    pub owe : T (not (any overfull xs))
     pub tidy : All Once rs → All Once xs
     pub once : All Once rs → EachOnce sameRemainder xs reached
 
@@ -60,14 +59,11 @@ module _ (v : SheetValue) (last : Option (List ℤ)) (i : Instant) (rs : List Re
         (c z) (λ u. any-same sameRemainder remainder-equivalence z x (successors v last i rs) u g)
 
     gather-insert : (reached : List Remainder) (found : Option (List Remainder)) (x : Remainder) → T (stepOk v last f r) → T (sameRemainder x (next v f r))
-        → T (leb (owes x) 8) → (Once r → Once x) → Gathering reached found → Gathering (reached ++ (next v f r ∷ [])) (inserted 32 found x)
+        → T (not (overfull x)) → (Once r → Once x) → Gathering reached found → Gathering (reached ++ (next v f r ∷ [])) (inserted 32 found x)
     unfolding inserted
     gather-insert reached none x ok s w o h = h
     gather-insert reached (some xs) x ok s w o h = by-tests (any (sameCounted x) xs) (ltb (length xs) 32) (λ t. t) (λ t. t) (λ t. t) (λ t. t)
       where
-        few : Remainder → Bool
-        few q = leb (owes q) 8
-
         same : All Once rs → any (sameCounted x) xs ≡ any (sameRemainder x) xs
         same p = any-counted x xs (o (of-each Once p m)) (h .tidy p)
 
@@ -83,7 +79,7 @@ module _ (v : SheetValue) (last : Option (List ℤ)) (i : Instant) (rs : List Re
         by-tests false true t n l g = record {
           among = among-more xs x (goes-on x ok s) (h .among);
           live = let lt = ltb→lt (length xs) 32 (l tt) in omega (arith, length-append xs (x ∷ []));
-          owe = subst T (sym (all-append few xs (x ∷ []))) (and-i (all few xs) (few x && true) (h .owe) (and-i (few x) true w tt));
+          owe = not-T (any overfull (xs ++ (x ∷ []))) (λ u. or-e (any overfull xs) (overfull x) (subst T (any-snoc overfull xs x) u) (T-not (any overfull xs) (h .owe)) (T-not (overfull x) w));
           tidy = λ p. each-snoc Once xs (h .tidy p) (o (of-each Once p m));
           once = λ p. fresh sameRemainder remainder-equivalence (h .once p) x (next v f r) s (subst (λ (b : Bool). T (not b)) (same p) (n tt));
         }

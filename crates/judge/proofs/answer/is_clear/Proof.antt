@@ -9,9 +9,10 @@ use borrow.Author.Needs.{needs}
 use borrow.Author.Tests.{eq-eqb, ne-eqb}
 use Rattle.records.specs.Sheet.{SheetValue}
 use Rattle.tesl.specs.Lists.{any}
+use Rattle.tesl.specs.Remainder.{isClear}
 use Rattle.judge.specs.View.{viewOf}
 use Rattle.judge.proofs.Places.{any-next, any-hit, pastEnd}
-use Rattle.judge.proofs.answer.Laws.{isClear, clear-at}
+use Rattle.judge.proofs.answer.Laws.{clear-at}
 use Rattle.judge.proofs.answer.is_clear.Statement.{statement}
 use Rattle.judge.proofs.answer.is_clear.Tie as tie
 

@@ -10,8 +10,9 @@ use denote.Ref.{now}
 use Rattle.records.specs.Lists.{listedFrom}
 use Rattle.records.specs.Sheet.{SheetValue}
 use Rattle.tesl.specs.Lists.{any}
+use Rattle.tesl.specs.Remainder.{isClear}
 use Rattle.judge.specs.Rows.{Rows, rows, rowsOf}
-use Rattle.judge.proofs.answer.Laws.{isClear, row-owes, row-clear}
+use Rattle.judge.proofs.answer.Laws.{row-owes, row-clear}
 use Rattle.judge.proofs.answer.is_clear_in.Statement.{statement}
 use Rattle.judge.proofs.answer.is_clear_in.Tie as tie
 
