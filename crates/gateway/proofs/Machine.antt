@@ -10,7 +10,7 @@ use Rattle.records.specs.Sheet.{SheetValue, readSheet}
 use Rattle.records.specs.Types.{All}
 use Rattle.tesl.specs.Lists.{flatMap}
 use Rattle.tesl.specs.Run.{Instant}
-use Rattle.tesl.specs.Answer.{Answer, exhausted, broken, holding, answer}
+use Rattle.tesl.specs.Answer.{Answer, exhausted, broken, holding, mostLive, answer}
 use Rattle.tesl.specs.Machine.{accepts, listAfter, reply, machine, session, concluded, callsOf, judgeLog}
 use Rattle.theory.proofs.Answers.{holding-few}
 use Rattle.theory.proofs.Accepted.{taken-read}
@@ -25,7 +25,7 @@ live-small s run = by-answer (answer s run) refl
     by-answer : (a : Answer) → answer s run ≡ a → liveCode a ≤ 32
     by-answer exhausted e = omega arith
     by-answer broken e = omega arith
-    by-answer (holding n standing) e = holding-few s run e
+    by-answer (holding n standing) e = holding-few mostLive s run e
 
 -- ---- the answers to a list of calls
 

@@ -6,7 +6,7 @@ use Prim.Native.Nat.{ℕ}
 use Rattle.records.specs.Outcome.{Outcome, taken, refused}
 use Rattle.records.specs.Sheet.{SheetValue, readSheet}
 use Rattle.tesl.specs.Run.{Instant}
-use Rattle.tesl.specs.Answer.{Answer, answer}
+use Rattle.tesl.specs.Answer.{Answer, mostLive, answer}
 use Rattle.tesl.specs.Machine.{accepts, Session}
 use Rattle.theory.specs.Session.{Ran, Opening, refuses, opens, Observing, FollowsMachine, EachAnswer}
 use Rattle.theory.specs.Session as machine
@@ -66,7 +66,7 @@ every-answer P holds {sheet} {calls} {answered} {last} ran =
     subst (EachAnswer P sheet calls) (sym (demand3 sheet calls answered last ran .same)) (each-answer P holds sheet calls)
 
 pub demand3-said : Demand3Said
-demand3-said sheet calls answered last ran = every-answer Said answer-said ran
+demand3-said sheet calls answered last ran = every-answer (Said mostLive) (answer-said mostLive) ran
 
 pub demand2 : Demand2
-demand2 sheet calls answered last ran = every-answer SeenJudged seen-judged ran
+demand2 sheet calls answered last ran = every-answer SeenJudged (seen-judged mostLive) ran

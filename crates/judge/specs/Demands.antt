@@ -4,7 +4,7 @@ use mathlib.Core.Option.{Option}
 use mathlib.Core.Path.{_≡_}
 use Prim.Native.Nat.{ℕ}
 use Rattle.records.specs.Outcome.{Outcome, taken, refused}
-use Rattle.tesl.specs.Answer.{Answer}
+use Rattle.tesl.specs.Answer.{Answer, mostLive}
 use Rattle.tesl.specs.Machine.{Session}
 use Rattle.theory.specs.Session.{Ran, SameSession, EachAnswer}
 use Rattle.theory.specs.Session as machine
@@ -37,7 +37,7 @@ Demand3 = (sheet : List ℕ) (calls : List (List ℕ)) (answered : Session) (las
 -- ---- demand 3 in document 01's words: each answer is what `Said` says of the accepted instants so far, and each refusal has its number and leaves them alone
 abbrev pub Demand3Said : Type 0
 Demand3Said = (sheet : List ℕ) (calls : List (List ℕ)) (answered : Session) (last : Option Monitor)
-    → Ran Opens Observes sheet calls answered last → EachAnswer Said sheet calls answered
+    → Ran Opens Observes sheet calls answered last → EachAnswer (Said mostLive) sheet calls answered
 
 -- ---- demand 2: each answer short of exhausted, opening's too, whose accepted instants so far have no unseen tick, is as TESL judges them
 abbrev pub Demand2 : Type 0

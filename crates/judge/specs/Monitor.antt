@@ -75,11 +75,11 @@ pub record Begins (s : Sheet) (m : Monitor) : Type 0 where
       → heldBy m ≡ some (cut (sheetValue s) (firstOwing os) ∷ [])
   pub fits : T (sized (m .held))
 
--- a monitor after an accepted instant, and its answer
-pub record Accepts (m : Monitor) (i : Instant) (r : Given) : Type 0 where
+-- a monitor after an accepted instant, with room for so many remainders, and its answer
+pub record Accepts (room : ℕ) (m : Monitor) (i : Instant) (r : Given) : Type 0 where
   pub sheet : r .monitor .sheet ≡ m .sheet
   pub instants : r .monitor .instants ≡ suc (m .instants)
   pub tags : r .monitor .tags ≡ i .tags
-  pub held : heldBy (r .monitor) ≡ worked 32 (sheetBy m) (tagsBefore (eqb (m .instants) 0) (m .tags)) (seenOf (m .sheet .clocks) (i .ticks)) (i .tags) (heldBy m)
+  pub held : heldBy (r .monitor) ≡ worked room (sheetBy m) (tagsBefore (eqb (m .instants) 0) (m .tags)) (seenOf (m .sheet .clocks) (i .ticks)) (i .tags) (heldBy m)
   pub fits : T (sized (r .monitor .held))
   pub said : replyOf (r .reply) ≡ taken (saidBy (heldBy (r .monitor)))

@@ -23,9 +23,13 @@ pub data Answer : Type 0 where
 unfoldable pub remainders : SheetValue → List Instant → List Remainder
 remainders s run = distinct sameRemainder (map (remainder s) (filter (fits s) (runFillings run)))
 
--- more than 32 distinct remainders, or one with more than 8 obligations
-unfoldable pub tooMany : List Remainder → Bool
-tooMany rs = ltb 32 (length rs) || any overfull rs
+-- more distinct remainders than there is room for, or one with more than 8 obligations
+unfoldable pub tooMany : ℕ → List Remainder → Bool
+tooMany room rs = ltb room (length rs) || any overfull rs
+
+-- some beginning of the list, the whole included, has too many
+unfoldable pub over : ℕ → SheetValue → List Instant → Bool
+over room s run = any (λ (b : List Instant). tooMany room (remainders s b)) (beginnings run)
 
 abbrev pub standing : List Remainder → Standing
 standing rs = cond (any isClear rs) clear owed
@@ -35,6 +39,17 @@ unfoldable pub judged : List Remainder → Answer
 judged [] = broken
 judged (r ∷ rs) = holding (length (r ∷ rs)) (standing (r ∷ rs))
 
--- exhausted, if some beginning of the list, the whole included, has too many; then broken or holding
-unfoldable pub answer : SheetValue → List Instant → Answer
-answer s run = cond (any (λ (b : List Instant). tooMany (remainders s b)) (beginnings run)) exhausted (judged (remainders s run))
+-- exhausted, if it was ever over; else broken or holding
+abbrev pub verdict : Bool → List Remainder → Answer
+verdict over rs = cond over exhausted (judged rs)
+
+-- what is answered with room for so many
+unfoldable pub answerWithin : ℕ → SheetValue → List Instant → Answer
+answerWithin room s run = verdict (over room s run) (remainders s run)
+
+-- there is room for 32
+abbrev pub mostLive : ℕ
+mostLive = 32
+
+abbrev pub answer : SheetValue → List Instant → Answer
+answer s run = answerWithin mostLive s run

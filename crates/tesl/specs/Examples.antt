@@ -18,7 +18,7 @@ use Rattle.records.specs.Instant.{tickOf, rawCells, readInstant}
 use Rattle.tesl.specs.Run.{Instant, fillings, runFillings}
 use Rattle.tesl.specs.Fits.{fits}
 use Rattle.tesl.specs.Remainder.{remainder, sameRemainder, owes, overfull, isClear}
-use Rattle.tesl.specs.Answer.{exhausted, broken, holding, clear, owed, remainders, tooMany, judged, answer}
+use Rattle.tesl.specs.Answer.{exhausted, broken, holding, clear, owed, remainders, tooMany, over, judged, answerWithin, answer}
 use Rattle.tesl.specs.Machine.{unlessFull, accepts, machine, session, judgeLog}
 
 -- a sheet of c clocks with one line
@@ -161,7 +161,7 @@ pub record Examples : Type 0 where
       × (answer (sheet 2 (Relation 0 1 (pos 300) (pos 0))) (two Idle (pos 24464) Idle (pos 300) ∷ []) ≡ broken)
 
 pub examples : Examples
-unfolding signed isTorn front cut lengthOf clocksOf lineOf readSheet tickOf rawCells readInstant fillings runFillings fits remainder sameRemainder owes overfull isClear remainders tooMany judged answer accepts machine session judgeLog
+unfolding signed isTorn front cut lengthOf clocksOf lineOf readSheet tickOf rawCells readInstant fillings runFillings fits remainder sameRemainder owes overfull isClear remainders tooMany over judged answerWithin accepts machine session judgeLog
 examples = record {
   L1 = (refl, refl, refl);
   L2 = (refl, refl);

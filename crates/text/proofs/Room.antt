@@ -18,7 +18,7 @@ use Rattle.records.proofs.instant.Front.{taken-short}
 use Rattle.records.proofs.instant.RoundTrip.{read-writes}
 use Rattle.tesl.specs.Lists.{flatMap}
 use Rattle.tesl.specs.Run.{Instant, tagsOf}
-use Rattle.tesl.specs.Answer.{Answer, exhausted, broken, holding, clear, owed, answer}
+use Rattle.tesl.specs.Answer.{Answer, exhausted, broken, holding, clear, owed, mostLive, answer}
 use Rattle.tesl.specs.Machine.{accepts, callOf, callsOf}
 use Rattle.theory.proofs.Answers.{holding-few}
 use Rattle.theory.proofs.Accepted.{taken-read, refused-number}
@@ -47,7 +47,7 @@ live-most s run = by-answer (answer s run) refl
     by-answer : (a : Answer) → answer s run ≡ a → live a ≤ 32
     by-answer exhausted e = omega arith
     by-answer broken e = omega arith
-    by-answer (holding n standing) e = holding-few s run e
+    by-answer (holding n standing) e = holding-few mostLive s run e
 
 -- at most 3 digits, the point and 2
 cents-short : (n : ℕ) → n ≤ 32768 → length (cents n) ≤ 6

@@ -103,9 +103,9 @@ module _ (s : SheetValue) (run : List Instant) (rs : List Remainder) (h : Held s
   pub held-any : (p : Remainder → Bool) → Respects p → any p rs ≡ any p (remainders s run)
   held-any p respects = any-set sameRemainder remainder-equivalence p respects rs (remainders s run) (h .these)
 
-  pub held-tooMany : tooMany rs ≡ tooMany (remainders s run)
+  pub held-tooMany : (room : ℕ) → tooMany room rs ≡ tooMany room (remainders s run)
   unfolding tooMany
-  held-tooMany = rw (held-length, held-any overfull overfull-respects)
+  held-tooMany room = rw (held-length, held-any overfull overfull-respects)
 
   pub held-judged : judged rs ≡ judged (remainders s run)
   unfolding judged

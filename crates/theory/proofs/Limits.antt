@@ -1,4 +1,4 @@
--- The limits of a remainder (refusal 11): the step keeps them from any remainder and any held ones within them, and what is held after a run is within them, at most 32 with at most 8 obligations each, unless exhausted. Assumes nothing.
+-- The limits of a remainder (refusal 11): the step keeps them from any remainder and any held ones within them, and what is held after a run is within them, at most as many as there is room for with at most 8 obligations each, unless exhausted. Assumes nothing.
 use mathlib.Core.Bool.{Bool, not, _&&_, or-false}
 use mathlib.Core.List.{List, [], _∷_, _++_, map}
 use mathlib.Core.Logic.{_≢_}
@@ -16,7 +16,7 @@ use Rattle.tesl.specs.Lists.{all, any}
 use Rattle.tesl.specs.Run.{Instant, ticksOf, tagsOf, Filled, tagIn, tagAt, fillTicks, fillings, runFillings}
 use Rattle.tesl.specs.Fits.{Obligation, unmet, fits}
 use Rattle.tesl.specs.Remainder.{Remainder, leadOf, remainder, sameRemainder, owes}
-use Rattle.tesl.specs.Answer.{exhausted, remainders, answer}
+use Rattle.tesl.specs.Answer.{exhausted, remainders, answerWithin}
 use Rattle.theory.specs.Step.{nextLead, nextLeads, nextOwed, next, stepOk, lastTagsOf, nexts, wellFormed}
 use Rattle.theory.specs.Limits.{dueOk, clocksOk, withinLimits, HeldLimits}
 use Rattle.theory.specs.Sets.{Covers}
@@ -140,10 +140,10 @@ module _ (s : SheetValue) (wf : T (wellFormed s)) (values : All IsLineValue (s .
       (subst T (any-flatMap (beyond (suc held)) (nexts s last i) rs)
       (any-covers sameRemainder remainder-equivalence (beyond (suc held)) (beyond-same (suc held)) new (successors s last i rs) c t)))))
 
-  pub held-within : (run : List Instant) (rs : List Remainder) → All IsInstant run → answer s run ≢ exhausted → Held s run rs → HeldLimits (s .clocks) (length run) rs
+  pub held-within : (room : ℕ) (run : List Instant) (rs : List Remainder) → All IsInstant run → answerWithin room s run ≢ exhausted → Held s run rs → HeldLimits room (s .clocks) (length run) rs
   unfolding remainders beyond
-  held-within run rs h n held =
-      let few = held-few s run rs n held in
+  held-within room run rs h n held =
+      let few = held-few room s run rs n held in
       record {
         live = few .0;
         owe = few .1;

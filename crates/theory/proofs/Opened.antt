@@ -17,7 +17,7 @@ use Rattle.records.proofs.sheet.RoundTrip.{read-writes}
 use Rattle.tesl.specs.Lists.{all, flatMap, distinct}
 use Rattle.tesl.specs.Fits.{owedAtStart, unmet}
 use Rattle.tesl.specs.Remainder.{Remainder, remainder, sameObligation, sameRemainder, owes, overfull}
-use Rattle.tesl.specs.Answer.{answer, judged}
+use Rattle.tesl.specs.Answer.{answerWithin, judged}
 use Rattle.theory.specs.Step.{bit, lineBelow}
 use Rattle.theory.specs.Limits.{SheetLimits}
 use Rattle.tesl.proofs.Tests.{and-l, and-r, and-i, ≡→T}
@@ -97,6 +97,6 @@ opening-owes s h =
     (λ o t. subst T (distinct-set sameObligation owed-equivalence start o) t) in
     rw e (omega (arith, start-owes (s .lines), h .sporadics-most))
 
-pub opening-answer : (s : SheetValue) → SheetLimits s → (r : Remainder) → T (sameRemainder r (remainder s [])) → answer s [] ≡ judged (r ∷ [])
+pub opening-answer : (room : ℕ) → 1 ≤ room → (s : SheetValue) → SheetLimits s → (r : Remainder) → T (sameRemainder r (remainder s [])) → answerWithin room s [] ≡ judged (r ∷ [])
 unfolding overfull
-opening-answer s h r e = answer-start s r e (not-T (overfull r) (λ t. let k = ltb→lt 8 (owes (remainder s [])) (overfull-respects r (remainder s []) e t) in absurd (omega (arith, opening-owes s h))))
+opening-answer room one s h r e = answer-start room one s r e (not-T (overfull r) (λ t. let k = ltb→lt 8 (owes (remainder s [])) (overfull-respects r (remainder s []) e t) in absurd (omega (arith, opening-owes s h))))

@@ -16,7 +16,7 @@ use Rattle.tesl.specs.Lists.{any, filter, distinct, beginnings}
 use Rattle.tesl.specs.Run.{Instant, ticksOf, tagsOf, Filled, fillTicks, fillings, runFillings}
 use Rattle.tesl.specs.Fits.{Obligation, unmet, fits}
 use Rattle.tesl.specs.Remainder.{Remainder, remainder, sameRemainder, sameObligation, owes, overfull, isClear}
-use Rattle.tesl.specs.Answer.{Standing, clear, owed, Answer, exhausted, broken, holding, remainders, tooMany, standing, judged, answer}
+use Rattle.tesl.specs.Answer.{Standing, clear, owed, Answer, exhausted, broken, holding, remainders, tooMany, over, standing, judged, verdict, answerWithin}
 use Rattle.theory.specs.Sets.{apart}
 use Rattle.theory.specs.Unmet.{Unmet, NoneUnmet}
 use Rattle.theory.specs.Said.{Along, TickAs, FillsInstant, Fills, Fitting, sameLeft, Leaves, Live, Owing, TooMany, Exhausts, Said}
@@ -166,20 +166,20 @@ owing-number s run n = (
 
 -- ---- exhausted
 
-too-many : (s : SheetValue) (run : List Instant) → T (tooMany (remainders s run)) ↔ (Leaves s run 33 ⊎ Owing s run 9)
+too-many : (room : ℕ) (s : SheetValue) (run : List Instant) → T (tooMany room (remainders s run)) ↔ (Leaves s run (suc room) ⊎ Owing s run 9)
 unfolding tooMany overfull
-too-many s run = (
-  λ t. or-e (ltb 32 (length rs)) (any overfull rs) t
-      (λ u. inl (leaves-number s run 33 .1 (subst (λ (n : ℕ). 33 ≤ n) as-many (ltb→lt 32 (length rs) u))))
+too-many room s run = (
+  λ t. or-e (ltb room (length rs)) (any overfull rs) t
+      (λ u. inl (leaves-number s run (suc room) .1 (subst (λ (n : ℕ). suc room ≤ n) as-many (ltb→lt room (length rs) u))))
       (λ u.
       let m = any-member (λ (f : List Filled). overfull (remainder s f)) ks (subst T all-owed u) in
       inr (owing-number s run 9 .1 (m .0, of-each (Fitting s run) (kept-fits s run) (m .1), ltb→lt 8 (owes (remainder s (m .0))) (m .2)))),
   ⊎-elim
-      (λ (l : Leaves s run 33). or-l (ltb 32 (length rs)) (any overfull rs) (lt→ltb 32 (length rs) (subst (λ (n : ℕ). 33 ≤ n) (sym as-many) (leaves-number s run 33 .0 l))))
+      (λ (l : Leaves s run (suc room)). or-l (ltb room (length rs)) (any overfull rs) (lt→ltb room (length rs) (subst (λ (n : ℕ). suc room ≤ n) (sym as-many) (leaves-number s run (suc room) .0 l))))
       (λ (w : Owing s run 9).
       let h = owing-number s run 9 .0 w in
       let g = kept-all s run (h .0) (h .1) in
-      or-r (ltb 32 (length rs)) (any overfull rs) (subst T (sym all-owed)
+      or-r (ltb room (length rs)) (any overfull rs) (subst T (sym all-owed)
       (member-any (λ (f : List Filled). overfull (remainder s f)) (g .1)
       (overfull-respects (remainder s (h .0)) (remainder s (g .0)) (g .2) (lt→ltb 8 (owes (remainder s (h .0))) (h .2)))))),
 )
@@ -196,31 +196,15 @@ too-many s run = (
     all-owed : any overfull rs ≡ any (λ (f : List Filled). overfull (remainder s f)) ks
     all-owed = ap (any overfull) (remainders-kept s run) ∙ any-map overfull (remainder s) ks
 
-    found : T (tooMany rs) → TooMany s run
-    found t = or-e (ltb 32 (length rs)) (any nine rs) t
-        (λ u. let l = ltb→lt 32 (length rs) u in inl (leaves-number s run _ .1 (omega (arith, as-many))))
-        (λ u.
-        let m = any-member (λ (f : List Filled). nine (remainder s f)) ks (subst T all-owed u) in
-        let l = ltb→lt 8 (owes (remainder s (m .0))) (m .2) in
-        inr (owing-number s run _ .1 (m .0, of-each (Fitting s run) (kept-fits s run) (m .1), omega arith)))
-
-    tested : TooMany s run → T (tooMany rs)
-    tested (inl h) = let l = leaves-number s run _ .0 h in or-l (ltb 32 (length rs)) (any nine rs) (lt→ltb 32 (length rs) (omega (arith, as-many)))
-    tested (inr h) =
-        let w = owing-number s run _ .0 h in
-        let g = kept-all s run (w .0) (w .1) in
-        let l = owes-same (remainder s (w .0)) (remainder s (g .0)) (g .2) in
-        or-r (ltb 32 (length rs)) (any nine rs)
-        (subst T (sym all-owed) (member-any (λ (f : List Filled). nine (remainder s f)) (g .1) (lt→ltb 8 (owes (remainder s (g .0))) (omega (arith, w .2)))))
-
-exhausts-exactly : (s : SheetValue) (run : List Instant) → T (any (λ (b : List Instant). tooMany (remainders s b)) (beginnings run)) ↔ Exhausts s run
-exhausts-exactly s run = (
-  λ t. let r = of-beginnings many run t in record { beginning = r .0; rest = r .1; begins = r .2; too-many = too-many s (r .0) .0 (r .3) },
-  λ h. subst (λ (l : List Instant). T (any many (beginnings l))) (sym (h .begins)) (a-beginning many (h .beginning) (h .rest) (too-many s (h .beginning) .1 (h .too-many))),
+exhausts-exactly : (room : ℕ) (s : SheetValue) (run : List Instant) → T (over room s run) ↔ Exhausts room s run
+unfolding over
+exhausts-exactly room s run = (
+  λ t. let r = of-beginnings many run t in record { beginning = r .0; rest = r .1; begins = r .2; too-many = too-many room s (r .0) .0 (r .3) },
+  λ h. subst (λ (l : List Instant). T (any many (beginnings l))) (sym (h .begins)) (a-beginning many (h .beginning) (h .rest) (too-many room s (h .beginning) .1 (h .too-many))),
 )
   where
     many : List Instant → Bool
-    many b = tooMany (remainders s b)
+    many b = tooMany room (remainders s b)
 
 -- ---- clear
 
@@ -246,20 +230,17 @@ clear-exactly s run = (
 
 -- ---- the answer
 
-pub answer-said : (s : SheetValue) (run : List Instant) → Said s run (answer s run)
-unfolding answer judged all-kept
-answer-said s run =
-    subst (λ (rs : List Remainder). Said s run (cond over exhausted (judged rs))) (sym (remainders-kept s run))
-    (by-test over (kept s run) (exhausts-exactly s run) (all-kept s run) refl (clear-exactly s run))
+pub answer-said : (room : ℕ) (s : SheetValue) (run : List Instant) → Said room s run (answerWithin room s run)
+unfolding answerWithin judged
+answer-said room s run =
+    subst (λ (rs : List Remainder). Said room s run (verdict (over room s run) rs)) (sym (remainders-kept s run))
+    (by-test (over room s run) (kept s run) (exhausts-exactly room s run) (record { leaves = record { these = kept s run; number = refl; each-fits = kept-fits s run; no-two = kept-apart s run }; no-other = kept-all s run }) refl (clear-exactly s run))
   where
-    over : Bool
-    over = any (λ (b : List Instant). tooMany (remainders s b)) (beginnings run)
-
     Clear : Standing → Type 0
     Clear st = (st ≡ clear) ↔ ((f : List Filled) × Fitting s run f × NoneUnmet (s .lines) f)
 
-    by-test : (b : Bool) (ks : List (List Filled)) → T b ↔ Exhausts s run → (l : Live s run (length ks)) → l .leaves .these ≡ ks → Clear (standing (map (remainder s) ks))
-        → Said s run (cond b exhausted (judged (map (remainder s) ks)))
+    by-test : (b : Bool) (ks : List (List Filled)) → T b ↔ Exhausts room s run → (l : Live s run (length ks)) → l .leaves .these ≡ ks → Clear (standing (map (remainder s) ks))
+        → Said room s run (verdict b (map (remainder s) ks))
     by-test true ks x l e c = record {
       exhausts = (λ q. x .0 tt, λ h. refl);
       breaks = λ n. absurd (n refl);
@@ -294,19 +275,19 @@ standing-one clear b h k = sym (k .1 (h .0 refl))
 standing-one owed clear h k = h .1 (k .0 refl)
 standing-one owed owed h k = refl
 
-said-once : (s : SheetValue) (run : List Instant) (a b : Answer) → Said s run a → Said s run b → a ≡ b
-said-once s run exhausted b h k = sym (k .exhausts .1 (h .exhausts .0 refl))
-said-once s run broken exhausted h k = h .exhausts .1 (k .exhausts .0 refl)
-said-once s run broken broken h k = refl
-said-once s run broken (holding m u) h k =
+said-once : (room : ℕ) (s : SheetValue) (run : List Instant) (a b : Answer) → Said room s run a → Said room s run b → a ≡ b
+said-once room s run exhausted b h k = sym (k .exhausts .1 (h .exhausts .0 refl))
+said-once room s run broken exhausted h k = h .exhausts .1 (k .exhausts .0 refl)
+said-once room s run broken broken h k = refl
+said-once room s run broken (holding m u) h k =
     sym (k .breaks (λ q. let z : _≡_ {A = ℕ} 0 1 = cc in omega arith) .1 (h .breaks (λ q. let z : _≡_ {A = ℕ} 0 1 = cc in omega arith) .0 refl))
-said-once s run (holding n t) exhausted h k = h .exhausts .1 (k .exhausts .0 refl)
-said-once s run (holding n t) broken h k =
+said-once room s run (holding n t) exhausted h k = h .exhausts .1 (k .exhausts .0 refl)
+said-once room s run (holding n t) broken h k =
     h .breaks (λ q. let z : _≡_ {A = ℕ} 0 1 = cc in omega arith) .1 (k .breaks (λ q. let z : _≡_ {A = ℕ} 0 1 = cc in omega arith) .0 refl)
-said-once s run (holding n t) (holding m u) h k =
+said-once room s run (holding n t) (holding m u) h k =
     let l = live-one s run n m (h .holds n t refl .0) (k .holds m u refl .0) in
     let e = standing-one t u (h .holds n t refl .1) (k .holds m u refl .1) in
     λ i. holding (l i) (e i)
 
-pub said-is : (s : SheetValue) (run : List Instant) (a : Answer) → Said s run a → a ≡ answer s run
-said-is s run a h = said-once s run a (answer s run) h (answer-said s run)
+pub said-is : (room : ℕ) (s : SheetValue) (run : List Instant) (a : Answer) → Said room s run a → a ≡ answerWithin room s run
+said-is room s run a h = said-once room s run a (answerWithin room s run) h (answer-said room s run)

@@ -16,11 +16,11 @@ use Rattle.records.specs.declared.instant.Tick.{Tick}
 use Rattle.records.specs.declared.instant.Tick.the-variants.{Idle, Ticks, Unseen}
 use Rattle.records.specs.Sheet.{SheetValue}
 use Rattle.records.specs.Types.{All}
-use Rattle.tesl.specs.Lists.{all, any, filter, distinct, flatMap, beginnings}
+use Rattle.tesl.specs.Lists.{all, any, filter, distinct, flatMap}
 use Rattle.tesl.specs.Run.{Instant, ticksOf, tagsOf, Filled, fillTicks, fillings, runFillings}
 use Rattle.tesl.specs.Fits.{ticksIn, Obligation, unmet, fits}
 use Rattle.tesl.specs.Remainder.{remainder, sameRemainder, sameObligation, owes, isClear}
-use Rattle.tesl.specs.Answer.{Standing, clear, owed, exhausted, broken, holding, remainders, tooMany, standing, judged, answer}
+use Rattle.tesl.specs.Answer.{Standing, clear, owed, exhausted, broken, holding, remainders, over, standing, judged, verdict, answerWithin}
 use Rattle.tesl.specs.Formula.{ticksBelow, Holds, NoneFalls, EachHolds}
 use Rattle.theory.specs.Unmet.{NoneUnmet}
 use Rattle.theory.specs.Seen.{isSeen, Seen, ticked, seenRun, SeenJudged}
@@ -112,11 +112,11 @@ clear-exactly s f = (
 )
 
 module _ (s : SheetValue) (run : List Instant) where
-  not-exhausted : (answer s run ≡ exhausted → ⊥) → answer s run ≡ judged (remainders s run)
-  unfolding answer
-  not-exhausted n = go (any (λ (b : List Instant). tooMany (remainders s b)) (beginnings run)) n
+  not-exhausted : (room : ℕ) → (answerWithin room s run ≡ exhausted → ⊥) → answerWithin room s run ≡ judged (remainders s run)
+  unfolding answerWithin
+  not-exhausted room n = go (over room s run) n
     where
-      go : (b : Bool) → (cond b exhausted (judged (remainders s run)) ≡ exhausted → ⊥) → cond b exhausted (judged (remainders s run)) ≡ judged (remainders s run)
+      go : (b : Bool) → (verdict b (remainders s run) ≡ exhausted → ⊥) → verdict b (remainders s run) ≡ judged (remainders s run)
       go true n = absurd (n refl)
       go false n = refl
 
@@ -129,9 +129,9 @@ fails : (b : Bool) → (T b → ⊥) → b ≡ false
 fails true n = absurd (n tt)
 fails false n = refl
 
-pub seen-judged : (s : SheetValue) (run : List Instant) → SeenJudged s run (answer s run)
+pub seen-judged : (room : ℕ) (s : SheetValue) (run : List Instant) → SeenJudged s run (answerWithin room s run)
 unfolding judged
-seen-judged s run t n = record {
+seen-judged room s run t n = record {
   breaks = (λ e h. let w = holds h in let z : _≡_ {A = ℕ} 0 1 = cc (w .1) in omega arith, breaks);
   else-holds = λ k. by-test (fits s f) (λ u. u) (λ u. u) k;
 }
@@ -139,11 +139,11 @@ seen-judged s run t n = record {
     f : List Filled
     f = seenRun run
 
-    said : answer s run ≡ judged (cond (fits s f) (remainder s f ∷ []) [])
-    said = not-exhausted s run n ∙ ap judged (one-remainder s run f (one-filling run t))
+    said : answerWithin room s run ≡ judged (cond (fits s f) (remainder s f ∷ []) [])
+    said = not-exhausted s run room n ∙ ap judged (one-remainder s run f (one-filling run t))
 
     Holding : Type 0
-    Holding = (standing : Standing) × (answer s run ≡ holding 1 standing) × ((standing ≡ clear) ↔ NoneUnmet (s .lines) f)
+    Holding = (standing : Standing) × (answerWithin room s run ≡ holding 1 standing) × ((standing ≡ clear) ↔ (unmet (s .lines) f ≡ []))
 
     holds : NoneFalls (s .clocks) f × EachHolds (s .lines) f → Holding
     holds h = (
@@ -152,9 +152,9 @@ seen-judged s run t n = record {
       Iff·trans (clear-exactly s f) (none-unmet (s .lines) f),
     )
 
-    breaks : (NoneFalls (s .clocks) f × EachHolds (s .lines) f → ⊥) → answer s run ≡ broken
+    breaks : (NoneFalls (s .clocks) f × EachHolds (s .lines) f → ⊥) → answerWithin room s run ≡ broken
     breaks none = said ∙ ap (λ (b : Bool). judged (cond b (remainder s f ∷ []) [])) (fails (fits s f) (λ u. none ((fits-holds s f) .0 u)))
 
-    by-test : (b : Bool) → (T b → T (fits s f)) → (T (fits s f) → T b) → answer s run ≢ broken → Holding
+    by-test : (b : Bool) → (T b → T (fits s f)) → (T (fits s f) → T b) → answerWithin room s run ≢ broken → Holding
     by-test true y _ k = holds ((fits-holds s f) .0 (y tt))
     by-test false _ y k = absurd (k (breaks (λ h. y ((fits-holds s f) .1 h))))

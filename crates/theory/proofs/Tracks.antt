@@ -2,7 +2,7 @@
 use mathlib.Core.List.{List, [], _∷_, _++_, List·Memᴰ}
 use mathlib.Core.Option.{Option, none}
 use mathlib.Core.Path.{_≡_, refl, sym, _∙_, subst}
-use Prim.Native.Nat.{ℕ, suc, _<_}
+use Prim.Native.Nat.{ℕ, suc, _≤_, _<_}
 use native.Mathlib.Omega.{arith}
 use lib.Dec.{T, lt→ltb}
 use lib.IntN.{ℤ}
@@ -12,7 +12,7 @@ use Rattle.records.specs.Types.{IsInstant}
 use Rattle.tesl.specs.Run.{Instant, tagsOf, Filled, fillings}
 use Rattle.tesl.specs.Fits.{Obligation}
 use Rattle.tesl.specs.Remainder.{Remainder, remainder, sameObligation, sameRemainder, owes, overfull}
-use Rattle.tesl.specs.Answer.{Answer, exhausted, judged, answer}
+use Rattle.tesl.specs.Answer.{Answer, exhausted, judged, answerWithin}
 use mathlib.Core.Logic.{_≢_}
 use Rattle.theory.specs.Sets.{apart, Covers}
 use Rattle.theory.specs.Step.{nextOwed, next, stepOk, lastTagsOf, wellFormed}
@@ -27,54 +27,54 @@ use Rattle.theory.proofs.Limits.{held-within, successors-within}
 use Rattle.theory.proofs.Opened.{opening-answer}
 
 -- a held one, a filling that may follow it, and nine distinct ones among the obligations then unmet or begun
-pub nine-found : (s : SheetValue) (last : Option (List ℤ)) (i : Instant) {rs new : List Remainder} {r : Remainder} {f : Filled}
+pub nine-found : {room : ℕ} (s : SheetValue) (last : Option (List ℤ)) (i : Instant) {rs new : List Remainder} {r : Remainder} {f : Filled}
     → List·Memᴰ r rs → List·Memᴰ f (fillings i) → T (stepOk s last f r)
     → (among : List Obligation) → T (apart sameObligation among) → Covers sameObligation among (nextOwed (s .lines) f (r .owed)) → 8 < length among
-    → Finding s last i rs exhausted new
+    → Finding room s last i rs exhausted new
 unfolding next overfull
 nine-found s last i {r = r} {f = f} m n t among a c l = owed (next s f r) (successor-found s last i m n t) (lt→ltb 8 (owes (next s f r)) (owes-more (next s f r) 8 among a c l))
 
-pub tracks-start : (s : SheetValue) → SheetLimits s → (r : Remainder) → T (sameRemainder r (remainder s []))
-    → Tracks s [] (record { instants = 0; last = none; said = judged (r ∷ []); live = r ∷ [] })
-tracks-start s h r e = record { instants = refl; last = refl; said = sym (opening-answer s h r e); live = λ n. held-start s e }
+pub tracks-start : (room : ℕ) → 1 ≤ room → (s : SheetValue) → SheetLimits s → (r : Remainder) → T (sameRemainder r (remainder s []))
+    → Tracks room s [] (record { instants = 0; last = none; said = judged (r ∷ []); live = r ∷ [] })
+tracks-start room one s h r e = record { instants = refl; last = refl; said = sym (opening-answer room one s h r e); live = λ n. held-start s e }
 
-module _ (s : SheetValue) (run : List Instant) (i : Instant) (m : State) (h : Tracks s run m) where
-  tracks : {said : Answer} {new : List Remainder} → said ≡ answer s (run ++ (i ∷ [])) → (said ≢ exhausted → Held s (run ++ (i ∷ [])) new)
-      → Tracks s (run ++ (i ∷ [])) (stateAfter m i said new)
+module _ (room : ℕ) (s : SheetValue) (run : List Instant) (i : Instant) (m : State) (h : Tracks room s run m) where
+  tracks : {said : Answer} {new : List Remainder} → said ≡ answerWithin room s (run ++ (i ∷ [])) → (said ≢ exhausted → Held s (run ++ (i ∷ [])) new)
+      → Tracks room s (run ++ (i ∷ [])) (stateAfter m i said new)
   tracks e f =
       let n = h .instants in
       record { instants = omega (arith, length-append run (i ∷ [])); last = sym (lastOf-map-snoc tagsOf run i); said = e; live = f }
 
   -- once exhausted, nothing needs to be found
-  pub tracks-exhausted : (new : List Remainder) → m .said ≡ exhausted → Tracks s (run ++ (i ∷ [])) (stateAfter m i exhausted new)
-  tracks-exhausted new e = tracks (sym (exhausted-stays s run i (sym (h .said) ∙ e))) (λ n. absurd (n refl))
+  pub tracks-exhausted : (new : List Remainder) → m .said ≡ exhausted → Tracks room s (run ++ (i ∷ [])) (stateAfter m i exhausted new)
+  tracks-exhausted new e = tracks (sym (exhausted-stays room s run i (sym (h .said) ∙ e))) (λ n. absurd (n refl))
 
-  pub tracks-next : T (wellFormed s) → m .said ≢ exhausted → {said : Answer} {new : List Remainder} → Finding s (m .last) i (m .live) said new
-      → Tracks s (run ++ (i ∷ [])) (stateAfter m i said new)
-  tracks-next wf n {said} {new} f = by-finding (subst (λ (last : Option (List ℤ)). Finding s last i (m .live) said new) (h .last) f)
+  pub tracks-next : T (wellFormed s) → m .said ≢ exhausted → {said : Answer} {new : List Remainder} → Finding room s (m .last) i (m .live) said new
+      → Tracks room s (run ++ (i ∷ [])) (stateAfter m i said new)
+  tracks-next wf n {said} {new} f = by-finding (subst (λ (last : Option (List ℤ)). Finding room s last i (m .live) said new) (h .last) f)
     where
       held : Held s run (m .live)
       held = h .live n
 
-      by-finding : {said : Answer} {new : List Remainder} → Finding s (lastTagsOf run) i (m .live) said new → Tracks s (run ++ (i ∷ [])) (stateAfter m i said new)
-      by-finding (many among a c l) = tracks (sym (exhausted-by-many s wf run i (m .live) held among a c l)) (λ n. absurd (n refl))
-      by-finding (one-more among a c l x t u) = tracks (sym (exhausted-by-one-more s wf run i (m .live) held among a c l x t u)) (λ n. absurd (n refl))
-      by-finding (owed x t l) = tracks (sym (exhausted-by-owed s wf run i (m .live) held x t l)) (λ n. absurd (n refl))
+      by-finding : {said : Answer} {new : List Remainder} → Finding room s (lastTagsOf run) i (m .live) said new → Tracks room s (run ++ (i ∷ [])) (stateAfter m i said new)
+      by-finding (many among a c l) = tracks (sym (exhausted-by-many room s wf run i (m .live) held among a c l)) (λ n. absurd (n refl))
+      by-finding (one-more among a c l x t u) = tracks (sym (exhausted-by-one-more room s wf run i (m .live) held among a c l x t u)) (λ n. absurd (n refl))
+      by-finding (owed x t l) = tracks (sym (exhausted-by-owed room s wf run i (m .live) held x t l)) (λ n. absurd (n refl))
       by-finding (every {new = new} e l a) =
           let k = held-step s wf run i (m .live) held new e in
-          tracks (sym (answer-next s run i new (λ e. n (h .said ∙ e)) k l a)) (λ n. k)
+          tracks (sym (answer-next room s run i new (λ e. n (h .said ∙ e)) k l a)) (λ n. k)
 
 -- ---- while it isn't exhausted, what it holds is within the limits
-pub tracks-within : (s : SheetValue) → SheetLimits s → (run : List Instant) → ListLimits s run → (m : State) → Tracks s run m → m .said ≢ exhausted
-    → HeldLimits (s .clocks) (m .instants) (m .live)
-tracks-within s l run r m h n =
-    rw (h .instants) (held-within s (l .clocks-below) (l .values) run (m .live) (r .values) (λ e. n (h .said ∙ e)) (h .live n))
+pub tracks-within : (room : ℕ) (s : SheetValue) → SheetLimits s → (run : List Instant) → ListLimits s run → (m : State) → Tracks room s run m → m .said ≢ exhausted
+    → HeldLimits room (s .clocks) (m .instants) (m .live)
+tracks-within room s l run r m h n =
+    rw (h .instants) (held-within s (l .clocks-below) (l .values) room run (m .live) (r .values) (λ e. n (h .said ∙ e)) (h .live n))
 
 -- from any held ones within the limits, whether a run has them or not: what was found stays within them
-pub finding-within : (s : SheetValue) → SheetLimits s → (last : Option (List ℤ)) (i : Instant) → IsInstant i → (instants : ℕ) {rs new : List Remainder} {said : Answer}
-    → HeldLimits (s .clocks) instants rs → Finding s last i rs said new → said ≢ exhausted → HeldLimits (s .clocks) (suc instants) new
-finding-within s l last i h instants w (many among a c k) n = absurd (n refl)
-finding-within s l last i h instants w (one-more among a c k x t u) n = absurd (n refl)
-finding-within s l last i h instants w (owed x t k) n = absurd (n refl)
-finding-within s l last i h instants {rs = rs} {new = new} w (every e k o) n =
+pub finding-within : (room : ℕ) (s : SheetValue) → SheetLimits s → (last : Option (List ℤ)) (i : Instant) → IsInstant i → (instants : ℕ) {rs new : List Remainder} {said : Answer}
+    → HeldLimits room (s .clocks) instants rs → Finding room s last i rs said new → said ≢ exhausted → HeldLimits room (s .clocks) (suc instants) new
+finding-within room s l last i h instants w (many among a c k) n = absurd (n refl)
+finding-within room s l last i h instants w (one-more among a c k x t u) n = absurd (n refl)
+finding-within room s l last i h instants w (owed x t k) n = absurd (n refl)
+finding-within room s l last i h instants {rs = rs} {new = new} w (every e k o) n =
     record { live = k; owe = o; within = successors-within s (l .clocks-below) (l .values) last i h instants rs new (λ x t. subst T (e .these x) t) (w .within) }

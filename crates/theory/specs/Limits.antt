@@ -46,8 +46,8 @@ unfoldable pub withinLimits : ℕ → ℕ → Remainder → Bool
 withinLimits c held r =
     all (clocksOk c) (r .owed) && all (λ (o : Obligation). dueOk (o .due)) (r .owed) && all (λ (n : ℕ). leb n held) (r .leads)
 
--- ---- those held: live 0 to 32, obligations 0 to 8 each
-pub record HeldLimits (c held : ℕ) (rs : List Remainder) : Type 0 where
-  pub live : length rs ≤ 32
+-- ---- those held: live 0 to `room`, obligations 0 to 8 each
+pub record HeldLimits (room c held : ℕ) (rs : List Remainder) : Type 0 where
+  pub live : length rs ≤ room
   pub owe : T (not (any overfull rs))
   pub within : T (all (withinLimits c held) rs)

@@ -4,7 +4,7 @@ use mathlib.Core.Bool.{Bool, true, false}
 use mathlib.Core.List.{List, [], _∷_, _++_, List·Memᴰ}
 use mathlib.Core.Logic.{_↔_, _≢_, _⊎_}
 use mathlib.Core.Path.{_≡_}
-use Prim.Native.Nat.{ℕ}
+use Prim.Native.Nat.{ℕ, suc}
 use lib.Dec.{T}
 use lib.ListN.{length}
 use Rattle.records.specs.declared.instant.Tick.{Tick}
@@ -79,21 +79,16 @@ pub record Owing (s : SheetValue) (run : List Instant) (n : ℕ) : Type 0 where
 
 -- ---- the answer, the first that applies
 
--- more than 32 distinct remainders, or one with more than 8 obligations
-abbrev pub TooMany : SheetValue → List Instant → Type 0
-TooMany s run = Leaves s run 33 ⊎ Owing s run 9
-
--- some beginning of the run, the whole included, has too many
-pub record Exhausts (s : SheetValue) (run : List Instant) : Type 0 where
+-- some beginning of the run, the whole included, has more distinct remainders than there is room for, or one with more than 8 obligations
+pub record Exhausts (room : ℕ) (s : SheetValue) (run : List Instant) : Type 0 where
   pub beginning : List Instant
   pub rest : List Instant
   pub begins : run ≡ beginning ++ rest
-  pub too-many : TooMany s beginning
+  pub too-many : Leaves s beginning (suc room) ⊎ Owing s beginning 9
 
--- a is the answer for the run; `answer` is, and nothing else: `answer-said` and `said-is`, proofs/Said.antt
-pub record Said (s : SheetValue) (run : List Instant) (a : Answer) : Type 0 where
-  -- exhausted exactly when some beginning has too many
-  pub exhausts : (a ≡ exhausted) ↔ Exhausts s run
+-- what is said of the run with room for so many
+pub record Said (room : ℕ) (s : SheetValue) (run : List Instant) (a : Answer) : Type 0 where
+  pub exhausts : (a ≡ exhausted) ↔ Exhausts room s run
   -- else broken exactly when no filling fits
   pub breaks : a ≢ exhausted → (a ≡ broken) ↔ ((f : List Filled) → Fitting s run f → ⊥)
   -- else holding with the number of distinct remainders, clear exactly when one of them has no obligation

@@ -12,7 +12,7 @@ use Rattle.records.specs.Sheet.{SheetValue, readSheet}
 use Rattle.records.proofs.Lists.{refused-taken}
 use Rattle.tesl.specs.Lists.{count}
 use Rattle.tesl.specs.Run.{Instant}
-use Rattle.tesl.specs.Answer.{Answer, exhausted, broken, holding, remainders, answer}
+use Rattle.tesl.specs.Answer.{Answer, exhausted, broken, holding, remainders, mostLive, answer}
 use Rattle.tesl.specs.Machine.{held, session, LogResult, callsOf, judgeLog}
 use Rattle.theory.proofs.Answers.{few-remainders}
 use Rattle.judge.specs.declared.answer.Answer as code
@@ -71,7 +71,7 @@ module _ (clock : ℕ) (s : SheetValue) (run : List Instant) where
   owing-few = by-answer (answer s run) refl
     where
       some : answer s run ≢ exhausted → count (owesClock clock) (remainders s run) ≤ 32
-      some n = omega (arith, few-remainders s run n, count-few (owesClock clock) (remainders s run))
+      some n = omega (arith, few-remainders mostLive s run n, count-few (owesClock clock) (remainders s run))
 
       by-answer : (a : Answer) → answer s run ≡ a → unlessExhausted a (count (owesClock clock) (remainders s run)) ≤ 32
       by-answer exhausted e = omega arith

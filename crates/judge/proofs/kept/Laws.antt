@@ -23,6 +23,7 @@ use Rattle.tesl.specs.Remainder.{Remainder}
 use Rattle.tesl.specs.Run as tesl
 use Rattle.tesl.proofs.Tests.{and-l, and-r, and-i, ≡→T}
 use Rattle.theory.specs.Limits.{withinLimits}
+use Rattle.tesl.specs.Answer.{mostLive}
 use Rattle.judge.specs.declared.answer.Answer as code
 use Rattle.judge.specs.declared.answer.Reply.the-variants as reply
 use Rattle.judge.specs.declared.remainder.Remainder as arrays
@@ -109,7 +110,7 @@ module _ (s : Sheet) (n : ℕ) (tags : List ℤ) (count : Count) (r : Rows) wher
   pub accepts-rows : (i : Instant) (next : Count) (out : Rows) (said : code.Answer)
       → foundIn (sheetValue s) next out ≡ worked 32 (sheetValue s) (tagsBefore (eqb n 0) tags) (seenOf (s .clocks) (i .ticks)) (i .tags) (foundIn (sheetValue s) count r)
       → SmallIn next 32 (out .marks) → answerOf said ≡ saidBy (foundIn (sheetValue s) next out)
-      → Accepts m i (toldBy m (record { reply = reply.Answered said; count = next; tags = i .tags }) out)
+      → Accepts mostLive m i (toldBy m (record { reply = reply.Answered said; count = next; tags = i .tags }) out)
   accepts-rows i next out said w small q =
       let v = sheetValue s in
       record {

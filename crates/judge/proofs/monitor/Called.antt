@@ -18,6 +18,7 @@ use Rattle.records.proofs.instant.RoundTrip.{read-writes}
 use Rattle.tesl.specs.Run.{Instant}
 use Rattle.tesl.proofs.Tests.{T→≡, ≡→T}
 use Rattle.theory.proofs.Lists.{F→≡}
+use Rattle.tesl.specs.Answer.{mostLive}
 use Rattle.judge.specs.declared.remainder.Remainder as arrays
 use Rattle.judge.specs.declared.monitor.Monitor.{Monitor}
 use Rattle.judge.specs.declared.monitor.Given.{Given}
@@ -79,12 +80,12 @@ module _ (m : Monitor) (bytes : List ℕ) {b : Bool} (l : Limited m b) (e : not 
     can-work k = workable m kept k
 
     pub called : {r : Given} → IsBytes bytes → All (λ (s : arrays.Remainder). length (s .stopped) ≡ 8) (m .held .remainders) → m .instants < 4000
-        → Accepts m (x .instant) r → Observed m bytes r
+        → Accepts mostLive m (x .instant) r → Observed m bytes r
     unfolding observes within
     called {r} u stops k a =
         let w = read-writes (m .sheet .clocks) bytes u (was-read .is) in
         let n = F→≡ (leb 4000 (m .instants)) (not-T (leb 4000 (m .instants)) (λ t. let f = leb→le 4000 (m .instants) t in omega arith)) in
         called-taken m bytes r (rw (inside, was-read .is, n))
         (accepted m kept (≡→T (both (sheetWithin (sheetBy m)) inside .0)) k (was-read .cells) (w .value) (w .size) r
-        (subst (λ (v : _). Accepts m v r) (ap (λ (y : InstantRead). y .instant) h ∙ was-read .struct) a)
+        (subst (λ (v : _). Accepts mostLive m v r) (ap (λ (y : InstantRead). y .instant) h ∙ was-read .struct) a)
         (held-shaped (sheetBy m) (kept .sheet .clocks-most) (m .held .count) (m .held .remainders) stops (kept .fits)))

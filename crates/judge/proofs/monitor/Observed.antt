@@ -21,7 +21,7 @@ use Rattle.records.specs.Types.{All, IsInstant}
 use Rattle.tesl.specs.Lists.{all}
 use Rattle.tesl.specs.Run.{Instant, ticksOf, tagsOf}
 use Rattle.tesl.specs.Remainder.{Remainder, sameRemainder}
-use Rattle.tesl.specs.Answer.{exhausted, judged, answer}
+use Rattle.tesl.specs.Answer.{exhausted, judged, answer, mostLive}
 use Rattle.theory.specs.Sets.{Covers}
 use Rattle.theory.specs.Held.{successors}
 use Rattle.theory.specs.Limits.{SheetLimits, withinLimits}
@@ -41,49 +41,51 @@ use Rattle.judge.proofs.monitor.Limits.{Limits, within-limits}
 
 -- ---- what the work makes of those held, found or not
 
--- of those held before and after: nothing is asked once exhausted
-Works : SheetValue → Option (List ℤ) → Instant → Option (List Remainder) → Option (List Remainder) → Type 0
-Works v last i none after = after ≡ none
-Works v last i (some rs) none = Proper rs → Finding v last i rs exhausted []
-Works v last i (some rs) (some new) = Covers sameRemainder new (successors v last i rs) × (Proper rs → Every v last i rs new)
-
-works : (v : SheetValue) (first : Bool) (was : List ℤ) (i : Instant) → length i ≤ 8 → (h after : Option (List Remainder)) → All (Shaped (v .clocks)) (live h)
-    → worked 32 v (tagsBefore first was) (ticksOf i) (filled 8 (pos 0) (tagsOf i)) h ≡ after → Works v (cond first none (some (take (v .clocks) was))) i h after
-unfolding worked Works
-works v first was i size none after s e = sym e
-works v first was i size (some rs) none s e = λ p. worked-none v first was i size rs s p e
-works v first was i size (some rs) (some new) s e = (worked-among v first was i size rs s e, λ p. worked-every v first was i size rs s p e)
-
--- ---- the answer and those held after it
-
 judged-short : (rs : List Remainder) → judged rs ≢ exhausted
 unfolding judged
 judged-short [] e = let z : _≡_ {A = ℕ} 0 1 = cc in omega arith
 judged-short (r ∷ rs) e = let z : _≡_ {A = ℕ} 0 1 = cc in omega arith
 
-proper-after : (v : SheetValue) (last : Option (List ℤ)) (i : Instant) (h after : Option (List Remainder)) → Works v last i h after → Proper (live h) → Proper (live after)
-unfolding Works
-proper-after v last i none after w p = rw w tt
-proper-after v last i (some rs) none w p = tt
-proper-after v last i (some rs) (some new) w p = w .1 p .proper
+-- with room for so many
+module _ (room : ℕ) where
+  -- of those held before and after: nothing is asked once exhausted
+  Works : SheetValue → Option (List ℤ) → Instant → Option (List Remainder) → Option (List Remainder) → Type 0
+  Works v last i none after = after ≡ none
+  Works v last i (some rs) none = Proper rs → Finding room v last i rs exhausted []
+  Works v last i (some rs) (some new) = Covers sameRemainder new (successors v last i rs) × (Proper rs → Every room v last i rs new)
 
-every-found : {v : SheetValue} {last : Option (List ℤ)} {i : Instant} {rs new : List Remainder} → Every v last i rs new → Finding v last i rs (judged new) new
-every-found e = every (e .once) (e .live) (e .owe)
+  works : (v : SheetValue) (first : Bool) (was : List ℤ) (i : Instant) → length i ≤ 8 → (h after : Option (List Remainder)) → All (Shaped (v .clocks)) (live h)
+      → worked room v (tagsBefore first was) (ticksOf i) (filled 8 (pos 0) (tagsOf i)) h ≡ after → Works v (cond first none (some (take (v .clocks) was))) i h after
+  unfolding worked Works
+  works v first was i size none after s e = sym e
+  works v first was i size (some rs) none s e = λ p. worked-none room v first was i size rs s p e
+  works v first was i size (some rs) (some new) s e = (worked-among room v first was i size rs s e, λ p. worked-every room v first was i size rs s p e)
 
-views-after : (v : SheetValue) → SheetLimits v → (last : Option (List ℤ)) (i : Instant) → IsInstant i → (n : ℕ) (h after : Option (List Remainder)) → Works v last i h after
-    → T (all (withinLimits (v .clocks) n) (live h)) → T (all (withinLimits (v .clocks) (suc n)) (live after))
-unfolding Works
-views-after v l last i value n none after w b = rw w tt
-views-after v l last i value n (some rs) none w b = tt
-views-after v l last i value n (some rs) (some new) w b = successors-within v (l .clocks-below) (l .values) last i value n rs new (w .0) b
+  -- ---- the answer and those held after it
 
-tracks-after : (v : SheetValue) → SheetLimits v → (run : List Instant) (n : ℕ) (last : Option (List ℤ)) (i : Instant) (h after : Option (List Remainder)) → Works v last i h after → Proper (live h)
-    → Tracks v run (record { instants = n; last = last; said = saidBy h; live = live h })
-    → Tracks v (run ++ (i ∷ [])) (record { instants = suc n; last = some (tagsOf i); said = saidBy after; live = live after })
-unfolding Works
-tracks-after v l run n last i none after w p t = rw w (tracks-exhausted v run i _ t [] refl)
-tracks-after v l run n last i (some rs) none w p t = tracks-next v run i _ t (l .clocks-below) (judged-short rs) (w p)
-tracks-after v l run n last i (some rs) (some new) w p t = tracks-next v run i _ t (l .clocks-below) (judged-short rs) (every-found (w .1 p))
+  proper-after : (v : SheetValue) (last : Option (List ℤ)) (i : Instant) (h after : Option (List Remainder)) → Works v last i h after → Proper (live h) → Proper (live after)
+  unfolding Works
+  proper-after v last i none after w p = rw w tt
+  proper-after v last i (some rs) none w p = tt
+  proper-after v last i (some rs) (some new) w p = w .1 p .proper
+
+  every-found : {v : SheetValue} {last : Option (List ℤ)} {i : Instant} {rs new : List Remainder} → Every room v last i rs new → Finding room v last i rs (judged new) new
+  every-found e = every (e .once) (e .live) (e .owe)
+
+  views-after : (v : SheetValue) → SheetLimits v → (last : Option (List ℤ)) (i : Instant) → IsInstant i → (n : ℕ) (h after : Option (List Remainder)) → Works v last i h after
+      → T (all (withinLimits (v .clocks) n) (live h)) → T (all (withinLimits (v .clocks) (suc n)) (live after))
+  unfolding Works
+  views-after v l last i value n none after w b = rw w tt
+  views-after v l last i value n (some rs) none w b = tt
+  views-after v l last i value n (some rs) (some new) w b = successors-within v (l .clocks-below) (l .values) last i value n rs new (w .0) b
+
+  tracks-after : (v : SheetValue) → SheetLimits v → (run : List Instant) (n : ℕ) (last : Option (List ℤ)) (i : Instant) (h after : Option (List Remainder)) → Works v last i h after → Proper (live h)
+      → Tracks room v run (record { instants = n; last = last; said = saidBy h; live = live h })
+      → Tracks room v (run ++ (i ∷ [])) (record { instants = suc n; last = some (tagsOf i); said = saidBy after; live = live after })
+  unfolding Works
+  tracks-after v l run n last i none after w p t = rw w (tracks-exhausted room v run i _ t [] refl)
+  tracks-after v l run n last i (some rs) none w p t = tracks-next room v run i _ t (l .clocks-below) (judged-short rs) (w p)
+  tracks-after v l run n last i (some rs) (some new) w p t = tracks-next room v run i _ t (l .clocks-below) (judged-short rs) (every-found (w .1 p))
 
 -- ---- the instant that was read
 
@@ -95,10 +97,10 @@ seen-of c i e =
 -- ---- the monitor after it
 
 module _ (m : Monitor) (l : Limits m) (sheet : T (sheetWithin (sheetBy m))) (room : m .instants < 4000)
-    (i : Instant) (value : IsInstant i) (size : length i ≡ m .sheet .clocks) (r : Given) (a : Accepts m (instantOf i) r)
+    (i : Instant) (value : IsInstant i) (size : length i ≡ m .sheet .clocks) (r : Given) (a : Accepts mostLive m (instantOf i) r)
     (shaped : All (Shaped (m .sheet .clocks)) (live (heldBy m))) where
-  found : Works (sheetBy m) (lastBy m) i (heldBy m) (heldBy (r .monitor))
-  found = works (sheetBy m) (eqb (m .instants) 0) (m .tags) i (let c = l .sheet .clocks-most in omega arith) (heldBy m) (heldBy (r .monitor)) shaped
+  found : Works mostLive (sheetBy m) (lastBy m) i (heldBy m) (heldBy (r .monitor))
+  found = works mostLive (sheetBy m) (eqb (m .instants) 0) (m .tags) i (let c = l .sheet .clocks-most in omega arith) (heldBy m) (heldBy (r .monitor)) shaped
       (rw (← seen-of (m .sheet .clocks) i size) (sym (a .held)))
 
   same-sheet : sheetBy (r .monitor) ≡ sheetBy m
@@ -108,14 +110,14 @@ module _ (m : Monitor) (l : Limits m) (sheet : T (sheetWithin (sheetBy m))) (roo
   limits-after = within-limits (r .monitor) (rw (a .sheet) sheet) (let n = a .instants in omega arith) (a .fits)
       (subst (λ (s : Sheet). T (all (withinLimits (s .clocks) (r .monitor .instants)) (live (heldBy (r .monitor))))) (sym (a .sheet))
       (subst (λ (n : ℕ). T (all (withinLimits (m .sheet .clocks) n) (live (heldBy (r .monitor))))) (sym (a .instants))
-      (views-after (sheetBy m) (l .sheet) (lastBy m) i value (m .instants) (heldBy m) (heldBy (r .monitor)) found (l .views))))
+      (views-after mostLive (sheetBy m) (l .sheet) (lastBy m) i value (m .instants) (heldBy m) (heldBy (r .monitor)) found (l .views))))
 
   last-after : lastBy (r .monitor) ≡ some (tagsOf i)
   last-after = rw (a .sheet, a .instants, a .tags, eqb·suc-zero (m .instants)) (ap some (places-in-use (λ (c : Cell). c .tag) (pos 0) (m .sheet .clocks) i size))
 
   follows-after : (run : List Instant) → Follows (sheetBy m) run m → Follows (sheetBy m) (run ++ (i ∷ [])) (r .monitor)
   follows-after run f =
-      let t = tracks-after (sheetBy m) (l .sheet) run (m .instants) (lastBy m) i (heldBy m) (heldBy (r .monitor)) found (f .owed)
+      let t = tracks-after mostLive (sheetBy m) (l .sheet) run (m .instants) (lastBy m) i (heldBy m) (heldBy (r .monitor)) found (f .owed)
       (record { instants = f .instants; last = f .last; said = f .said; live = f .held }) in
       record {
         sheet = same-sheet;
@@ -123,7 +125,7 @@ module _ (m : Monitor) (l : Limits m) (sheet : T (sheetWithin (sheetBy m))) (roo
         last = last-after ∙ t .last;
         said = t .said;
         held = t .live;
-        owed = proper-after (sheetBy m) (lastBy m) i (heldBy m) (heldBy (r .monitor)) found (f .owed);
+        owed = proper-after mostLive (sheetBy m) (lastBy m) i (heldBy m) (heldBy (r .monitor)) found (f .owed);
         limits = limits-after;
       }
 

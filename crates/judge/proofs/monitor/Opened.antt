@@ -19,7 +19,7 @@ use Rattle.records.proofs.sheet.RoundTrip.{read-writes, sheetOf-value}
 use Rattle.tesl.specs.Lists.{all, any, flatMap, table}
 use Rattle.tesl.specs.Fits.{Obligation, owedAtStart, unmet}
 use Rattle.tesl.specs.Remainder.{Remainder, leadOf, stops, remainder, sameObligation, sameRemainder}
-use Rattle.tesl.specs.Answer.{answer}
+use Rattle.tesl.specs.Answer.{answer, mostLive}
 use Rattle.tesl.proofs.Tests.{and-i}
 use Rattle.theory.specs.Sets.{apart, SameSet}
 use Rattle.theory.specs.Step.{nextLeads}
@@ -134,7 +134,7 @@ module _ (b : List ℕ) (bytes : IsBytes b) (s : SheetValue) (e : readSheet b �
         (sheetOf-value s) (begins .held) (first s l .owed) (first s l .found)
 
     said : saidBy (heldBy m) ≡ answer s []
-    said = rw holds (sym (opening-answer s l (held s l) (held-same s l)))
+    said = rw holds (sym (opening-answer mostLive (omega arith) s l (held s l) (held-same s l)))
 
     sheet-within : T (sheetWithin (sheetBy m))
     unfolding sheetWithin

@@ -34,28 +34,28 @@ pub record Shaped (c : ℕ) (r : Remainder) : Type 0 where
 abbrev pub Proper : List Remainder → Type 0
 Proper rs = All Once rs
 
-pub record Every (v : SheetValue) (last : Option (List ℤ)) (i : Instant) (rs new : List Remainder) : Type 0 where
+pub record Every (room : ℕ) (v : SheetValue) (last : Option (List ℤ)) (i : Instant) (rs new : List Remainder) : Type 0 where
   pub once : EachOnce sameRemainder new (successors v last i rs)
-  pub live : length new ≤ 32
+  pub live : length new ≤ room
   pub owe : T (not (any overfull new))
   pub proper : Proper new
 
-module _ (v : SheetValue) (first : Bool) (was : List ℤ) (i : Instant) (size : length i ≤ 8) (rs : List Remainder) (shaped : All (Shaped (v .clocks)) rs) where
-  gathered : {q : Option (List Remainder)} → worked 32 v (tagsBefore first was) (ticksOf i) (filled 8 (pos 0) (tagsOf i)) (some rs) ≡ q
-      → Gathering v (lastIn v first was) i rs (reached v (lastIn v first was) rs (fillings i)) q
+module _ (room : ℕ) (v : SheetValue) (first : Bool) (was : List ℤ) (i : Instant) (size : length i ≤ 8) (rs : List Remainder) (shaped : All (Shaped (v .clocks)) rs) where
+  gathered : {q : Option (List Remainder)} → worked room v (tagsBefore first was) (ticksOf i) (filled 8 (pos 0) (tagsOf i)) (some rs) ≡ q
+      → Gathering room v (lastIn v first was) i rs (reached v (lastIn v first was) rs (fillings i)) q
   gathered e =
-      subst (Gathering v (lastIn v first was) i rs (reached v (lastIn v first was) rs (fillings i))) e
-      (worked-gathers v first was i size rs (λ r m. let h = of-each (Shaped (v .clocks)) shaped m in (h .clocks, h .owed)))
+      subst (Gathering room v (lastIn v first was) i rs (reached v (lastIn v first was) rs (fillings i))) e
+      (worked-gathers room v first was i size rs (λ r m. let h = of-each (Shaped (v .clocks)) shaped m in (h .clocks, h .owed)))
 
   -- whether a run has rs or not
-  pub worked-among : {new : List Remainder} → worked 32 v (tagsBefore first was) (ticksOf i) (filled 8 (pos 0) (tagsOf i)) (some rs) ≡ some new
+  pub worked-among : {new : List Remainder} → worked room v (tagsBefore first was) (ticksOf i) (filled 8 (pos 0) (tagsOf i)) (some rs) ≡ some new
       → Covers sameRemainder new (successors v (lastIn v first was) i rs)
   worked-among e = gathered e .among
 
-  pub worked-every : {new : List Remainder} → Proper rs → worked 32 v (tagsBefore first was) (ticksOf i) (filled 8 (pos 0) (tagsOf i)) (some rs) ≡ some new
-      → Every v (lastIn v first was) i rs new
+  pub worked-every : {new : List Remainder} → Proper rs → worked room v (tagsBefore first was) (ticksOf i) (filled 8 (pos 0) (tagsOf i)) (some rs) ≡ some new
+      → Every room v (lastIn v first was) i rs new
   worked-every {new} p e =
-      let g : Gathered v (lastIn v first was) i rs (reached v (lastIn v first was) rs (fillings i)) new = gathered e in
+      let g : Gathered room v (lastIn v first was) i rs (reached v (lastIn v first was) rs (fillings i)) new = gathered e in
       record {
         once = record { each-once = g .once p .each-once; these = λ x. g .once p .these x ∙ reached-are v (lastIn v first was) i rs x };
         live = g .live;
@@ -63,6 +63,6 @@ module _ (v : SheetValue) (first : Bool) (was : List ℤ) (i : Instant) (size : 
         proper = g .tidy p;
       }
 
-  pub worked-none : {new : List Remainder} → Proper rs → worked 32 v (tagsBefore first was) (ticksOf i) (filled 8 (pos 0) (tagsOf i)) (some rs) ≡ none
-      → Finding v (lastIn v first was) i rs exhausted new
+  pub worked-none : {new : List Remainder} → Proper rs → worked room v (tagsBefore first was) (ticksOf i) (filled 8 (pos 0) (tagsOf i)) (some rs) ≡ none
+      → Finding room v (lastIn v first was) i rs exhausted new
   worked-none {new} p e = gathered e p new

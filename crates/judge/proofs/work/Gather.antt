@@ -3,7 +3,7 @@ use mathlib.Core.Bool.{Bool, true, false, not, cond}
 use mathlib.Core.List.{List, [], _∷_, _++_, append-nil, append-assoc, List·Memᴰ}
 use mathlib.Core.Option.{Option, none, some}
 use mathlib.Core.Path.{_≡_, sym, subst}
-use Prim.Native.Nat.{_≤_}
+use Prim.Native.Nat.{_≤_, ℕ}
 use native.Mathlib.Omega.{arith}
 use lib.Dec.{T, T-not, not-T, ltb, ltb→lt, nltb→le}
 use lib.IntN.{ℤ}
@@ -32,18 +32,18 @@ use Rattle.judge.proofs.work.Advance.{Steps, broken, too-many, goes}
 
 -- ---- those found
 
-module _ (v : SheetValue) (last : Option (List ℤ)) (i : Instant) (rs : List Remainder) where
+module _ (room : ℕ) (v : SheetValue) (last : Option (List ℤ)) (i : Instant) (rs : List Remainder) where
   -- xs are successors; and the reached ones, where each of rs has an obligation once
   pub record Gathered (reached xs : List Remainder) : Type 0 where
     pub among : Covers sameRemainder xs (successors v last i rs)
-    pub live : length xs ≤ 32
+    pub live : length xs ≤ room
     pub owe : T (not (any overfull xs))
     pub tidy : All Once rs → All Once xs
     pub once : All Once rs → EachOnce sameRemainder xs reached
 
   -- or there is a reason to answer exhausted
   abbrev pub Gathering : List Remainder → Option (List Remainder) → Type 0
-  Gathering reached none = All Once rs → (new : List Remainder) → Finding v last i rs exhausted new
+  Gathering reached none = All Once rs → (new : List Remainder) → Finding room v last i rs exhausted new
   Gathering reached (some xs) = Gathered reached xs
 
   -- ---- one remainder by one filling
@@ -59,16 +59,16 @@ module _ (v : SheetValue) (last : Option (List ℤ)) (i : Instant) (rs : List Re
         (c z) (λ u. any-same sameRemainder remainder-equivalence z x (successors v last i rs) u g)
 
     gather-insert : (reached : List Remainder) (found : Option (List Remainder)) (x : Remainder) → T (stepOk v last f r) → T (sameRemainder x (next v f r))
-        → T (not (overfull x)) → (Once r → Once x) → Gathering reached found → Gathering (reached ++ (next v f r ∷ [])) (inserted 32 found x)
+        → T (not (overfull x)) → (Once r → Once x) → Gathering reached found → Gathering (reached ++ (next v f r ∷ [])) (inserted room found x)
     unfolding inserted
     gather-insert reached none x ok s w o h = h
-    gather-insert reached (some xs) x ok s w o h = by-tests (any (sameCounted x) xs) (ltb (length xs) 32) (λ t. t) (λ t. t) (λ t. t) (λ t. t)
+    gather-insert reached (some xs) x ok s w o h = by-tests (any (sameCounted x) xs) (ltb (length xs) room) (λ t. t) (λ t. t) (λ t. t) (λ t. t)
       where
         same : All Once rs → any (sameCounted x) xs ≡ any (sameRemainder x) xs
         same p = any-counted x xs (o (of-each Once p m)) (h .tidy p)
 
-        by-tests : (a b : Bool) → (T a → T (any (sameCounted x) xs)) → (T (not a) → T (not (any (sameCounted x) xs))) → (T b → T (ltb (length xs) 32))
-            → (T (not b) → T (not (ltb (length xs) 32))) → Gathering (reached ++ (next v f r ∷ [])) (cond a (some xs) (cond b (some (xs ++ (x ∷ []))) none))
+        by-tests : (a b : Bool) → (T a → T (any (sameCounted x) xs)) → (T (not a) → T (not (any (sameCounted x) xs))) → (T b → T (ltb (length xs) room))
+            → (T (not b) → T (not (ltb (length xs) room))) → Gathering (reached ++ (next v f r ∷ [])) (cond a (some xs) (cond b (some (xs ++ (x ∷ []))) none))
         by-tests true b t n l g = record {
           among = h .among;
           live = h .live;
@@ -78,16 +78,16 @@ module _ (v : SheetValue) (last : Option (List ℤ)) (i : Instant) (rs : List Re
         }
         by-tests false true t n l g = record {
           among = among-more xs x (goes-on x ok s) (h .among);
-          live = let lt = ltb→lt (length xs) 32 (l tt) in omega (arith, length-append xs (x ∷ []));
+          live = let lt = ltb→lt (length xs) room (l tt) in omega (arith, length-append xs (x ∷ []));
           owe = not-T (any overfull (xs ++ (x ∷ []))) (λ u. or-e (any overfull xs) (overfull x) (subst T (any-snoc overfull xs x) u) (T-not (any overfull xs) (h .owe)) (T-not (overfull x) w));
           tidy = λ p. each-snoc Once xs (h .tidy p) (o (of-each Once p m));
           once = λ p. fresh sameRemainder remainder-equivalence (h .once p) x (next v f r) s (subst (λ (b : Bool). T (not b)) (same p) (n tt));
         }
-        by-tests false false t n l g = λ p new. one-more xs (h .once p .each-once) (h .among) (nltb→le (length xs) 32 (g tt)) x (goes-on x ok s)
+        by-tests false false t n l g = λ p new. one-more xs (h .once p .each-once) (h .among) (nltb→le (length xs) room (g tt)) x (goes-on x ok s)
             (subst (λ (b : Bool). T (not b)) (same p) (n tt))
 
     pub gather-one : (reached : List Remainder) (found : Option (List Remainder)) {ok : Bool} {a : Advanced} → (T ok → T (stepOk v last f r)) → Steps v f r ok a
-        → Gathering reached found → Gathering (reached ++ cond ok (next v f r ∷ []) []) (took 32 found a)
+        → Gathering reached found → Gathering (reached ++ cond ok (next v f r ∷ []) []) (took room found a)
     gather-one reached found ok broken h = subst (λ (l : List Remainder). Gathering l found) (sym (append-nil reached)) h
     gather-one reached found ok (too-many k) h = λ p new. owed (next v f r) (successor-found v last i m n (ok tt)) (k (of-each Once p m))
     gather-one reached found ok (goes {x = x} s w o) h = gather-insert reached found x (ok tt) s w o h

@@ -93,7 +93,7 @@ settled-fold room v f begun (r ∷ rs) found = settled-fold room v f begun rs (t
 
 -- ---- the work on an instant
 
-module _ (v : SheetValue) (first : Bool) (was : List ℤ) (i : Instant) where
+module _ (room : ℕ) (v : SheetValue) (first : Bool) (was : List ℤ) (i : Instant) where
   abbrev last : Option (List ℤ)
   last = lastIn v first was
 
@@ -111,35 +111,35 @@ module _ (v : SheetValue) (first : Bool) (was : List ℤ) (i : Instant) where
 
   module _ (rs : List Remainder) (shaped : (r : Remainder) → List·Memᴰ r rs → (length (r .stopped) ≡ v .clocks) × (length (r .owed) ≤ 8)) where
     abbrev Work : List Remainder → Option (List Remainder) → Type 0
-    Work = Gathering v last i rs
+    Work = Gathering room v last i rs
 
     nothing-yet : Work [] (some [])
     nothing-yet = record { among = λ x t. absurd t; live = omega arith; owe = tt; tidy = λ p. tt; once = λ p. record { each-once = tt; these = λ x. refl } }
 
     settle-one : tagsFit v (tagsBefore first was) tags ≡ true → (done : List Remainder) (found : Option (List Remainder)) (f : Filled) → List·Memᴰ f (fillings i) → Work done found
-        → Work (done ++ flatMap (one v last f) rs) (filling 32 v tags rs found (padded f .ticks))
+        → Work (done ++ flatMap (one v last f) rs) (filling room v tags rs found (padded f .ticks))
     unfolding filling
     settle-one fit done found f m h =
-        subst (λ (t : List ℤ). Work (done ++ flatMap (one v last f) rs) (filling 32 v (filled 8 (pos 0) t) rs found (padded f .ticks))) (filling-tags i m)
+        subst (λ (t : List ℤ). Work (done ++ flatMap (one v last f) rs) (filling room v (filled 8 (pos 0) t) rs found (padded f .ticks))) (filling-tags i m)
         (by-test (all (ticksHold (padded f .ticks)) (v .lines)) refl)
       where
         begun : List Obligation
         begun = flatMap (owedFrom (padded f)) (v .lines)
 
         by-test : (b : Bool) → all (ticksHold (padded f .ticks)) (v .lines) ≡ b
-            → Work (done ++ flatMap (one v last f) rs) (cond b (settledAll 32 v (padded f) begun rs found) found)
+            → Work (done ++ flatMap (one v last f) rs) (cond b (settledAll room v (padded f) begun rs found) found)
         by-test true e =
-            subst (Work (done ++ flatMap (one v last f) rs)) (sym (settled-fold 32 v (padded f) begun rs found))
-            (gather-fold v last i rs (λ q r. took 32 q (advanced v (padded f) begun r)) (one v last f) (λ (r : Remainder). List·Memᴰ r rs)
-            (λ done found r n k. gather-one v last i rs n m done found (λ t. t) (steps v f r (shaped r n .0) (shaped r n .1) (step-by m fit e r)) k)
+            subst (Work (done ++ flatMap (one v last f) rs)) (sym (settled-fold room v (padded f) begun rs found))
+            (gather-fold room v last i rs (λ q r. took room q (advanced v (padded f) begun r)) (one v last f) (λ (r : Remainder). List·Memᴰ r rs)
+            (λ done found r n k. gather-one room v last i rs n m done found (λ t. t) (steps v f r (shaped r n .0) (shaped r n .1) (step-by m fit e r)) k)
             done found rs (each-of (λ (r : Remainder). List·Memᴰ r rs) rs (λ r n. n)) h)
         by-test false e = subst (λ (l : List Remainder). Work l found) (sym (ap (λ (l : List Remainder). done ++ l) (none-reached v last f rs (step-by m fit e)) ∙ append-nil done)) h
 
     by-fit : length i ≤ 8 → (b : Bool) → tagsFit v (tagsBefore first was) tags ≡ b
-        → Work (reached v last rs (fillings i)) (cond b (fillFrom (filling 32 v tags rs) 0 (ticksOf i) (replicate 8 false) (some [])) (some []))
+        → Work (reached v last rs (fillings i)) (cond b (fillFrom (filling room v tags rs) 0 (ticksOf i) (replicate 8 false) (some [])) (some []))
     by-fit size true e =
-        subst (Work (reached v last rs (fillings i))) (sym (fill-is (filling 32 v tags rs) i size (some [])))
-        (gather-fold v last i rs (λ q f. filling 32 v tags rs q (padded f .ticks)) (λ (f : Filled). flatMap (one v last f) rs) (λ (f : Filled). List·Memᴰ f (fillings i))
+        subst (Work (reached v last rs (fillings i))) (sym (fill-is (filling room v tags rs) i size (some [])))
+        (gather-fold room v last i rs (λ q f. filling room v tags rs q (padded f .ticks)) (λ (f : Filled). flatMap (one v last f) rs) (λ (f : Filled). List·Memᴰ f (fillings i))
         (settle-one e) [] (some []) (fillings i) (each-of (λ (f : Filled). List·Memᴰ f (fillings i)) (fillings i) (λ f m. m)) nothing-yet)
     by-fit size false e =
         subst (λ (l : List Remainder). Work l (some []))
@@ -147,9 +147,9 @@ module _ (v : SheetValue) (first : Bool) (was : List ℤ) (i : Instant) where
         (each-of (λ (f : Filled). flatMap (one v last f) rs ≡ []) (fillings i) (λ f m. none-reached v last f rs (step-by m e refl))))) nothing-yet
 
   pub worked-gathers : length i ≤ 8 → (rs : List Remainder) → ((r : Remainder) → List·Memᴰ r rs → (length (r .stopped) ≡ v .clocks) × (length (r .owed) ≤ 8))
-      → Gathering v last i rs (reached v last rs (fillings i)) (worked 32 v (tagsBefore first was) (ticksOf i) tags (some rs))
+      → Gathering room v last i rs (reached v last rs (fillings i)) (worked room v (tagsBefore first was) (ticksOf i) tags (some rs))
   unfolding worked
   worked-gathers size [] shaped =
-      subst (λ (l : List Remainder). Gathering v last i [] l (some []))
+      subst (λ (l : List Remainder). Gathering room v last i [] l (some []))
       (sym (flatMap-none (λ (f : Filled). []) (fillings i) (each-of (λ (f : Filled). [] ≡ []) (fillings i) (λ f m. refl)))) (nothing-yet [] shaped)
   worked-gathers size (r ∷ rs) shaped = by-fit (r ∷ rs) shaped size (tagsFit v (tagsBefore first was) tags) refl
