@@ -65,7 +65,7 @@ abbrev pub entry : Answer → List ℕ
 entry a = answerCode a ∷ liveCode a ∷ clearCode a ∷ []
 
 unfoldable pub entries : List ℕ → List ℕ → List ℕ
-entries sheet log = flatMap entry (answersTaken (session sheet (callsOf log) .replies))
+entries sheet log = flatMap entry (answersTaken (session readSheet sheet (callsOf log) .replies))
 
 -- the result, and the whole buffer afterwards
 pub record Watched : Type 0 where

@@ -4,10 +4,10 @@ use mathlib.Core.Option.{Option}
 use mathlib.Core.Path.{_≡_, refl, sym, ap, _∙_, subst}
 use Prim.Native.Nat.{ℕ}
 use Rattle.records.specs.Outcome.{Outcome, taken, refused}
-use Rattle.records.specs.Sheet.{SheetValue, readSheet}
+use Rattle.records.specs.Sheet.{SheetValue}
 use Rattle.tesl.specs.Run.{Instant}
 use Rattle.tesl.specs.Answer.{Answer, mostLive, answer}
-use Rattle.tesl.specs.Machine.{accepts, Session}
+use Rattle.tesl.specs.Machine.{accepts, Session, Reader}
 use Rattle.theory.specs.Session.{Ran, Opening, refuses, opens, Observing, FollowsMachine, EachAnswer}
 use Rattle.theory.specs.Session as machine
 use Rattle.theory.specs.Said.{Said}
@@ -23,10 +23,10 @@ use Rattle.judge.specs.Demands.{openedOf, Opens, Observes, Demand3, Dema
 
 -- ---- opening
 
-opening-follows : (sheet : List ℕ) (outcome : Outcome (machine.Opened Monitor)) → Opens sheet outcome → Opening Follows sheet outcome
-opening-follows sheet outcome (r, h, e) = subst (Opening Follows sheet) e (by-read (readSheet sheet) refl)
+opening-follows : (read : Reader) (sheet : List ℕ) (outcome : Outcome (machine.Opened Monitor)) → Opens read sheet outcome → Opening read Follows sheet outcome
+opening-follows read sheet outcome (r, h, e) = subst (Opening read Follows sheet) e (by-read (read sheet) refl)
   where
-    by-read : (o : Outcome SheetValue) → readSheet sheet ≡ o → Opening Follows sheet (openedOf (replyOf (r .reply)) (r .monitor))
+    by-read : (o : Outcome SheetValue) → read sheet ≡ o → Opening read Follows sheet (openedOf (replyOf (r .reply)) (r .monitor))
     by-read (refused n) f = rw (h .refuses n f) (refuses f)
     by-read (taken s) f = rw (h .opens s f .0) (opens f refl (h .opens s f .1))
 
@@ -52,21 +52,22 @@ observing-follows s run m after bytes given f (r, h, e, k) = by-outcome (accepts
         let g = h .accepts i (same-call s run m bytes f ∙ q) .follows s run f in
         record { same = rw q (sym e ∙ g .0); follows = rw q (subst (Follows s _) k (g .1)) }
 
-laws : FollowsMachine Opens Observes Follows
-laws = record { opening = opening-follows; observing = observing-follows }
+laws : (read : Reader) → FollowsMachine read (Opens read) Observes Follows
+laws read = record { opening = opening-follows read; observing = observing-follows }
 
-pub demand3 : Demand3
-demand3 sheet calls answered last ran = same-session Opens Observes Follows laws ran
+pub demand3 : (read : Reader) → Demand3 read
+demand3 read sheet calls answered last ran = same-session read (Opens read) Observes Follows (laws read) ran
 
 -- ---- each answer is the machine's, so what holds of the machine's answers holds of it
 
-every-answer : (P : SheetValue → List Instant → Answer → Type 0) → ((s : SheetValue) (run : List Instant) → P s run (answer s run))
-    → {sheet : List ℕ} {calls : List (List ℕ)} {answered : Session} {last : Option Monitor} → Ran Opens Observes sheet calls answered last → EachAnswer P sheet calls answered
-every-answer P holds {sheet} {calls} {answered} {last} ran =
-    subst (EachAnswer P sheet calls) (sym (demand3 sheet calls answered last ran .same)) (each-answer P holds sheet calls)
+every-answer : (read : Reader) (P : SheetValue → List Instant → Answer → Type 0) → ((s : SheetValue) (run : List Instant) → P s run (answer s run))
+    → {sheet : List ℕ} {calls : List (List ℕ)} {answered : Session} {last : Option Monitor}
+    → Ran (Opens read) Observes sheet calls answered last → EachAnswer P read sheet calls answered
+every-answer read P holds {sheet} {calls} {answered} {last} ran =
+    subst (EachAnswer P read sheet calls) (sym (demand3 read sheet calls answered last ran .same)) (each-answer P holds read sheet calls)
 
-pub demand3-said : Demand3Said
-demand3-said sheet calls answered last ran = every-answer (Said mostLive) (answer-said mostLive) ran
+pub demand3-said : (read : Reader) → Demand3Said read
+demand3-said read sheet calls answered last ran = every-answer read (Said mostLive) (answer-said mostLive) ran
 
-pub demand2 : Demand2
-demand2 sheet calls answered last ran = every-answer SeenJudged (seen-judged mostLive) ran
+pub demand2 : (read : Reader) → Demand2 read
+demand2 read sheet calls answered last ran = every-answer read SeenJudged (seen-judged mostLive) ran

@@ -7,14 +7,14 @@ use Prim.Native.Nat.{ℕ}
 use lib.Dec.{T}
 use lib.ListN.{length}
 use Rattle.records.specs.Outcome.{Outcome, taken, refused}
-use Rattle.records.specs.Sheet.{SheetValue, readSheet}
+use Rattle.records.specs.Sheet.{SheetValue}
 use Rattle.records.specs.Instant.{readInstant}
 use Rattle.records.specs.Types.{All}
 use Rattle.tesl.specs.Lists.{lastOf}
 use Rattle.tesl.specs.Run.{Instant, tagsOf}
 use Rattle.tesl.specs.Remainder.{Remainder, sameObligation, sameRemainder}
 use Rattle.tesl.specs.Answer.{Answer, exhausted, remainders, answer}
-use Rattle.tesl.specs.Machine.{unlessFull}
+use Rattle.tesl.specs.Machine.{unlessFull, Reader}
 use Rattle.theory.specs.Sets.{apart, EachOnce}
 use Rattle.judge.specs.declared.monitor.Monitor.{Monitor}
 use Rattle.judge.specs.declared.monitor.Given.{Given}
@@ -36,10 +36,10 @@ pub record Follows (s : SheetValue) (run : List Instant) (m : Monitor) : Type 0 
 
 -- ---- opening
 
--- refused: the sheet's number and no monitor; else the answer for no instant, and a monitor that follows the sheet
-pub record Opened (bytes : List ℕ) (r : Given) : Type 0 where
-  pub refuses : (n : ℕ) → readSheet bytes ≡ refused n → r ≡ refusal n noMonitor
-  pub opens : (s : SheetValue) → readSheet bytes ≡ taken s → (replyOf (r .reply) ≡ taken (answer s [])) × Follows s [] (r .monitor)
+-- by what the sheet's bytes are read as: refused, the number and no monitor; else the answer for no instant, and a monitor that follows the sheet
+pub record Opened (read : Reader) (bytes : List ℕ) (r : Given) : Type 0 where
+  pub refuses : (n : ℕ) → read bytes ≡ refused n → r ≡ refusal n noMonitor
+  pub opens : (s : SheetValue) → read bytes ≡ taken s → (replyOf (r .reply) ≡ taken (answer s [])) × Follows s [] (r .monitor)
 
 -- ---- observing
 

@@ -16,6 +16,7 @@ use records::sheet::Sheet;
 use records::sheet::read_sheet;
 ghost use mathlib.Core.Path.{_≡_};
 ghost use Prim.Native.Nat.{_≤_};
+ghost use Rattle.records.specs.Sheet.{readSheet};
 ghost use Rattle.judge.specs.Limits.{within};
 ghost use Rattle.judge.specs.Monitor.{Begins, blankMonitor, refusal};
 ghost use Rattle.judge.specs.Promises.{Opened, Observed};
@@ -75,7 +76,7 @@ fn blank_monitor(sheet: Sheet) -> Monitor
 
 // Opens a sheet: its number and no monitor, or the answer for no instant and the monitor.
 pub fn open(bytes: &[u8]) -> Given
-    ensures { λ r. ⌜ Opened (now (bytes .entry)) r ⌝ }
+    ensures { λ r. ⌜ Opened readSheet (now (bytes .entry)) r ⌝ }
 {
     let read = read_sheet(bytes);
     let sheet = read.sheet;

@@ -131,14 +131,14 @@ pub record Examples : Type 0 where
   L10 : (answer (delay 100) five ≡ holding 32 clear) × (answer (delay 100) (five ++ (alone Unseen 6 ∷ [])) ≡ exhausted)
   -- the listing, from its bytes: what opening answers, and each instant
   L11 :
-      session lift instants
+      session readSheet lift instants
       ≡ record {
         opening = taken (holding 1 clear);
         replies = taken (holding 1 owed) ∷ taken (holding 2 owed) ∷ taken (holding 2 clear) ∷ taken (holding 1 clear) ∷ taken broken ∷ [];
       }
   -- refused calls among them change nothing and get their numbers: no bytes, kind 31, tick byte 3
   calls :
-      session lift (first ∷ [] ∷ otherKind ∷ tickThree ∷ second ∷ [])
+      session readSheet lift (first ∷ [] ∷ otherKind ∷ tickThree ∷ second ∷ [])
       ≡ record {
         opening = taken (holding 1 clear);
         replies = taken (holding 1 owed) ∷ refused 12 ∷ refused 13 ∷ refused 15 ∷ taken (holding 2 owed) ∷ [];

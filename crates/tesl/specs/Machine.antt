@@ -52,8 +52,12 @@ abbrev pub opened : List (List ℕ) → Outcome SheetValue → Session
 opened calls (taken s) = record { opening = taken (answer s []); replies = machine s [] calls }
 opened calls (refused n) = record { opening = refused n; replies = [] }
 
-unfoldable pub session : List ℕ → List (List ℕ) → Session
-session sheet calls = opened calls (readSheet sheet)
+-- how a sheet's bytes are read
+abbrev pub Reader : Type 0
+Reader = List ℕ → Outcome SheetValue
+
+unfoldable pub session : Reader → List ℕ → List (List ℕ) → Session
+session read sheet calls = opened calls (read sheet)
 
 -- ---- the whole log
 
@@ -77,4 +81,4 @@ abbrev pub callsOf : List ℕ → List (List ℕ)
 callsOf log = map callOf (pieces log)
 
 unfoldable pub judgeLog : List ℕ → List ℕ → LogResult
-judgeLog sheet log = let s = session sheet (callsOf log) in concluded (s .opening) 0 (s .replies)
+judgeLog sheet log = let s = session readSheet sheet (callsOf log) in concluded (s .opening) 0 (s .replies)

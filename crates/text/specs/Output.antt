@@ -25,7 +25,7 @@ watchOf (taken a) replies = linesFrom answerLine 1 replies
 watchOf (refused n) replies = refusalLine n
 
 unfoldable pub watchText : List ℕ → List ℕ → List ℕ
-watchText sheet log = let s = session sheet (callsOf log) in watchOf (s .opening) (s .replies)
+watchText sheet log = let s = session readSheet sheet (callsOf log) in watchOf (s .opening) (s .replies)
 
 -- ---- *columns*: a line per tag, instants in order and clocks from 0; refusals as in *watch*
 

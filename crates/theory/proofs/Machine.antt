@@ -6,16 +6,16 @@ use mathlib.Core.Path.{_≡_, refl, sym, ap, _∙_, subst}
 use Prim.Native.Nat.{ℕ}
 use native.Mathlib.Omega.{arith}
 use Rattle.records.specs.Outcome.{Outcome, taken, refused}
-use Rattle.records.specs.Sheet.{SheetValue, readSheet}
+use Rattle.records.specs.Sheet.{SheetValue}
 use Rattle.records.proofs.Lists.{refused-taken}
 use Rattle.tesl.specs.Run.{Instant}
 use Rattle.tesl.specs.Answer.{Answer, answer}
 use Rattle.tesl.specs.Machine as tesl
-use Rattle.tesl.specs.Machine.{accepts, listAfter, reply, machine, held, Session, session}
+use Rattle.tesl.specs.Machine.{accepts, listAfter, reply, machine, held, Session, Reader, session}
 use Rattle.theory.specs.Session.{Opened, Calls, no-call, call, Ran, not-opened, opened, Opening, refuses, opens, FollowsMachine, SameSession, lastAnswer, ReplyTo, EachReply, Answered, EachAnswer}
 
-module _ {M : Type 0} (Opens : List ℕ → Outcome (Opened M) → Type 0) (Observes : M → List ℕ → Outcome Answer → M → Type 0)
-    (Follows : SheetValue → List Instant → M → Type 0) (laws : FollowsMachine Opens Observes Follows) where
+module _ {M : Type 0} (read : Reader) (Opens : List ℕ → Outcome (Opened M) → Type 0) (Observes : M → List ℕ → Outcome Answer → M → Type 0)
+    (Follows : SheetValue → List Instant → M → Type 0) (laws : FollowsMachine read Opens Observes Follows) where
   same-replies : (s : SheetValue) (run : List Instant) {m last : M} {calls : List (List ℕ)} {replies : List (Outcome Answer)}
       → Follows s run m → Calls Observes m calls replies last → (replies ≡ machine s run calls) × Follows s (held s run calls) last
   unfolding machine held
@@ -26,15 +26,15 @@ module _ {M : Type 0} (Opens : List ℕ → Outcome (Opened M) → Type 0) (Obse
       (λ i. k .same i ∷ r .0 i, r .1)
 
   pub same-session : {sheet : List ℕ} {calls : List (List ℕ)} {answered : Session} {last : Option M}
-      → Ran Opens Observes sheet calls answered last → SameSession Follows sheet calls answered last
+      → Ran Opens Observes sheet calls answered last → SameSession read Follows sheet calls answered last
   unfolding session
   same-session {sheet = sheet} {calls = calls} (not-opened {n = n} o) = by-opening (laws .opening sheet (refused n) o)
     where
-      by-opening : Opening Follows sheet (refused n) → SameSession Follows sheet calls (record { opening = refused n; replies = [] }) none
+      by-opening : Opening read Follows sheet (refused n) → SameSession read Follows sheet calls (record { opening = refused n; replies = [] }) none
       by-opening (refuses e) = record { same = rw e; follows = λ s f. let z : _≡_ {A = ℕ} 0 1 = cc in absurd (omega arith) }
   same-session {sheet = sheet} {calls = calls} (opened {o = o} {replies = replies} {last = last} p cs) = by-opening (laws .opening sheet (taken o) p)
     where
-      by-opening : Opening Follows sheet (taken o) → SameSession Follows sheet calls (record { opening = taken (o .said); replies = replies }) (some last)
+      by-opening : Opening read Follows sheet (taken o) → SameSession read Follows sheet calls (record { opening = taken (o .said); replies = replies }) (some last)
       by-opening (opens {s = s} e a h) =
           let r = same-replies s [] h cs in
           record {
@@ -65,11 +65,11 @@ module _ (P : SheetValue → List Instant → Answer → Type 0) (holds : (s : S
       one (refused n) = refl
       one (taken i) = (answer s (run ++ (i ∷ [])), refl, holds s (run ++ (i ∷ [])))
 
-  pub each-answer : (sheet : List ℕ) (calls : List (List ℕ)) → EachAnswer P sheet calls (session sheet calls)
+  pub each-answer : (read : Reader) (sheet : List ℕ) (calls : List (List ℕ)) → EachAnswer P read sheet calls (session read sheet calls)
   unfolding session
-  each-answer sheet calls = by-read (readSheet sheet) refl
+  each-answer read sheet calls = by-read (read sheet) refl
     where
-      by-read : (o : Outcome SheetValue) → readSheet sheet ≡ o → EachAnswer P sheet calls (tesl.opened calls o)
+      by-read : (o : Outcome SheetValue) → read sheet ≡ o → EachAnswer P read sheet calls (tesl.opened calls o)
       by-read (refused n) e = record { refuses = λ m f. let q : n ≡ m = cc in ap (λ (k : ℕ). record { opening = refused k; replies = [] }) q; reads = λ s f. refused-taken (sym e ∙ f) }
       by-read (taken s) e = record {
         refuses = λ m f. refused-taken (sym f ∙ e);

@@ -4,10 +4,10 @@ use mathlib.Core.Option.{Option, none, some}
 use mathlib.Core.Path.{_≡_}
 use Prim.Native.Nat.{ℕ}
 use Rattle.records.specs.Outcome.{Outcome, taken, refused}
-use Rattle.records.specs.Sheet.{SheetValue, readSheet}
+use Rattle.records.specs.Sheet.{SheetValue}
 use Rattle.tesl.specs.Run.{Instant}
 use Rattle.tesl.specs.Answer.{Answer, answer}
-use Rattle.tesl.specs.Machine.{Session, session, accepts, listAfter, reply, held}
+use Rattle.tesl.specs.Machine.{Session, Reader, session, accepts, listAfter, reply, held}
 
 -- what opening gives unless it refuses: an answer and a monitor
 pub record Opened (M : Type 0) : Type 0 where
@@ -29,28 +29,29 @@ pub data Ran {M : Type 0} (Opens : List ℕ → Outcome (Opened M) → Type 0) (
   opened : {sheet : List ℕ} {calls : List (List ℕ)} {o : Opened M} {replies : List (Outcome Answer)} {last : M}
       → Opens sheet (taken o) → Calls Observes (o .monitor) calls replies last → Ran Opens Observes sheet calls (record { opening = taken (o .said); replies = replies }) (some last)
 
--- ---- single calls and the whole run; `Follows s run m`: m is a monitor of the sheet s after the instants run
+-- ---- single calls and the whole run, whatever reads a sheet's bytes; `Follows s run m`: m is a monitor of the sheet s after the instants run
 
-module _ {M : Type 0} (Follows : SheetValue → List Instant → M → Type 0) where
+-- a call from a monitor that follows s and run: the machine's reply, and a monitor that follows the machine's list after it
+pub record Observing {M : Type 0} (Follows : SheetValue → List Instant → M → Type 0) (s : SheetValue) (run : List Instant) (bytes : List ℕ) (given : Outcome Answer) (m′ : M)
+    : Type 0 where
+  pub same : given ≡ reply s run (accepts s run bytes)
+  pub follows : Follows s (listAfter run (accepts s run bytes)) m′
+
+module _ {M : Type 0} (read : Reader) (Follows : SheetValue → List Instant → M → Type 0) where
   -- opening: the machine's number, or its answer and a monitor that follows the sheet with no instant
   pub data Opening (sheet : List ℕ) : Outcome (Opened M) → Type 0 where
-    refuses : {n : ℕ} → readSheet sheet ≡ refused n → Opening sheet (refused n)
-    opens : {s : SheetValue} {o : Opened M} → readSheet sheet ≡ taken s → o .said ≡ answer s [] → Follows s [] (o .monitor) → Opening sheet (taken o)
-
-  -- a call from a monitor that follows s and run: the machine's reply, and a monitor that follows the machine's list after it
-  pub record Observing (s : SheetValue) (run : List Instant) (bytes : List ℕ) (given : Outcome Answer) (m′ : M) : Type 0 where
-    pub same : given ≡ reply s run (accepts s run bytes)
-    pub follows : Follows s (listAfter run (accepts s run bytes)) m′
+    refuses : {n : ℕ} → read sheet ≡ refused n → Opening sheet (refused n)
+    opens : {s : SheetValue} {o : Opened M} → read sheet ≡ taken s → o .said ≡ answer s [] → Follows s [] (o .monitor) → Opening sheet (taken o)
 
   -- the whole run: what was answered is the machine's session; where the sheet is read, there is a last monitor and it follows the machine's list
   pub record SameSession (sheet : List ℕ) (calls : List (List ℕ)) (answered : Session) (last : Option M) : Type 0 where
-    pub same : answered ≡ session sheet calls
-    pub follows : (s : SheetValue) → readSheet sheet ≡ taken s → (m : M) × (last ≡ some m) × Follows s (held s [] calls) m
+    pub same : answered ≡ session read sheet calls
+    pub follows : (s : SheetValue) → read sheet ≡ taken s → (m : M) × (last ≡ some m) × Follows s (held s [] calls) m
 
 -- each single call follows the machine
-pub record FollowsMachine {M : Type 0} (Opens : List ℕ → Outcome (Opened M) → Type 0) (Observes : M → List ℕ → Outcome Answer → M → Type 0)
+pub record FollowsMachine {M : Type 0} (read : Reader) (Opens : List ℕ → Outcome (Opened M) → Type 0) (Observes : M → List ℕ → Outcome Answer → M → Type 0)
     (Follows : SheetValue → List Instant → M → Type 0) : Type 0 where
-  pub opening : (sheet : List ℕ) (outcome : Outcome (Opened M)) → Opens sheet outcome → Opening Follows sheet outcome
+  pub opening : (sheet : List ℕ) (outcome : Outcome (Opened M)) → Opens sheet outcome → Opening read Follows sheet outcome
   pub observing : (s : SheetValue) (run : List Instant) (m m′ : M) (bytes : List ℕ) (given : Outcome Answer)
       → Follows s run m → Observes m bytes given m′ → Observing Follows s run bytes given m′
 
@@ -84,6 +85,6 @@ module _ (P : SheetValue → List Instant → Answer → Type 0) where
     pub last : P s (held s [] calls) (lastAnswer first (answered .replies))
 
   -- the sheet is refused: its number, and nothing is called
-  pub record EachAnswer (sheet : List ℕ) (calls : List (List ℕ)) (answered : Session) : Type 0 where
-    pub refuses : (n : ℕ) → readSheet sheet ≡ refused n → answered ≡ record { opening = refused n; replies = [] }
-    pub reads : (s : SheetValue) → readSheet sheet ≡ taken s → Answered s calls answered
+  pub record EachAnswer (read : Reader) (sheet : List ℕ) (calls : List (List ℕ)) (answered : Session) : Type 0 where
+    pub refuses : (n : ℕ) → read sheet ≡ refused n → answered ≡ record { opening = refused n; replies = [] }
+    pub reads : (s : SheetValue) → read sheet ≡ taken s → Answered s calls answered

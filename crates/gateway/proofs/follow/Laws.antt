@@ -45,7 +45,7 @@ module _ {log : List ℕ} {m₀ m : Monitor} {r₀ last : Reply} {n at : ℕ} {s
 
 -- ---- the opening
 
-module _ (sheet log : List ℕ) (g : Given) (h : Opened sheet g) where
+module _ (sheet log : List ℕ) (g : Given) (h : Opened readSheet sheet g) where
   pub log-refused : {n : ℕ} → g .reply ≡ reply.Refused n → FollowsLog sheet log (record { reply = g .reply; instants = 0; monitor = g .monitor })
   log-refused e = record { judged = judged-refused sheet log g h e; follows = λ s f a q. refused-taken (sym (ap replyOf e) ∙ q) }
 

@@ -91,7 +91,7 @@ module _ {log out₀ out : List ℕ} {m₀ m : Monitor} {r₀ last : Reply} {n a
 
 -- ---- the exported call
 
-module _ (sheet log out : List ℕ) (g : Given) (h : Opened sheet g) where
+module _ (sheet log out : List ℕ) (g : Given) (h : Opened readSheet sheet g) where
   pub watched-refused : {n : ℕ} (result : ℕ) → g .reply ≡ reply.Refused n
       → result ≡ judgedCode (record { outcome = replyOf (g .reply); instants = 0 }) → watchedAs result out ≡ watched sheet log out
   unfolding watched entries session

@@ -127,7 +127,7 @@ module _ {log : List ℕ} {m₀ m : Monitor} {r₀ last : Reply} {n at : ℕ} (w
 
 -- ---- the opening
 
-module _ (sheet log : List ℕ) (g : Given) (h : Opened sheet g) where
+module _ (sheet log : List ℕ) (g : Given) (h : Opened readSheet sheet g) where
   pub judged-refused : {n : ℕ} → g .reply ≡ reply.Refused n → judgedOf (record { reply = g .reply; instants = 0 }) ≡ judgeLog sheet log
   unfolding judgeLog session
   judged-refused e = by-read (readSheet sheet) refl

@@ -178,19 +178,19 @@ module _ (b : List ℕ) (x : SheetRead) (e : x ≡ sheetRead (readSheet b)) wher
       by-outcome (taken s) h = rw (e, h) (read-limits b bytes h .lines-most)
       by-outcome (refused n) h = rw (e, h) (omega arith)
 
-  pub opened-refused : {n : ℕ} → x .answer ≡ told.Refused n → (r : Given) → r ≡ refusal n (blankMonitor (x .sheet)) → Opened b r
+  pub opened-refused : {n : ℕ} → x .answer ≡ told.Refused n → (r : Given) → r ≡ refusal n (blankMonitor (x .sheet)) → Opened readSheet b r
   unfolding noMonitor
   opened-refused {n} a r q = by-outcome (readSheet b) refl (ap (λ (y : SheetRead). y .answer) (sym e) ∙ a) (q ∙ ap (λ (y : SheetRead). refusal n (blankMonitor (y .sheet))) e)
     where
-      by-outcome : (o : Outcome SheetValue) → readSheet b ≡ o → sheetRead o .answer ≡ told.Refused n → r ≡ refusal n (blankMonitor (sheetRead o .sheet)) → Opened b r
+      by-outcome : (o : Outcome SheetValue) → readSheet b ≡ o → sheetRead o .answer ≡ told.Refused n → r ≡ refusal n (blankMonitor (sheetRead o .sheet)) → Opened readSheet b r
       by-outcome (taken s) h a g = refused-done (sym a)
       by-outcome (refused k) h a g = record { refuses = λ j f. let z : n ≡ j = cc in rw (← z) g; opens = λ s f. refused-taken (sym h ∙ f) }
 
   module _ (m : Monitor) (begins : Begins (x .sheet) m) where
-    pub opened-done : IsBytes b → x .answer ≡ told.Done → (y : code.Answer) → answerOf y ≡ saidBy (heldBy m) → Opened b (record { reply = reply.Answered y; monitor = m })
+    pub opened-done : IsBytes b → x .answer ≡ told.Done → (y : code.Answer) → answerOf y ≡ saidBy (heldBy m) → Opened readSheet b (record { reply = reply.Answered y; monitor = m })
     opened-done bytes a y w = by-outcome (readSheet b) refl (ap (λ (z : SheetRead). z .answer) (sym e) ∙ a) (subst (λ (z : SheetRead). Begins (z .sheet) m) e begins)
       where
-        by-outcome : (o : Outcome SheetValue) → readSheet b ≡ o → sheetRead o .answer ≡ told.Done → Begins (sheetRead o .sheet) m → Opened b (record { reply = reply.Answered y; monitor = m })
+        by-outcome : (o : Outcome SheetValue) → readSheet b ≡ o → sheetRead o .answer ≡ told.Done → Begins (sheetRead o .sheet) m → Opened readSheet b (record { reply = reply.Answered y; monitor = m })
         by-outcome (refused n) h a g = refused-done a
         by-outcome (taken s) h a g = record {
           refuses = λ n f. refused-taken (sym f ∙ h);

@@ -96,7 +96,7 @@ module _ {log out₀ out : List ℕ} {m₀ m : Monitor} {end at : ℕ} (w : Tell
 
 -- ---- the opening
 
-module _ (sheet log : List ℕ) (g : Given) (h : Opened sheet g) where
+module _ (sheet log : List ℕ) (g : Given) (h : Opened readSheet sheet g) where
   pub text-refused : {n : ℕ} → g .reply ≡ reply.Refused n → watchText sheet log ≡ refusalLine n
   unfolding watchText session
   text-refused {n} e = by-read (readSheet sheet) refl
