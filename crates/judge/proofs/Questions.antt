@@ -47,14 +47,7 @@ module _ (ticks : List Bool) (tags : List ℤ) where
   lines-ok (l ∷ ls) (n ∷ leads) = one-more l n (all (tagsHold tags) ls) (all (ticksHold ticks) ls) (linesOk (carriedHolds ticks) ls leads) (lines-ok ls leads)
 
 pub lead-after : (ticks : List Bool) (tags : List ℤ) (l : Line) (lead : ℕ) → nextLead (filledOf ticks tags) l lead ≡ leadAfter ticks l lead
-lead-after ticks tags (Weakly A B) lead = refl
-lead-after ticks tags (Strictly A B) lead = refl
-lead-after ticks tags (Sporadic A B t) lead = refl
-lead-after ticks tags (Relation A B p q) lead = refl
-lead-after ticks tags (Implies A B) lead = refl
-lead-after ticks tags (Excludes A B) lead = refl
-lead-after ticks tags (Delayed A B D d) lead = refl
-lead-after ticks tags (Kills A B) lead = refl
+lead-after ticks tags l lead = refl
 
 -- ---- clock k is stopped after the instant: before it, or by the line at it
 

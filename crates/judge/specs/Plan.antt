@@ -10,7 +10,7 @@ use Rattle.records.specs.declared.line.Line.the-variants.{Sporadic, Relation, I
 use Rattle.records.specs.declared.sheet.Sheet.{Sheet}
 use Rattle.records.specs.Lists.{listed}
 use Rattle.records.specs.Word.{tagOf}
-use Rattle.records.specs.Line.{blankLine}
+use Rattle.records.specs.Line.{blankLine, ofRelation, ofDelayed}
 use Rattle.records.specs.Sheet.{sheetValue}
 use Rattle.tesl.specs.Lists.{filter, flatMap}
 use Rattle.judge.specs.declared.plan.Plan.{Plan}
@@ -22,14 +22,7 @@ use Rattle.judge.specs.Heed.{namedBy, flagged}
 -- ---- the parts of a sheet
 
 abbrev pub isRelation : Line → Bool
-isRelation (Relation A B p q) = true
-isRelation (Sporadic A B t) = false
-isRelation (Implies A B) = false
-isRelation (Excludes A B) = false
-isRelation (Delayed A B D d) = false
-isRelation (Weakly A B) = false
-isRelation (Strictly A B) = false
-isRelation (Kills A B) = false
+isRelation l = ofRelation false (λ A B p q. true) l
 
 -- implies, excludes and kills: what they ask of the ticks of an instant is asked once per filling
 abbrev pub isRule : Line → Bool
@@ -43,14 +36,7 @@ isRule (Weakly A B) = false
 isRule (Strictly A B) = false
 
 abbrev pub isDelay : Line → Bool
-isDelay (Delayed A B D d) = true
-isDelay (Sporadic A B t) = false
-isDelay (Relation A B p q) = false
-isDelay (Implies A B) = false
-isDelay (Excludes A B) = false
-isDelay (Weakly A B) = false
-isDelay (Strictly A B) = false
-isDelay (Kills A B) = false
+isDelay l = ofDelayed false (λ A B D d. true) l
 
 abbrev pub belongs : Part → Line → Bool
 belongs All l = true

@@ -8,6 +8,7 @@ use lib.IntN.{ℤ, _+ℤ_, _*ℤ_}
 use lib.ListN.{getD, set}
 use Rattle.records.specs.declared.line.Line.{Line}
 use Rattle.records.specs.declared.line.Line.the-variants.{Sporadic, Relation, Implies, Excludes, Delayed, Weakly, Strictly, Kills}
+use Rattle.records.specs.Line.{ofRelation, ofEachPrecedes, ofKills}
 use Rattle.tesl.specs.Run.{tagIn}
 use Rattle.tesl.specs.Fits.{eqZ}
 use Rattle.theory.specs.Step.{bit, nextLead}
@@ -19,15 +20,9 @@ tickIn ticks k = getD ticks k false
 
 -- ---- what a line asks
 
+-- a relation is all that is asked of the tags
 abbrev pub tagsHold : List ℤ → Line → Bool
-tagsHold tags (Relation A B p q) = eqZ (tagIn tags A) (p *ℤ tagIn tags B +ℤ q)
-tagsHold tags (Sporadic A B t) = true
-tagsHold tags (Implies A B) = true
-tagsHold tags (Excludes A B) = true
-tagsHold tags (Delayed A B D d) = true
-tagsHold tags (Weakly A B) = true
-tagsHold tags (Strictly A B) = true
-tagsHold tags (Kills A B) = true
+tagsHold tags l = ofRelation true (λ A B p q. eqZ (tagIn tags A) (p *ℤ tagIn tags B +ℤ q)) l
 
 -- of a kills line: its A at the same instant
 abbrev pub ticksHold : List Bool → Line → Bool
@@ -40,16 +35,9 @@ ticksHold ticks (Delayed A B D d) = true
 ticksHold ticks (Weakly A B) = true
 ticksHold ticks (Strictly A B) = true
 
--- what a kills line has stopped bars by itself
+-- of a precedes line: its lead; a clock stopped before bars by itself
 abbrev pub carriedHolds : List Bool → Line → ℕ → Bool
-carriedHolds ticks (Weakly A B) lead = leb (bit (tickIn ticks B)) (lead + bit (tickIn ticks A))
-carriedHolds ticks (Strictly A B) lead = leb (bit (tickIn ticks B)) lead
-carriedHolds ticks (Sporadic A B t) lead = true
-carriedHolds ticks (Relation A B p q) lead = true
-carriedHolds ticks (Implies A B) lead = true
-carriedHolds ticks (Excludes A B) lead = true
-carriedHolds ticks (Delayed A B D d) lead = true
-carriedHolds ticks (Kills A B) lead = true
+carriedHolds ticks l lead = ofEachPrecedes true (λ A B. leb (bit (tickIn ticks B)) (lead + bit (tickIn ticks A))) (λ A B. leb (bit (tickIn ticks B)) lead) l
 
 -- ---- what is carried on
 
@@ -59,11 +47,4 @@ leadAfter ticks l lead = nextLead (filledOf ticks []) l lead
 
 -- a clock past the end changes nothing
 abbrev pub stoppedAfter : List Bool → Line → List Bool → List Bool
-stoppedAfter ticks (Kills A B) stopped = cond (tickIn ticks A) (set stopped B true) stopped
-stoppedAfter ticks (Sporadic A B t) stopped = stopped
-stoppedAfter ticks (Relation A B p q) stopped = stopped
-stoppedAfter ticks (Implies A B) stopped = stopped
-stoppedAfter ticks (Excludes A B) stopped = stopped
-stoppedAfter ticks (Delayed A B D d) stopped = stopped
-stoppedAfter ticks (Weakly A B) stopped = stopped
-stoppedAfter ticks (Strictly A B) stopped = stopped
+stoppedAfter ticks l stopped = ofKills stopped (λ A B. cond (tickIn ticks A) (set stopped B true) stopped) l

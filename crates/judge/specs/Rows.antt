@@ -8,9 +8,8 @@ use lib.Dec.{ltb}
 use lib.IntN.{ℤ, pos}
 use lib.ListN.{length, getD}
 use Rattle.records.specs.declared.line.Line.{Line}
-use Rattle.records.specs.declared.line.Line.the-variants.{Sporadic, Relation, Implies, Excludes, Delayed, Weakly, Strictly, Kills}
 use Rattle.records.specs.Lists.{listed}
-use Rattle.records.specs.Line.{blankLine}
+use Rattle.records.specs.Line.{blankLine, ofPrecedes}
 use Rattle.records.specs.Sheet.{SheetValue}
 use Rattle.tesl.specs.Fits.{Obligation}
 use Rattle.tesl.specs.Remainder.{Remainder}
@@ -91,14 +90,7 @@ provided there x = cond there (some x) none
 
 -- ---- precedes lines
 abbrev pub isPrecedes : Line → Bool
-isPrecedes (Weakly A B) = true
-isPrecedes (Strictly A B) = true
-isPrecedes (Sporadic A B t) = false
-isPrecedes (Relation A B p q) = false
-isPrecedes (Implies A B) = false
-isPrecedes (Excludes A B) = false
-isPrecedes (Delayed A B D d) = false
-isPrecedes (Kills A B) = false
+isPrecedes l = ofPrecedes false (λ A B. true) l
 
 -- the precedes lines of a sheet stand before place `reach`, where `precede` has a flag
 abbrev pub Leading : SheetValue → ℕ → List Bool → Type 0

@@ -7,7 +7,7 @@ use lib.Dec.{leb}
 use lib.IntN.{ℤ}
 use lib.ListN.{take}
 use Rattle.records.specs.declared.line.Line.{Line}
-use Rattle.records.specs.declared.line.Line.the-variants.{Sporadic, Relation, Implies, Excludes, Delayed, Weakly, Strictly, Kills}
+use Rattle.records.specs.Line.{ofPrecedes}
 use Rattle.records.specs.declared.instant.Tick.{Tick}
 use Rattle.records.specs.declared.instant.TickSlot.{TickSlot}
 use Rattle.records.specs.Sheet.{SheetValue}
@@ -62,14 +62,7 @@ addedOf s = cond (s .over) none (some (owedIn (s .owed)))
 
 -- a lead in use: a precedes line's; any other line has none, and reads 0
 abbrev pub inUse : Line → ℕ → ℕ
-inUse (Weakly A B) lead = lead
-inUse (Strictly A B) lead = lead
-inUse (Sporadic A B t) lead = 0
-inUse (Relation A B p q) lead = 0
-inUse (Implies A B) lead = 0
-inUse (Excludes A B) lead = 0
-inUse (Delayed A B D d) lead = 0
-inUse (Kills A B) lead = 0
+inUse l lead = ofPrecedes 0 (λ A B. lead) l
 
 -- of the sheet's lines the leads in use, and its clocks
 abbrev pub cut : SheetValue → Remainder → Remainder

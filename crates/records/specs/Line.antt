@@ -3,7 +3,7 @@ use Prim.Native.Nat.{ℕ, suc}
 use mathlib.Core.Bool.{Bool, true, not, cond, _&&_}
 use mathlib.Core.List.{List, [], _∷_, _++_}
 use lib.ListN.{length, take}
-use lib.IntN.{pos}
+use lib.IntN.{ℤ, pos}
 use lib.Dec.{leb, ltb, eqb}
 use Rattle.records.specs.declared.line.Line.{Line}
 use Rattle.records.specs.declared.line.Line.the-variants.{Sporadic, Relation, Implies, Excludes, Delayed, Weakly, Strictly, Kills}
@@ -97,3 +97,59 @@ lineBytes l = recordBytes (kindOf l) (bodyOf l)
 -- what an unused line place holds
 abbrev pub blankLine : Line
 blankLine = Sporadic 0 0 (pos 0)
+
+-- ---- what one kind of line answers, or the two that precede, and `other` for any other kind
+
+abbrev pub ofSporadic : {X : Type 0} → X → (ℕ → ℕ → ℤ → X) → Line → X
+ofSporadic other f (Sporadic A B t) = f A B t
+ofSporadic other f (Relation A B p q) = other
+ofSporadic other f (Implies A B) = other
+ofSporadic other f (Excludes A B) = other
+ofSporadic other f (Delayed A B D d) = other
+ofSporadic other f (Weakly A B) = other
+ofSporadic other f (Strictly A B) = other
+ofSporadic other f (Kills A B) = other
+
+abbrev pub ofRelation : {X : Type 0} → X → (ℕ → ℕ → ℤ → ℤ → X) → Line → X
+ofRelation other f (Sporadic A B t) = other
+ofRelation other f (Relation A B p q) = f A B p q
+ofRelation other f (Implies A B) = other
+ofRelation other f (Excludes A B) = other
+ofRelation other f (Delayed A B D d) = other
+ofRelation other f (Weakly A B) = other
+ofRelation other f (Strictly A B) = other
+ofRelation other f (Kills A B) = other
+
+abbrev pub ofDelayed : {X : Type 0} → X → (ℕ → ℕ → ℕ → ℕ → X) → Line → X
+ofDelayed other f (Sporadic A B t) = other
+ofDelayed other f (Relation A B p q) = other
+ofDelayed other f (Implies A B) = other
+ofDelayed other f (Excludes A B) = other
+ofDelayed other f (Delayed A B D d) = f A B D d
+ofDelayed other f (Weakly A B) = other
+ofDelayed other f (Strictly A B) = other
+ofDelayed other f (Kills A B) = other
+
+-- a weakly line and a strictly line, each by its own
+abbrev pub ofEachPrecedes : {X : Type 0} → X → (ℕ → ℕ → X) → (ℕ → ℕ → X) → Line → X
+ofEachPrecedes other weakly strictly (Sporadic A B t) = other
+ofEachPrecedes other weakly strictly (Relation A B p q) = other
+ofEachPrecedes other weakly strictly (Implies A B) = other
+ofEachPrecedes other weakly strictly (Excludes A B) = other
+ofEachPrecedes other weakly strictly (Delayed A B D d) = other
+ofEachPrecedes other weakly strictly (Weakly A B) = weakly A B
+ofEachPrecedes other weakly strictly (Strictly A B) = strictly A B
+ofEachPrecedes other weakly strictly (Kills A B) = other
+
+abbrev pub ofPrecedes : {X : Type 0} → X → (ℕ → ℕ → X) → Line → X
+ofPrecedes other f l = ofEachPrecedes other f f l
+
+abbrev pub ofKills : {X : Type 0} → X → (ℕ → ℕ → X) → Line → X
+ofKills other f (Sporadic A B t) = other
+ofKills other f (Relation A B p q) = other
+ofKills other f (Implies A B) = other
+ofKills other f (Excludes A B) = other
+ofKills other f (Delayed A B D d) = other
+ofKills other f (Weakly A B) = other
+ofKills other f (Strictly A B) = other
+ofKills other f (Kills A B) = f A B

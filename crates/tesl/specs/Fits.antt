@@ -8,6 +8,7 @@ use lib.IntN.{ℤ, pos, negsuc, _+ℤ_, _*ℤ_}
 use lib.Signed.{leZ}
 use Rattle.records.specs.declared.line.Line.{Line}
 use Rattle.records.specs.declared.line.Line.the-variants.{Sporadic, Relation, Implies, Excludes, Delayed, Weakly, Strictly, Kills}
+use Rattle.records.specs.Line.{ofSporadic, ofDelayed}
 use Rattle.records.specs.Sheet.{SheetValue}
 use Rattle.tesl.specs.Lists.{all, any, filter, count, lastOf, always, flatMap, below}
 use Rattle.tesl.specs.Run.{Filled, ticksAt, tagIn, tagAt}
@@ -62,25 +63,11 @@ meets f o = ticksAt f (o .clock) && eqZ (tagAt f (o .on)) (o .due)
 
 -- a sporadic line is one from the start
 abbrev pub owedAtStart : Line → List Obligation
-owedAtStart (Sporadic A B t) = record { clock = A; due = t; on = B } ∷ []
-owedAtStart (Relation A B p q) = []
-owedAtStart (Implies A B) = []
-owedAtStart (Excludes A B) = []
-owedAtStart (Delayed A B D d) = []
-owedAtStart (Weakly A B) = []
-owedAtStart (Strictly A B) = []
-owedAtStart (Kills A B) = []
+owedAtStart l = ofSporadic [] (λ A B t. record { clock = A; due = t; on = B } ∷ []) l
 
 -- each tick of A of a delay line begins one
 abbrev pub owedFrom : Filled → Line → List Obligation
-owedFrom f (Delayed A B D d) = cond (ticksAt f A) (record { clock = D; due = tagAt f B +ℤ pos d; on = B } ∷ []) []
-owedFrom f (Sporadic A B t) = []
-owedFrom f (Relation A B p q) = []
-owedFrom f (Implies A B) = []
-owedFrom f (Excludes A B) = []
-owedFrom f (Weakly A B) = []
-owedFrom f (Strictly A B) = []
-owedFrom f (Kills A B) = []
+owedFrom f l = ofDelayed [] (λ A B D d. cond (ticksAt f A) (record { clock = D; due = tagAt f B +ℤ pos d; on = B } ∷ []) []) l
 
 -- those that no instant of the run meets
 abbrev pub unmetBy : List Filled → List Obligation → List Obligation

@@ -5,7 +5,7 @@ use Prim.Native.Nat.{ℕ, _-_}
 use lib.Dec.{ltb, eqb}
 use lib.ListN.{length}
 use Rattle.records.specs.declared.line.Line.{Line}
-use Rattle.records.specs.declared.line.Line.the-variants.{Sporadic, Relation, Implies, Excludes, Delayed, Weakly, Strictly, Kills}
+use Rattle.records.specs.Line.{ofPrecedes, ofKills}
 use Rattle.records.specs.Sheet.{SheetValue}
 use Rattle.tesl.specs.Lists.{any, distinct, within, sameList, table}
 use Rattle.tesl.specs.Run.{Filled, ticksAt}
@@ -21,25 +21,11 @@ pub record Remainder : Type 0 where
 
 -- in a fitting run B is never ahead of A, so that this subtraction cuts nothing: `never-ahead`, theory's proofs/Seen.antt
 abbrev pub leadOf : List Filled → Line → ℕ
-leadOf run (Weakly A B) = ticksIn A run - ticksIn B run
-leadOf run (Strictly A B) = ticksIn A run - ticksIn B run
-leadOf run (Sporadic A B t) = 0
-leadOf run (Relation A B p q) = 0
-leadOf run (Implies A B) = 0
-leadOf run (Excludes A B) = 0
-leadOf run (Delayed A B D d) = 0
-leadOf run (Kills A B) = 0
+leadOf run l = ofPrecedes 0 (λ A B. ticksIn A run - ticksIn B run) l
 
 -- the line has stopped clock k: a kills line its B, once its A has ticked
 abbrev pub stops : List Filled → ℕ → Line → Bool
-stops run k (Kills A B) = eqb B k && any (λ (g : Filled). ticksAt g A) run
-stops run k (Sporadic A B t) = false
-stops run k (Relation A B p q) = false
-stops run k (Implies A B) = false
-stops run k (Excludes A B) = false
-stops run k (Delayed A B D d) = false
-stops run k (Weakly A B) = false
-stops run k (Strictly A B) = false
+stops run k l = ofKills false (λ A B. eqb B k && any (λ (g : Filled). ticksAt g A) run) l
 
 unfoldable pub remainder : SheetValue → List Filled → Remainder
 remainder s run = record {

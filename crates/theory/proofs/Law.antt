@@ -7,8 +7,7 @@ use native.Mathlib.Omega.{arith}
 use lib.Dec.{T, leb}
 use lib.ListN.{length}
 use Rattle.records.specs.declared.line.Line.{Line}
-use Rattle.records.specs.declared.line.Line.the-variants.{Sporadic, Relation, Implies, Excludes, Delayed, Weakly, Strictly, Kills}
-use Rattle.records.specs.Line.{isSporadic, kindOf}
+use Rattle.records.specs.Line.{isSporadic, kindOf, ofPrecedes}
 use Rattle.records.specs.Types.{IsTag, IsLineValue}
 use Rattle.tesl.specs.Lists.{all}
 use Rattle.tesl.specs.Run.{Filled, ticksAt, tagAt}
@@ -19,14 +18,7 @@ use Rattle.theory.specs.Limits.{dueOk, clocksOk}
 
 -- a precedes line's B has not ticked more often than its A, so that its lead is a difference
 abbrev pub ordered : List Filled → Line → Bool
-ordered run (Weakly A B) = leb (ticksIn B run) (ticksIn A run)
-ordered run (Strictly A B) = leb (ticksIn B run) (ticksIn A run)
-ordered run (Sporadic A B t) = true
-ordered run (Relation A B p q) = true
-ordered run (Implies A B) = true
-ordered run (Excludes A B) = true
-ordered run (Delayed A B D d) = true
-ordered run (Kills A B) = true
+ordered run l = ofPrecedes true (λ A B. leb (ticksIn B run) (ticksIn A run)) l
 
 -- ---- the line's lead
 pub record Leads (l : Line) : Type 0 where

@@ -8,7 +8,7 @@ use lib.IntN.{ℤ, _+ℤ_, _*ℤ_}
 use lib.ListN.{getD}
 use Rattle.records.specs.declared.line.Line.{Line}
 use Rattle.records.specs.declared.line.Line.the-variants.{Sporadic, Relation, Implies, Excludes, Delayed, Weakly, Strictly, Kills}
-use Rattle.records.specs.Line.{clocksBelow, kindOf, bodyOf}
+use Rattle.records.specs.Line.{clocksBelow, kindOf, bodyOf, ofPrecedes}
 use Rattle.records.specs.Sheet.{SheetValue}
 use Rattle.tesl.specs.Lists.{all, any, filter, flatMap, lastOf, table}
 use Rattle.tesl.specs.Run.{Instant, tagsOf, Filled, ticksAt, tagAt, fillings}
@@ -31,14 +31,7 @@ lineOk f (Sporadic A B t) lead = true
 lineOk f (Delayed A B D d) lead = true
 
 abbrev pub nextLead : Filled → Line → ℕ → ℕ
-nextLead f (Weakly A B) lead = lead + bit (ticksAt f A) - bit (ticksAt f B)
-nextLead f (Strictly A B) lead = lead + bit (ticksAt f A) - bit (ticksAt f B)
-nextLead f (Sporadic A B t) lead = 0
-nextLead f (Relation A B p q) lead = 0
-nextLead f (Implies A B) lead = 0
-nextLead f (Excludes A B) lead = 0
-nextLead f (Delayed A B D d) lead = 0
-nextLead f (Kills A B) lead = 0
+nextLead f l lead = ofPrecedes 0 (λ A B. lead + bit (ticksAt f A) - bit (ticksAt f B)) l
 
 -- ---- some clock is in both
 abbrev pub overlap : List Bool → List Bool → Bool
