@@ -66,7 +66,8 @@ fn flag_line(l: Line, flags: [bool; 8]) -> [bool; 8]
             d: _,
             by: _,
         } => stop(flags, a),
-        _ => flags,
+        Line::Sporadic { .. } => flags,
+        Line::Relation { .. } => flags,
     }
 }
 

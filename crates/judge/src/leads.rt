@@ -18,9 +18,14 @@ fn precedes(l: Line) -> bool
     ensures { λ r. ⌜ r ≡ isPrecedes l ⌝ }
 {
     match l {
-        Line::Weakly { a: _, b: _ } => true,
-        Line::Strictly { a: _, b: _ } => true,
-        _ => false,
+        Line::Weakly { .. } => true,
+        Line::Strictly { .. } => true,
+        Line::Sporadic { .. } => false,
+        Line::Relation { .. } => false,
+        Line::Implies { .. } => false,
+        Line::Excludes { .. } => false,
+        Line::Delayed { .. } => false,
+        Line::Kills { .. } => false,
     }
 }
 
@@ -76,7 +81,12 @@ fn need_of(l: Line, ticks: [bool; 8]) -> u16
             }
         }
         Line::Strictly { a: _, b } => one(ticks_at(ticks, b)),
-        _ => 0,
+        Line::Sporadic { .. } => 0,
+        Line::Relation { .. } => 0,
+        Line::Implies { .. } => 0,
+        Line::Excludes { .. } => 0,
+        Line::Delayed { .. } => 0,
+        Line::Kills { .. } => 0,
     }
 }
 
@@ -86,7 +96,12 @@ fn gain_of(l: Line, ticks: [bool; 8]) -> u16
     match l {
         Line::Weakly { a, b: _ } => one(ticks_at(ticks, a)),
         Line::Strictly { a, b: _ } => one(ticks_at(ticks, a)),
-        _ => 0,
+        Line::Sporadic { .. } => 0,
+        Line::Relation { .. } => 0,
+        Line::Implies { .. } => 0,
+        Line::Excludes { .. } => 0,
+        Line::Delayed { .. } => 0,
+        Line::Kills { .. } => 0,
     }
 }
 
@@ -96,7 +111,12 @@ fn loss_of(l: Line, ticks: [bool; 8]) -> u16
     match l {
         Line::Weakly { a: _, b } => one(ticks_at(ticks, b)),
         Line::Strictly { a: _, b } => one(ticks_at(ticks, b)),
-        _ => 0,
+        Line::Sporadic { .. } => 0,
+        Line::Relation { .. } => 0,
+        Line::Implies { .. } => 0,
+        Line::Excludes { .. } => 0,
+        Line::Delayed { .. } => 0,
+        Line::Kills { .. } => 0,
     }
 }
 

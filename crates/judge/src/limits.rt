@@ -65,9 +65,14 @@ fn lead_within(l: Line, lead: u16, instants: usize) -> bool
     ensures { λ r. ⌜ r ≡ leb (inUse l lead) instants ⌝ }
 {
     match l {
-        Line::Weakly { a: _, b: _ } => (lead as usize) <= instants,
-        Line::Strictly { a: _, b: _ } => (lead as usize) <= instants,
-        _ => true,
+        Line::Weakly { .. } => (lead as usize) <= instants,
+        Line::Strictly { .. } => (lead as usize) <= instants,
+        Line::Sporadic { .. } => true,
+        Line::Relation { .. } => true,
+        Line::Implies { .. } => true,
+        Line::Excludes { .. } => true,
+        Line::Delayed { .. } => true,
+        Line::Kills { .. } => true,
     }
 }
 

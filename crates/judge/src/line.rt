@@ -32,7 +32,13 @@ pub(crate) fn tags_hold(l: Line, tags: [i16; 8]) -> bool
 {
     match l {
         Line::Relation { a, b, p, q } => is_product(tag_at(tags, a), p, tag_at(tags, b), q),
-        _ => true,
+        Line::Sporadic { .. } => true,
+        Line::Implies { .. } => true,
+        Line::Excludes { .. } => true,
+        Line::Delayed { .. } => true,
+        Line::Weakly { .. } => true,
+        Line::Strictly { .. } => true,
+        Line::Kills { .. } => true,
     }
 }
 
@@ -56,7 +62,11 @@ pub(crate) fn ticks_hold(l: Line, ticks: [bool; 8]) -> bool
         Line::Implies { a, b } => implied(ticks_at(ticks, a), ticks_at(ticks, b)),
         Line::Excludes { a, b } => not_both(ticks_at(ticks, a), ticks_at(ticks, b)),
         Line::Kills { a, b } => not_both(ticks_at(ticks, b), ticks_at(ticks, a)),
-        _ => true,
+        Line::Sporadic { .. } => true,
+        Line::Relation { .. } => true,
+        Line::Delayed { .. } => true,
+        Line::Weakly { .. } => true,
+        Line::Strictly { .. } => true,
     }
 }
 
@@ -72,7 +82,13 @@ pub(crate) fn stopped_after(l: Line, ticks: [bool; 8], stopped: [bool; 8]) -> [b
                 stopped
             }
         }
-        _ => stopped,
+        Line::Sporadic { .. } => stopped,
+        Line::Relation { .. } => stopped,
+        Line::Implies { .. } => stopped,
+        Line::Excludes { .. } => stopped,
+        Line::Delayed { .. } => stopped,
+        Line::Weakly { .. } => stopped,
+        Line::Strictly { .. } => stopped,
     }
 }
 
@@ -92,6 +108,12 @@ pub(crate) fn begins(l: Line, ticks: [bool; 8], tags: [i16; 8]) -> Begun
                 Begun::Nothing
             }
         }
-        _ => Begun::Nothing,
+        Line::Sporadic { .. } => Begun::Nothing,
+        Line::Relation { .. } => Begun::Nothing,
+        Line::Implies { .. } => Begun::Nothing,
+        Line::Excludes { .. } => Begun::Nothing,
+        Line::Weakly { .. } => Begun::Nothing,
+        Line::Strictly { .. } => Begun::Nothing,
+        Line::Kills { .. } => Begun::Nothing,
     }
 }

@@ -43,13 +43,14 @@ fn is_relation(l: Line) -> bool
     ensures { λ r. ⌜ r ≡ isRelation l ⌝ }
 {
     match l {
-        Line::Relation {
-            a: _,
-            b: _,
-            p: _,
-            q: _,
-        } => true,
-        _ => false,
+        Line::Relation { .. } => true,
+        Line::Sporadic { .. } => false,
+        Line::Implies { .. } => false,
+        Line::Excludes { .. } => false,
+        Line::Delayed { .. } => false,
+        Line::Weakly { .. } => false,
+        Line::Strictly { .. } => false,
+        Line::Kills { .. } => false,
     }
 }
 
@@ -58,10 +59,14 @@ fn is_rule(l: Line) -> bool
     ensures { λ r. ⌜ r ≡ isRule l ⌝ }
 {
     match l {
-        Line::Implies { a: _, b: _ } => true,
-        Line::Excludes { a: _, b: _ } => true,
-        Line::Kills { a: _, b: _ } => true,
-        _ => false,
+        Line::Implies { .. } => true,
+        Line::Excludes { .. } => true,
+        Line::Kills { .. } => true,
+        Line::Sporadic { .. } => false,
+        Line::Relation { .. } => false,
+        Line::Delayed { .. } => false,
+        Line::Weakly { .. } => false,
+        Line::Strictly { .. } => false,
     }
 }
 
@@ -69,13 +74,14 @@ fn is_delay(l: Line) -> bool
     ensures { λ r. ⌜ r ≡ isDelay l ⌝ }
 {
     match l {
-        Line::Delayed {
-            a: _,
-            b: _,
-            d: _,
-            by: _,
-        } => true,
-        _ => false,
+        Line::Delayed { .. } => true,
+        Line::Sporadic { .. } => false,
+        Line::Relation { .. } => false,
+        Line::Implies { .. } => false,
+        Line::Excludes { .. } => false,
+        Line::Weakly { .. } => false,
+        Line::Strictly { .. } => false,
+        Line::Kills { .. } => false,
     }
 }
 

@@ -50,7 +50,11 @@ fn is_settled(l: Line, k: usize) -> bool
         Line::Implies { a, b } => both_below(a, b, k),
         Line::Excludes { a, b } => both_below(a, b, k),
         Line::Kills { a, b } => both_below(a, b, k),
-        _ => false,
+        Line::Sporadic { .. } => false,
+        Line::Relation { .. } => false,
+        Line::Delayed { .. } => false,
+        Line::Weakly { .. } => false,
+        Line::Strictly { .. } => false,
     }
 }
 

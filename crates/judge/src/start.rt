@@ -31,7 +31,13 @@ fn owed_at_start(l: Line) -> Begun
             on: b,
             due: as_due(t),
         }),
-        _ => Begun::Nothing,
+        Line::Relation { .. } => Begun::Nothing,
+        Line::Implies { .. } => Begun::Nothing,
+        Line::Excludes { .. } => Begun::Nothing,
+        Line::Delayed { .. } => Begun::Nothing,
+        Line::Weakly { .. } => Begun::Nothing,
+        Line::Strictly { .. } => Begun::Nothing,
+        Line::Kills { .. } => Begun::Nothing,
     }
 }
 

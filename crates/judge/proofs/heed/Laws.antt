@@ -6,35 +6,16 @@ use Prim.Native.Nat.{ℕ, zero, suc, _+_, _-_, _<_, _≤_}
 use native.Mathlib.Omega.{arith}
 use lib.ListN.{length, getD, set, take, drop, length-set}
 use lib.Seq.{append-snoc}
-use types.Run.{OneOf, miss}
-use denote.Enum.Declared.{tagOf}
-use Rattle.records.proofs.line.Line.{the-type}
 use Rattle.records.specs.declared.instant.Tick.{Tick}
 use Rattle.records.specs.declared.instant.Tick.the-variants.{Idle, Ticks, Unseen}
 use Rattle.records.specs.declared.instant.TickSlot.{TickSlot}
-use Rattle.records.specs.declared.line.Line.{Line}
-use Rattle.records.specs.declared.line.Line.the-variants.{Sporadic, Relation, Implies, Excludes, Delayed, Weakly, Strictly, Kills}
 use Rattle.records.specs.Instant.{tickSlot, tickAt}
 use Rattle.records.specs.Lists.{listedFrom, listed}
 use Rattle.records.proofs.Lists.{listed-cons, listed-end, neither}
 use Rattle.tesl.specs.Lists.{any, flatMap}
 use Rattle.judge.specs.View.{seenOf}
-use Rattle.judge.specs.Heed.{namedBy, flagged, isUnseen, tickHeeded, heeded}
+use Rattle.judge.specs.Heed.{flagged, isUnseen, tickHeeded, heeded}
 use Rattle.judge.proofs.Places.{first-set, rest-cons, rest-end}
-
--- ---- a line with no arm of its own: sporadic and relation
-abbrev rest-keys : List ℕ
-rest-keys = 0 ∷ 1 ∷ []
-
-pub rest-named : (l : Line) (flags : List Bool) → OneOf rest-keys (tagOf the-type l) → flags ≡ flagged (namedBy l) flags
-rest-named (Sporadic A B t) flags h = refl
-rest-named (Relation A B p q) flags h = refl
-rest-named (Implies A B) flags h = absurd (miss rest-keys 2 tt h)
-rest-named (Excludes A B) flags h = absurd (miss rest-keys 3 tt h)
-rest-named (Delayed A B D d) flags h = absurd (miss rest-keys 4 tt h)
-rest-named (Weakly A B) flags h = absurd (miss rest-keys 5 tt h)
-rest-named (Strictly A B) flags h = absurd (miss rest-keys 6 tt h)
-rest-named (Kills A B) flags h = absurd (miss rest-keys 7 tt h)
 
 -- ---- the flags of the clocks at i and after: place by place, and those that each place names
 module _ (at : ℕ → ℕ) (n i : ℕ) (flags : List Bool) where

@@ -2,33 +2,22 @@
 use mathlib.Core.Bool.{Bool, true, false}
 use mathlib.Core.List.{List}
 use mathlib.Core.Path.{_≡_, refl, _∙_}
-use Prim.Native.Nat.{ℕ, _+_, _<_}
+use Prim.Native.Nat.{ℕ, _+_, _≤_, _<_}
 use native.Mathlib.Omega.{arith}
 use lib.Dec.{eqb}
 use lib.ListN.{length, getD, set, length-set}
 use lib.Seq.{getD-set-same, getD-set-other}
-use types.Run.{OneOf, miss}
-use denote.Enum.Declared.{tagOf}
 use borrow.Author.Tests.{eqb-true, eqb-false}
-use Rattle.records.proofs.line.Line.{the-type}
 use Rattle.records.specs.declared.line.Line.{Line}
-use Rattle.records.specs.declared.line.Line.the-variants.{Sporadic, Relation, Implies, Excludes, Delayed, Weakly, Strictly, Kills}
+use Rattle.records.specs.declared.line.Line.the-variants.{Weakly}
 use Rattle.theory.specs.Step.{bit}
 use Rattle.judge.specs.Questions.{tickIn}
 use Rattle.judge.specs.Carried.{needOf, gainOf, lossOf}
 use Rattle.judge.specs.Plan.{lineIn}
-use Rattle.judge.proofs.line.Laws.{bit-le, lead-keys}
 
--- all but the two precedes
-pub rest-leads : (ticks : List Bool) (l : Line) → OneOf lead-keys (tagOf the-type l) → (0 ≡ needOf ticks l) × ((0 ≡ gainOf ticks l) × (0 ≡ lossOf ticks l))
-rest-leads ticks (Weakly A B) h = absurd (miss lead-keys 5 tt h)
-rest-leads ticks (Strictly A B) h = absurd (miss lead-keys 6 tt h)
-rest-leads ticks (Sporadic A B t) h = (refl, (refl, refl))
-rest-leads ticks (Relation A B p q) h = (refl, (refl, refl))
-rest-leads ticks (Implies A B) h = (refl, (refl, refl))
-rest-leads ticks (Excludes A B) h = (refl, (refl, refl))
-rest-leads ticks (Delayed A B D d) h = (refl, (refl, refl))
-rest-leads ticks (Kills A B) h = (refl, (refl, refl))
+bit-le : (b : Bool) → bit b ≤ 1
+bit-le true = omega arith
+bit-le false = omega arith
 
 -- a tick of A is a lead of one
 module _ (ticks : List Bool) (l : Line) (A B : ℕ) (e : l ≡ Weakly A B) where

@@ -7,30 +7,13 @@ use native.Mathlib.Omega.{arith}
 use lib.Dec.{eqb, ltb}
 use lib.ListN.{length, getD, set, replicate}
 use lib.Seq.{getD-set-same, getD-set-other}
-use types.Run.{OneOf, miss}
-use denote.Enum.Declared.{tagOf}
 use borrow.Author.Tests.{ltb-true, ltb-false, lt-ltb, le-ltb, eqb-true, eqb-false}
-use Rattle.records.proofs.line.Line.{the-type}
-use Rattle.records.specs.declared.line.Line.{Line}
-use Rattle.records.specs.declared.line.Line.the-variants.{Sporadic, Relation, Implies, Excludes, Delayed, Weakly, Strictly, Kills}
 use Rattle.records.specs.declared.sheet.Sheet.{Sheet}
 use Rattle.records.specs.Line.{blankLine}
 use Rattle.records.specs.Sheet.{lineAt, sheetValue}
 use Rattle.judge.specs.Rows.{isPrecedes, Leading}
 use Rattle.judge.proofs.Listing.{listed-at, listed-past}
-use Rattle.judge.proofs.line.Laws.{lead-keys}
 use Rattle.judge.proofs.work.PaddedLaws.{filled-reads}
-
--- a line with no arm of its own: all but the two precedes
-pub rest-precedes : (l : Line) → OneOf lead-keys (tagOf the-type l) → false ≡ isPrecedes l
-rest-precedes (Weakly A B) h = absurd (miss lead-keys 5 tt h)
-rest-precedes (Strictly A B) h = absurd (miss lead-keys 6 tt h)
-rest-precedes (Sporadic A B t) h = refl
-rest-precedes (Relation A B p q) h = refl
-rest-precedes (Implies A B) h = refl
-rest-precedes (Excludes A B) h = refl
-rest-precedes (Delayed A B D d) h = refl
-rest-precedes (Kills A B) h = refl
 
 module _ (s : Sheet) where
   abbrev pub precedesAt : ℕ → Bool

@@ -6,10 +6,7 @@ use Prim.Native.Nat.{ℕ, _≤_}
 use native.Mathlib.Omega.{arith}
 use lib.Dec.{leb}
 use lib.ListN.{length, take}
-use types.Run.{OneOf}
-use denote.Enum.Declared.{tagOf}
 use borrow.Author.Tests.{le-leb}
-use Rattle.records.proofs.line.Line.{the-type}
 use Rattle.records.specs.declared.line.Line.{Line}
 use Rattle.records.specs.declared.sheet.Sheet.{Sheet}
 use Rattle.records.specs.Sheet.{lineAt, sheetValue}
@@ -18,11 +15,11 @@ use Rattle.tesl.specs.Lists.{all}
 use Rattle.theory.specs.Step.{linesOk, nextLeads}
 use Rattle.judge.specs.View.{inUse}
 use Rattle.judge.specs.Lines.{leadIn}
-use Rattle.judge.proofs.line.Laws.{lead-keys, unused}
 use Rattle.judge.proofs.lines.Laws.{okFrom, ok-start}
 
-pub rest-within : (l : Line) (lead m : ℕ) → OneOf lead-keys (tagOf the-type l) → true ≡ leb (inUse l lead) m
-rest-within l lead m h = sym (rw (unused l lead h) (le-leb 0 m (omega arith)))
+-- a line without a lead reads 0
+pub zero-within : (m : ℕ) → true ≡ leb 0 m
+zero-within m = sym (le-leb 0 m (omega arith))
 
 -- the line's lead is within m
 abbrev pub leadOk : ℕ → Line → ℕ → Bool

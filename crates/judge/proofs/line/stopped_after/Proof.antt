@@ -1,18 +1,8 @@
--- `stopped_after` meets its contract: kills by its arm, the rest by one law. Assumes nothing.
+-- `stopped_after` meets its contract: each kind by its arm. Assumes nothing.
 use mathlib.Core.Path.{sym}
 use borrow.Author.Needs.{needs}
-use Rattle.judge.proofs.line.Laws.{rest-stopped}
 use Rattle.judge.proofs.line.stopped_after.Statement.{statement}
 use Rattle.judge.proofs.line.stopped_after.Tie as tie
-
-enum-known-l : tie.Need-enum-known-l
-enum-known-l c = search needs
-
-ticks-at-requires : tie.Need-ticks-at-requires
-ticks-at-requires c κs = search needs
-
-stop-requires : tie.Need-stop-requires
-stop-requires c κs = search needs
 
 returns : tie.Need-returns
 returns c = rw (c .before .before .before .before .l .given .1, c .stop .ensures, sym (c .before .before .ticks-at .ensures), c .before .if1 .taken)
@@ -20,9 +10,26 @@ returns c = rw (c .before .before .before .before .l .given .1, c .stop .ensures
 returns-2 : tie.Need-returns-2
 returns-2 c = rw (c .before .before .before .l .given .1, sym (c .before .ticks-at .ensures), c .if1 .left)
 
-returns-3 : tie.Need-returns-3
-returns-3 c = rest-stopped (c .before .args .ticks) (c .before .args .l) (c .before .args .stopped) (c .match .keys2)
-
 pub stopped-after-spec : {M : Type 1} → statement M
 stopped-after-spec =
-    tie.close (tie.spec enum-known-l ticks-at-requires stop-requires returns returns-2 returns-3)
+    tie.close
+    (tie.spec
+    (λ c. search needs)
+    (λ c κs. search needs)
+    (λ c κs. search needs)
+    (λ c. search needs)
+    (λ c. search needs)
+    (λ c. search needs)
+    (λ c. search needs)
+    (λ c. search needs)
+    (λ c. search needs)
+    (λ c. search needs)
+    returns
+    returns-2
+    (λ c. search needs)
+    (λ c. search needs)
+    (λ c. search needs)
+    (λ c. search needs)
+    (λ c. search needs)
+    (λ c. search needs)
+    (λ c. search needs))
