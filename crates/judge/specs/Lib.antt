@@ -22,9 +22,8 @@ pub mod Lines
 -- the same by what depends on a filling alone
 pub mod Rules
 pub mod Carried
--- obligations: those that a filling begins, each once, and what becomes of those owed
+-- obligations: those that a filling begins, and what becomes of those owed
 pub mod Begun
-pub mod Once
 pub mod Owed
 -- the work on an instant: one remainder, all of them, and filling by filling
 pub mod Advanced

@@ -1,35 +1,31 @@
 -- What an instant makes of the remainders held, in the order in which the monitor works: `none` once exhausted.
 use mathlib.Core.Bool.{Bool, true, false, not, cond, _&&_, Bool·beq}
-use mathlib.Core.List.{List, [], _∷_, _++_}
+use mathlib.Core.List.{List, [], _∷_}
 use mathlib.Core.Option.{Option, none, some}
 use Prim.Native.Nat.{ℕ, _+_}
-use lib.Dec.{eqb, ltb}
+use lib.Dec.{eqb}
 use lib.IntN.{ℤ}
-use lib.ListN.{length, replicate, set}
+use lib.ListN.{replicate, set}
 use Rattle.records.specs.declared.instant.Tick.{Tick}
 use Rattle.records.specs.declared.instant.Tick.the-variants.{Idle, Ticks, Unseen}
 use Rattle.records.specs.Sheet.{SheetValue}
-use Rattle.tesl.specs.Lists.{all, any, flatMap, within, sameList}
+use Rattle.tesl.specs.Lists.{all, flatMap, sameList}
 use Rattle.tesl.specs.Run.{Filled}
 use Rattle.tesl.specs.Fits.{Obligation, noneFalls, owedFrom}
 use Rattle.tesl.specs.Remainder.{Remainder, sameObligation}
+use Rattle.theory.specs.Adding.{onward, addedTo, allAddedTo, sameByCount}
 use Rattle.theory.specs.Step.{overlap, linesOk, nextLeads}
 use Rattle.judge.specs.Advanced.{Advanced, fails, over, onto}
 use Rattle.judge.specs.View.{filledOf}
 use Rattle.judge.specs.Questions.{tagsHold, ticksHold, carriedHolds, leadAfter}
 use Rattle.judge.specs.Lines.{allStopped}
-use Rattle.judge.specs.Owed.{owing, added, kept}
+use Rattle.judge.specs.Owed.{owing, kept}
 
 -- ---- one remainder
 
-abbrev pub onward : {A B : Type 0} → (A → Option B) → Option A → Option B
-onward go none = none
-onward go (some x) = go x
-
 -- one obligation after the other
 abbrev pub addedAll : List Obligation → List Obligation → Option (List Obligation)
-addedAll [] os = some os
-addedAll (o ∷ begun) os = onward (addedAll begun) (added os o)
+addedAll begun os = allAddedTo sameObligation 8 begun os
 
 -- the leads and stopped clocks after an instant
 abbrev pub carried : SheetValue → List Bool → Remainder → Remainder
@@ -51,16 +47,14 @@ advanced v f begun r =
 
 -- ---- those held
 
--- as many obligations, the same carried, and each that r owes is among x's: equal remainders, where each owes an obligation once
+-- equal remainders, where each owes an obligation once
 unfoldable pub sameCounted : Remainder → Remainder → Bool
 sameCounted x r =
-    eqb (length (x .owed)) (length (r .owed))
-    && (sameList Bool·beq (x .stopped) (r .stopped) && (sameList eqb (x .leads) (r .leads) && within sameObligation (r .owed) (x .owed)))
+    sameByCount sameObligation (x .owed) (r .owed) && (sameList Bool·beq (x .stopped) (r .stopped) && sameList eqb (x .leads) (r .leads))
 
 -- one more, unless it is there, while there is room
 unfoldable pub inserted : ℕ → Option (List Remainder) → Remainder → Option (List Remainder)
-inserted room none x = none
-inserted room (some rs) x = cond (any (sameCounted x) rs) (some rs) (cond (ltb (length rs) room) (some (rs ++ (x ∷ []))) none)
+inserted room found x = onward (λ (rs : List Remainder). addedTo sameCounted room rs x) found
 
 abbrev pub took : ℕ → Option (List Remainder) → Advanced → Option (List Remainder)
 took room found fails = found

@@ -12,8 +12,8 @@ ghost use Rattle.records.specs.Lists.{listed};
 ghost use Rattle.tesl.specs.Lists.{any, flatMap};
 ghost use Rattle.tesl.specs.Fits.{owedFrom};
 ghost use Rattle.tesl.specs.Remainder.{sameObligation};
+ghost use Rattle.theory.specs.Adding.{onceEach};
 ghost use Rattle.judge.specs.View.{obligationOf, filledOf};
-ghost use Rattle.judge.specs.Once.{onceEach};
 ghost use Rattle.judge.specs.Plan.{linesIn};
 ghost use Rattle.judge.specs.Begun.{begunCount, begunObligation, begunIn};
 
@@ -75,7 +75,7 @@ pub(crate) fn begin_all(
     begundues: &mut [i32],
 )
     requires { ⌜ (length (now lines) ≡ 320) × ((n ≤ 16) × ((length (now begun) ≡ 33) × (length (now begundues) ≡ 16))) ⌝ }
-    ensures { λ _. ⌜ (length (now (begun .exit)) ≡ 33) × ((length (now (begundues .exit)) ≡ 16) × ((begunCount (now (begun .exit)) ≤ 16) × (begunIn (now (begun .exit)) (now (begundues .exit)) ≡ onceEach (flatMap (owedFrom (filledOf ticks tags)) (linesIn (now (lines .entry)) 48 n))))) ⌝ }
+    ensures { λ _. ⌜ (length (now (begun .exit)) ≡ 33) × ((length (now (begundues .exit)) ≡ 16) × ((begunCount (now (begun .exit)) ≤ 16) × (begunIn (now (begun .exit)) (now (begundues .exit)) ≡ onceEach sameObligation (flatMap (owedFrom (filledOf ticks tags)) (linesIn (now (lines .entry)) 48 n))))) ⌝ }
 {
     let mut count = 0;
     let mut j = 0;

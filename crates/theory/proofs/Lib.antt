@@ -2,6 +2,7 @@
 pub mod Lists
 pub mod Sets
 pub mod Members
+pub mod Adding
 pub mod Whole
 -- What each kind of line gives: a law, and one for each kind.
 pub mod Law

@@ -9,6 +9,7 @@ use lib.Dec.{T, T-not, not-T}
 use lib.ListN.{length}
 use Rattle.tesl.specs.Lists.{any, filter, distinct, within}
 use Rattle.theory.specs.Sets.{apart, Covers, SameSet, EachOnce}
+use Rattle.theory.specs.Adding.{insert, insertAll}
 use Rattle.tesl.proofs.Tests.{and-l, and-r, and-i, or-l, or-r, or-e}
 use Rattle.theory.proofs.Lists.{bool-ext, any-imp, any-snoc, any-filter}
 
@@ -18,14 +19,6 @@ pub record Equivalence {A : Type 0} (same : A → A → Bool) : Type 0 where
   pub chain : (x y z : A) → T (same x y) → T (same y z) → T (same x z)
 
 module _ {A : Type 0} (same : A → A → Bool) where
-  -- one more at the end, unless it is there
-  abbrev pub insert : List A → A → List A
-  insert xs x = cond (any (same x) xs) xs (xs ++ (x ∷ []))
-
-  abbrev pub insertAll : List A → List A → List A
-  insertAll xs [] = xs
-  insertAll xs (y ∷ ys) = insertAll (insert xs y) ys
-
   -- without the first that is the same as x
   remove : A → List A → List A
   remove x [] = []

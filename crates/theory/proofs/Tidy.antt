@@ -12,8 +12,9 @@ use Rattle.tesl.specs.Run.{Filled}
 use Rattle.tesl.specs.Fits.{Obligation, meets, owedFrom}
 use Rattle.tesl.specs.Remainder.{Remainder, sameObligation, sameRemainder, owes}
 use Rattle.theory.specs.Sets.{apart, Covers, EachOnce}
+use Rattle.theory.specs.Adding.{insertAll}
 use Rattle.theory.specs.Step.{nextOwed}
-use Rattle.theory.proofs.Sets.{insertAll, insertAll-once, filter-once, once-length, distinct-set, length-le}
+use Rattle.theory.proofs.Sets.{insertAll-once, filter-once, once-length, distinct-set, length-le}
 use Rattle.theory.proofs.Respect.{sameObligation→eq, owed-equivalence, same-of}
 
 -- those that f doesn't meet, then those that f begins, each put at the end unless it is there

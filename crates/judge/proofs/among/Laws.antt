@@ -1,5 +1,5 @@
 -- A row compared with another, test by test as the code makes them: they are equal in every sheet of these clocks and precedes lines, or in none. Assumes nothing.
-use mathlib.Core.Bool.{Bool, true, false, not, _&&_, _||_, Bool·beq, and-false}
+use mathlib.Core.Bool.{Bool, true, false, not, _&&_, _||_, Bool·beq, and-true, and-false}
 use mathlib.Core.List.{List, [], _∷_}
 use mathlib.Core.Path.{_≡_, refl, sym, ap, ap₂, _∙_}
 use Prim.Native.Nat.{ℕ, zero, suc, _<_, _≤_}
@@ -105,6 +105,13 @@ owesAt r n i j = any (sameObligation (rowObligation (r .marks) (r .dues) i j)) (
 pub owes-here : (r : Rows) (n i j : ℕ) {o : Obligation} {os : List Obligation} {b : Bool} → o ≡ rowObligation (r .marks) (r .dues) i j → os ≡ rowOwed (r .marks) (r .dues) n → b ≡ any (sameObligation o) os → owesAt r n i j ≡ b
 owes-here r n i j e w f = rw (sym e, sym w) (sym f)
 
+-- equality by counts, and the same carried, with the tests in turn
+in-turn : (c s l w : Bool) → ((c && w) && (s && l)) ≡ (c && (s && (l && w)))
+in-turn false s l w = refl
+in-turn true true true w = and-true w
+in-turn true true false w = and-false w
+in-turn true false l w = and-false w
+
 module _ (clocks reach : ℕ) (precede : List Bool) (r : Rows) (n : ℕ) where
   abbrev stopsSame : ℕ → Bool
   stopsSame i = below clocks (λ k. Bool·beq (rowStop (r .stopped) n k) (rowStop (r .stopped) i k))
@@ -154,6 +161,7 @@ module _ (clocks reach : ℕ) (precede : List Bool) (r : Rows) (n : ℕ) where
           same-leads v reach precede leading (rowLead (r .leads) n) (rowLead (r .leads) i),
           all-listed (rowObligation (r .marks) (r .dues) i) (λ o. any (sameObligation o) (rowOwed (r .marks) (r .dues) n)) (rowCount (r .marks) i),
         )
+        (in-turn (eqb (rowCount (r .marks) n) (rowCount (r .marks) i)) (stopsSame i) (leadsSame i) (below (rowCount (r .marks) i) (owesAt r n i)))
 
     pub among : any (sameCounted (cut v (rowOf r n))) (rowsOf v n r) ≡ not (noneSame n)
     among = any-listed (λ i. cut v (rowOf r i)) (sameCounted (cut v (rowOf r n))) n ∙ ap not (below-ext n _ _ (λ i h. ap not (same-row i)))

@@ -13,11 +13,11 @@ use Rattle.records.proofs.Lists.{listed-cons, listed-end}
 use Rattle.tesl.specs.Lists.{any}
 use Rattle.tesl.specs.Fits.{Obligation}
 use Rattle.tesl.specs.Remainder.{sameObligation}
+use Rattle.theory.specs.Adding.{insertAll}
 use Rattle.judge.specs.declared.obligation.Obligation as code
 use Rattle.judge.specs.declared.line.Begun.{Begun}
 use Rattle.judge.specs.declared.line.Begun.the-variants.{Nothing, Owed}
 use Rattle.judge.specs.View.{obligationOf, begunOf}
-use Rattle.judge.specs.Once.{joinedAll}
 use Rattle.judge.specs.Plan.{lineIn}
 use Rattle.judge.specs.Begun.{begunCount, begunObligation, begunIn}
 use Rattle.judge.proofs.Listing.{listed-same, listed-next}
@@ -29,25 +29,25 @@ abbrev pub delayIn : List ℕ → ℕ → Line
 delayIn lines j = lineIn lines (48 + j)
 
 -- ---- what all lines begin, each once: what is begun so far, xs, with what those from i on begin
-module _ (begins : Line → List Obligation) (f : ℕ → Line) (n i : ℕ) (xs : List Obligation) {whole : List Obligation} (w : whole ≡ joinedAll xs (begunFrom begins f n i)) where
+module _ (begins : Line → List Obligation) (f : ℕ → Line) (n i : ℕ) (xs : List Obligation) {whole : List Obligation} (w : whole ≡ insertAll sameObligation xs (begunFrom begins f n i)) where
   pub joining-end : n ≤ i → xs ≡ whole
   joining-end h = sym (w ∙ rw (listed-end f n i h))
 
   module _ (h : i < n) (l : Line) (e : l ≡ f i) (b : Begun) (g : begunOf b ≡ begins l) where
-    turn : whole ≡ joinedAll xs (begunOf b ++ begunFrom begins f n (i + 1))
+    turn : whole ≡ insertAll sameObligation xs (begunOf b ++ begunFrom begins f n (i + 1))
     turn = w ∙ rw (listed-cons f n i h, g, e)
 
-    pub joining-nothing : b ≡ Nothing → whole ≡ joinedAll xs (begunFrom begins f n (i + 1))
+    pub joining-nothing : b ≡ Nothing → whole ≡ insertAll sameObligation xs (begunFrom begins f n (i + 1))
     joining-nothing k = turn ∙ rw k
 
     module _ (o : code.Obligation) (k : b ≡ Owed o) (t : Bool) (a : t ≡ any (sameObligation (obligationOf o)) xs) where
-      one : whole ≡ joinedAll (cond t xs (xs ++ (obligationOf o ∷ []))) (begunFrom begins f n (i + 1))
+      one : whole ≡ insertAll sameObligation (cond t xs (xs ++ (obligationOf o ∷ []))) (begunFrom begins f n (i + 1))
       one = turn ∙ rw (k, a)
 
-      pub joining-again : t ≡ true → whole ≡ joinedAll xs (begunFrom begins f n (i + 1))
+      pub joining-again : t ≡ true → whole ≡ insertAll sameObligation xs (begunFrom begins f n (i + 1))
       joining-again u = one ∙ rw u
 
-      pub joining-more : t ≡ false → (ys : List Obligation) → ys ≡ xs ++ (obligationOf o ∷ []) → whole ≡ joinedAll ys (begunFrom begins f n (i + 1))
+      pub joining-more : t ≡ false → (ys : List Obligation) → ys ≡ xs ++ (obligationOf o ∷ []) → whole ≡ insertAll sameObligation ys (begunFrom begins f n (i + 1))
       joining-more u ys v = one ∙ rw (u, v)
 
 -- ---- the arrays

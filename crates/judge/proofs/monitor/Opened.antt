@@ -25,7 +25,8 @@ use Rattle.theory.specs.Sets.{apart, SameSet}
 use Rattle.theory.specs.Step.{nextLeads}
 use Rattle.theory.specs.Limits.{SheetLimits, withinLimits}
 use Rattle.theory.proofs.Lists.{filter-true, table-ext}
-use Rattle.theory.proofs.Respect.{same-of}
+use Rattle.theory.proofs.Respect.{same-of, owed-equivalence}
+use Rattle.theory.proofs.Adding.{Adding, room, full, added-all}
 use Rattle.theory.proofs.Tidy.{owes-more}
 use Rattle.theory.proofs.Held.{held-start}
 use Rattle.theory.proofs.Limits.{same-within, start-within}
@@ -41,7 +42,6 @@ use Rattle.judge.specs.Answer.{answerOf, saidBy}
 use Rattle.judge.specs.Limits.{isTaken, sheetWithin, within}
 use Rattle.judge.specs.Monitor.{sheetBy, heldBy, blankMonitor, noMonitor, refusal, Begins}
 use Rattle.judge.specs.Promises.{Follows, Opened}
-use Rattle.judge.proofs.work.Advance.{Adding, room, full, added-all}
 use Rattle.judge.proofs.monitor.Limits.{within-limits}
 
 -- ---- nothing leads and nothing is stopped
@@ -95,7 +95,7 @@ module _ (s : SheetValue) (l : SheetLimits s) where
     pub these : SameSet sameObligation owed start
     pub once : T (apart sameObligation owed)
 
-  first-of : {x : Option (List Obligation)} → Adding [] start x → addedAll start [] ≡ x → First
+  first-of : {x : Option (List Obligation)} → Adding sameObligation 8 [] start x → addedAll start [] ≡ x → First
   unfolding remainder
   first-of (room {xs = xs} h) e = record { owed = xs; found = e; these = h .set; once = h .once tt }
   first-of (full h) e =
@@ -103,7 +103,7 @@ module _ (s : SheetValue) (l : SheetLimits s) where
       absurd (omega (arith, opening-owes s l))
 
   first : First
-  first = first-of (added-all start []) refl
+  first = first-of (added-all sameObligation owed-equivalence 8 start []) refl
 
   -- as the monitor holds it
   held : Remainder

@@ -13,13 +13,14 @@ use Rattle.records.proofs.Lists.{listed-cons, listed-end}
 use Rattle.tesl.specs.Lists.{flatMap}
 use Rattle.tesl.specs.Run.{Filled, tagIn}
 use Rattle.tesl.specs.Fits.{Obligation, meets, notLate}
+use Rattle.theory.specs.Adding.{onward}
 use Rattle.judge.specs.declared.obligation.Obligation as code
 use Rattle.judge.specs.declared.line.Begun.{Begun}
 use Rattle.judge.specs.declared.line.Begun.the-variants.{Nothing, Owed}
 use Rattle.judge.specs.declared.owed.Added.{Added}
 use Rattle.judge.specs.View.{obligationOf, begunOf, owedIn, addedOf}
 use Rattle.judge.specs.Owed.{added, left, kept}
-use Rattle.judge.specs.Work.{onward, addedAll}
+use Rattle.judge.specs.Work.{addedAll}
 
 -- ---- obligations: all is added once the rest is added to what is owed so far
 module _ (rest q : List Obligation) {whole : Option (List Obligation)} (w : whole ≡ addedAll rest q) where

@@ -13,14 +13,14 @@ use Rattle.records.specs.Sheet.{SheetValue}
 use Rattle.records.proofs.Lists.{listed-take, length-listed}
 use Rattle.tesl.specs.Lists.{below, filter, flatMap}
 use Rattle.tesl.specs.Fits.{Obligation, owedFrom}
-use Rattle.tesl.specs.Remainder.{Remainder}
+use Rattle.tesl.specs.Remainder.{Remainder, sameObligation}
+use Rattle.theory.specs.Adding.{onceEach}
 use Rattle.theory.specs.Step.{overlap, linesOk, nextLeads}
 use Rattle.judge.specs.Advanced.{Advanced, fails, over, onto}
 use Rattle.judge.specs.View.{filledOf, inUse, cut}
 use Rattle.judge.specs.Questions.{carriedHolds, leadAfter}
 use Rattle.judge.specs.Lines.{allStopped, smallLeads}
 use Rattle.judge.specs.Owed.{owing, kept}
-use Rattle.judge.specs.Once.{onceEach}
 use Rattle.judge.specs.Plan.{isRule}
 use Rattle.judge.specs.Carried.{either, needOf, gainOf, lossOf}
 use Rattle.judge.specs.Rows.{Rows, Leading, rowOwed, rowLead, rowLeads, rowStop, rowStopped, rowOf, provided}
@@ -34,7 +34,7 @@ pub record Asked (v : SheetValue) (clocks reach : ℕ) (precede ticks : List Boo
   pub as-many : v .clocks ≡ clocks
   pub few-clocks : v .clocks ≤ 8
   pub leading : Leading v reach precede
-  pub begins : begun ≡ onceEach (flatMap (owedFrom (filledOf ticks tags)) (v .lines))
+  pub begins : begun ≡ onceEach sameObligation (flatMap (owedFrom (filledOf ticks tags)) (v .lines))
   pub ends : stops ≡ allStopped ticks (filter isRule (v .lines)) (replicate 8 false)
   pub moves : (k : ℕ) → k < reach → (getD asks k 0 ≡ needOf ticks (sheetLine v k)) × ((getD asks (16 + k) 0 ≡ gainOf ticks (sheetLine v k)) × (getD asks (32 + k) 0 ≡ lossOf ticks (sheetLine v k)))
 

@@ -14,13 +14,13 @@ use Rattle.records.proofs.Lists.{length-listed, listed-cons, listed-end, listed
 use Rattle.tesl.specs.Lists.{all, any, flatMap}
 use Rattle.tesl.specs.Run.{Filled}
 use Rattle.tesl.specs.Fits.{Obligation, owedFrom}
-use Rattle.tesl.specs.Remainder.{Remainder}
+use Rattle.tesl.specs.Remainder.{Remainder, sameObligation}
+use Rattle.theory.specs.Adding.{onceEach, addedTo}
 use Rattle.judge.specs.declared.held.Count.{Count}
 use Rattle.judge.specs.declared.held.Count.the-variants.{Exhausted, Live}
 use Rattle.judge.specs.Advanced.{Advanced, fails, over, onto}
 use Rattle.judge.specs.View.{filledOf, cut}
 use Rattle.judge.specs.Lines.{smallLeads}
-use Rattle.judge.specs.Once.{onceEach}
 use Rattle.judge.specs.Work.{sameCounted, inserted, took, advanced, settledAll}
 use Rattle.judge.specs.Fillings.{flagsIn, fillingsIn, takenBy, settling}
 use Rattle.judge.specs.Rows.{Rows, rowOf, rowsOf, foundIn}
@@ -44,7 +44,7 @@ module _ (room : ℕ) (v : SheetValue) (f : Filled) (begun : List Obligation) (R
   settledFrom i = settledAll room v f begun (listedFrom (λ k. cut v (rowOf R k)) i (n - i))
 
   -- each obligation begun once is all of them
-  pub settled-start : begun ≡ onceEach (flatMap (owedFrom f) (v .lines)) → (found : Option (List Remainder)) → settledAll room v f (flatMap (owedFrom f) (v .lines)) (rowsOf v n R) found ≡ settledFrom 0 found
+  pub settled-start : begun ≡ onceEach sameObligation (flatMap (owedFrom f) (v .lines)) → (found : Option (List Remainder)) → settledAll room v f (flatMap (owedFrom f) (v .lines)) (rowsOf v n R) found ≡ settledFrom 0 found
   settled-start e found = let z : n - 0 ≡ n = omega arith in rw (z, e) (sym (settled-once v f (flatMap (owedFrom f) (v .lines)) room (rowsOf v n R) found))
 
   module _ (i : ℕ) (O : Rows) (live : ℕ) {whole : Option (List Remainder)} (w : whole ≡ settledFrom i (some (rowsOf v live O))) where
@@ -74,15 +74,15 @@ module _ (room : ℕ) (v : SheetValue) (f : Filled) (begun : List Obligation) (R
       -- it is built in the row after those found
       module _ (g : advanced v f begun (cut v (rowOf R i)) ≡ onto (cut v (rowOf O live))) {b : Bool} (m : b ≡ any (sameCounted (cut v (rowOf O live))) (rowsOf v live O)) where
         pub settled-there : b ≡ true → whole ≡ settledFrom (i + 1) (some (rowsOf v live O))
-        unfolding inserted
+        unfolding inserted addedTo
         settled-there t = turned (onto (cut v (rowOf O live))) g ∙ rw (sym m, t)
 
         pub settled-full : b ≡ false → room ≤ live → none ≡ whole
-        unfolding inserted
+        unfolding inserted addedTo
         settled-full t k = gone (turned (onto (cut v (rowOf O live))) g ∙ rw (sym m, t, length-listed (λ k. cut v (rowOf O k)) live, le-ltb live room k))
 
         pub settled-more : b ≡ false → live < room → whole ≡ settledFrom (i + 1) (some (rowsOf v (live + 1) O))
-        unfolding inserted
+        unfolding inserted addedTo
         settled-more t k =
             turned (onto (cut v (rowOf O live))) g ∙ rw (sym m, t, length-listed (λ k. cut v (rowOf O k)) live, lt-ltb live room k, listed-snoc (λ k. cut v (rowOf O k)) live)
 

@@ -1,95 +1,36 @@
--- What adding obligations makes of those owed, and what a filled instant makes of a remainder: the same set, or more than eight distinct ones. Assumes nothing.
+-- What a filled instant makes of a remainder: the same set of obligations, or more than eight distinct ones. Assumes nothing.
 use mathlib.Core.Bool.{Bool, true, false, not, cond, _&&_}
-use mathlib.Core.List.{List, [], _∷_, _++_, append-nil, append-assoc}
+use mathlib.Core.List.{List, [], _∷_, _++_}
 use mathlib.Core.Option.{Option, none, some}
-use mathlib.Core.Path.{_≡_, refl, sym, ap, _∙_, subst}
-use Prim.Native.Nat.{suc, _≤_, _<_}
+use mathlib.Core.Path.{_≡_, refl, sym, subst}
+use Prim.Native.Nat.{suc, _≤_}
 use native.Mathlib.Omega.{arith}
-use lib.Dec.{T, not-T, ltb, ltb→lt, lt→ltb, nltb→le}
-use lib.ListN.{length, length-append}
+use lib.Dec.{T, not-T, ltb, ltb→lt, lt→ltb}
+use lib.ListN.{length}
 use Rattle.records.specs.Sheet.{SheetValue}
-use Rattle.tesl.specs.Lists.{any, filter, flatMap, distinct}
+use Rattle.tesl.specs.Lists.{filter, flatMap, distinct}
 use Rattle.tesl.specs.Run.{Filled}
 use Rattle.tesl.specs.Fits.{Obligation, meets, owedFrom, notLate}
 use Rattle.tesl.specs.Remainder.{Remainder, sameObligation, sameRemainder, owes, overfull}
-use Rattle.tesl.proofs.Tests.{or-l, or-r, or-e}
-use Rattle.theory.specs.Sets.{apart, Covers, SameSet}
+use Rattle.theory.specs.Sets.{apart}
 use Rattle.theory.specs.Step.{overlap, linesOk, next}
-use Rattle.theory.proofs.Lists.{bool-ext, any-append}
-use Rattle.theory.proofs.Sets.{any-same, apart-snoc, filter-once, distinct-set, distinct-apart, length-le}
+use Rattle.theory.proofs.Sets.{filter-once, distinct-set, distinct-apart, length-le}
+use Rattle.theory.proofs.Adding.{Tidied, Beyond, Adding, room, full, earlier, added-all}
 use Rattle.theory.proofs.Respect.{sameObligation→eq, owed-equivalence, same-of}
 use Rattle.theory.proofs.Tidy.{owes-more}
 use Rattle.judge.specs.Advanced.{Advanced, fails, over, onto}
 use Rattle.judge.specs.Questions.{carriedHolds}
-use Rattle.judge.specs.Owed.{owing, added, left, kept}
-use Rattle.judge.specs.Work.{onward, addedAll, carried, withBegun, withKept, advanced}
+use Rattle.judge.specs.Owed.{owing, left, kept}
+use Rattle.judge.specs.Work.{carried, withBegun, withKept, advanced}
 use Rattle.judge.proofs.work.Padded.{padded, goesOn, step-next}
-
--- ---- one obligation after the other
-
--- xs are these obligations; in eight places and each once, if the ones before are
-pub record Tidied (before these xs : List Obligation) : Type 0 where
-  pub set : SameSet sameObligation xs these
-  pub room : length before ≤ 8 → length xs ≤ 8
-  pub once : T (apart sameObligation before) → T (apart sameObligation xs)
-
--- more than eight among these, distinct if the ones before are
-pub record Nine (before these : List Obligation) : Type 0 where
-  pub among : List Obligation
-  pub covered : Covers sameObligation among these
-  pub many : 8 < length among
-  pub once : T (apart sameObligation before) → T (apart sameObligation among)
-
-pub data Adding (before these : List Obligation) : Option (List Obligation) → Type 0 where
-  room : {xs : List Obligation} → Tidied before these xs → Adding before these (some xs)
-  full : Nine before these → Adding before these none
-
--- the same from an earlier list of them
-earlier : {before these later those : List Obligation} {q : Option (List Obligation)} → SameSet sameObligation those these → (length before ≤ 8 → length later ≤ 8)
-    → (T (apart sameObligation before) → T (apart sameObligation later)) → Adding later those q → Adding before these q
-earlier e l a (room h) = room (record { set = λ o. h .set o ∙ e o; room = λ k. h .room (l k); once = λ k. h .once (a k) })
-earlier e l a (full h) = full (record { among = h .among; covered = λ o t. subst T (e o) (h .covered o t); many = h .many; once = λ k. h .once (a k) })
-
--- one that is there already adds nothing
-there-already : (o : Obligation) (os begun : List Obligation) → T (any (sameObligation o) os) → SameSet sameObligation (os ++ begun) (os ++ (o ∷ begun))
-there-already o os begun t z =
-    let here = any (sameObligation z) os in
-    let rest = any (sameObligation z) begun in
-    any-append (sameObligation z) os begun
-    ∙ bool-ext _ _
-    (λ u. or-e here rest u (λ w. or-l here _ w) (λ w. or-r here _ (or-r (sameObligation z o) rest w)))
-    (λ u. or-e here _ u (λ w. or-l here rest w)
-    (λ w. or-e (sameObligation z o) rest w (λ x. or-l here rest (any-same sameObligation owed-equivalence z o os x t)) (λ x. or-r here rest x)))
-    ∙ sym (any-append (sameObligation z) os (o ∷ begun))
-
-pub added-all : (begun os : List Obligation) → Adding os (os ++ begun) (addedAll begun os)
-unfolding added
-added-all [] os = room (record { set = λ o. ap (any (sameObligation o)) (sym (append-nil os)); room = λ k. k; once = λ k. k })
-added-all (o ∷ begun) os = one (any (sameObligation o) os) (ltb (length os) 8) (λ t. t) (λ t. t) (λ t. t) (λ t. t) (added-all begun os) (added-all begun (os ++ (o ∷ [])))
-  where
-    one : (a b : Bool) → (T a → T (any (sameObligation o) os)) → (T (not a) → T (not (any (sameObligation o) os))) → (T b → T (ltb (length os) 8))
-        → (T (not b) → T (not (ltb (length os) 8))) → Adding os (os ++ begun) (addedAll begun os)
-        → Adding (os ++ (o ∷ [])) ((os ++ (o ∷ [])) ++ begun) (addedAll begun (os ++ (o ∷ [])))
-        → Adding os (os ++ (o ∷ begun)) (onward (addedAll begun) (cond a (some os) (cond b (some (os ++ (o ∷ []))) none)))
-    one true b t n l g h k = earlier (there-already o os begun (t tt)) (λ w. w) (λ w. w) h
-    one false true t n l g h k =
-        earlier (λ z. ap (any (sameObligation z)) (append-assoc os (o ∷ []) begun)) (λ w. let lt = ltb→lt (length os) 8 (l tt) in omega (arith, length-append os (o ∷ [])))
-        (λ w. apart-snoc sameObligation owed-equivalence os o w (n tt)) k
-    one false false t n l g h k = full (record {
-      among = os ++ (o ∷ []);
-      covered = λ z u. subst T (ap (any (sameObligation z)) (append-assoc os (o ∷ []) begun))
-          (subst T (sym (any-append (sameObligation z) (os ++ (o ∷ [])) begun)) (or-l (any (sameObligation z) (os ++ (o ∷ []))) (any (sameObligation z) begun) u));
-      many = let le = nltb→le (length os) 8 (g tt) in omega (arith, length-append os (o ∷ []));
-      once = λ w. apart-snoc sameObligation owed-equivalence os o w (n tt);
-    })
 
 -- ---- a filled instant
 
 -- by whether it goes on: those that f leaves, and those that it begins
 data Moves (v : SheetValue) (f : Filled) (r : Remainder) : Bool → Advanced → Type 0 where
   stays : Moves v f r false fails
-  nine : Nine (r .owed) (left f (r .owed) ++ flatMap (owedFrom f) (v .lines)) → Moves v f r true over
-  moves : {xs : List Obligation} → Tidied (r .owed) (left f (r .owed) ++ flatMap (owedFrom f) (v .lines)) xs → Moves v f r true (onto (carried v (f .ticks) (owing xs r)))
+  nine : Beyond sameObligation 8 (r .owed) (left f (r .owed) ++ flatMap (owedFrom f) (v .lines)) → Moves v f r true over
+  moves : {xs : List Obligation} → Tidied sameObligation 8 (r .owed) (left f (r .owed) ++ flatMap (owedFrom f) (v .lines)) xs → Moves v f r true (onto (carried v (f .ticks) (owing xs r)))
 
 filter-shorter : {A : Type 0} (p : A → Bool) (xs : List A) → length (filter p xs) ≤ length xs
 filter-shorter p [] = omega arith
@@ -108,7 +49,7 @@ left-once f os a =
     filter-once sameObligation owed-equivalence (λ (o : Obligation). not (meets f o)) (λ x y e t. subst (λ (o : Obligation). T (not (meets f o))) (sameObligation→eq x y e) t)
     {xs = os} {ys = os} (record { each-once = a; these = λ o. refl }) .each-once
 
-with-begun : {v : SheetValue} {f : Filled} {r : Remainder} {q : Option (List Obligation)} → Adding (r .owed) (left f (r .owed) ++ flatMap (owedFrom f) (v .lines)) q
+with-begun : {v : SheetValue} {f : Filled} {r : Remainder} {q : Option (List Obligation)} → Adding sameObligation 8 (r .owed) (left f (r .owed) ++ flatMap (owedFrom f) (v .lines)) q
     → Moves v f r true (withBegun v (f .ticks) r q)
 with-begun (room h) = moves h
 with-begun (full h) = nine h
@@ -124,7 +65,7 @@ advance-moves v f r =
     by-tests : (a b : Bool) → Moves v f r (a && b) (cond a (withKept v (f .ticks) begun r (cond b (some (left f (r .owed))) none)) fails)
     by-tests false b = stays
     by-tests true false = stays
-    by-tests true true = with-begun (earlier (λ o. refl) (left-room f (r .owed)) (left-once f (r .owed)) (added-all begun (left f (r .owed))))
+    by-tests true true = with-begun (earlier sameObligation 8 (λ o. refl) (left-room f (r .owed)) (left-once f (r .owed)) (added-all sameObligation owed-equivalence 8 begun (left f (r .owed))))
 
 -- ---- a filled instant of the sheet's clocks, by what comes next
 

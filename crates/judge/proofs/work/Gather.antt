@@ -16,6 +16,7 @@ use Rattle.tesl.specs.Remainder.{Remainder, sameRemainder, overfull}
 use Rattle.tesl.specs.Answer.{exhausted}
 use Rattle.tesl.proofs.Tests.{or-e}
 use Rattle.theory.specs.Sets.{Covers, EachOnce}
+use Rattle.theory.specs.Adding.{addedTo}
 use Rattle.theory.specs.Step.{next, stepOk}
 use Rattle.theory.specs.Held.{successors}
 use Rattle.theory.specs.Tracks.{Finding, one-more, owed}
@@ -60,7 +61,7 @@ module _ (room : ℕ) (v : SheetValue) (last : Option (List ℤ)) (i : Instant) 
 
     gather-insert : (reached : List Remainder) (found : Option (List Remainder)) (x : Remainder) → T (stepOk v last f r) → T (sameRemainder x (next v f r))
         → T (not (overfull x)) → (Once r → Once x) → Gathering reached found → Gathering (reached ++ (next v f r ∷ [])) (inserted room found x)
-    unfolding inserted
+    unfolding inserted addedTo
     gather-insert reached none x ok s w o h = h
     gather-insert reached (some xs) x ok s w o h = by-tests (any (sameCounted x) xs) (ltb (length xs) room) (λ t. t) (λ t. t) (λ t. t) (λ t. t)
       where

@@ -27,6 +27,7 @@ use Rattle.tesl.proofs.Tests.{and-l, and-r, and-i, or-l, or-r, or-e, T→≡, �
 use Rattle.theory.specs.Step.{overlap, linesOk, nextLeads}
 use Rattle.theory.proofs.Lists.{any-append, any-snoc}
 use Rattle.theory.proofs.Respect.{remainder-equivalence}
+use Rattle.theory.specs.Adding.{addedTo}
 use Rattle.judge.specs.Advanced.{Advanced, fails, over, onto}
 use Rattle.judge.specs.View.{filledOf, cut, live, isNone}
 use Rattle.judge.specs.Questions.{tickIn, ticksHold, carriedHolds, leadAfter, stoppedAfter}
@@ -49,8 +50,8 @@ counted-self x =
     let s = sameList Bool·beq (x .stopped) (x .stopped) in
     let w = within sameObligation (x .owed) (x .owed) in
     let t₁ = and-r l (s && (w && w)) t in
-    and-i (eqb (length (x .owed)) (length (x .owed))) (s && (l && w)) (eqb-refl (length (x .owed)))
-    (and-i s (l && w) (and-l s (w && w) t₁) (and-i l w (and-l l (s && (w && w)) t) (and-l w w (and-r s (w && w) t₁))))
+    let c = eqb (length (x .owed)) (length (x .owed)) in
+    and-i (c && w) (s && l) (and-i c w (eqb-refl (length (x .owed))) (and-l w w (and-r s (w && w) t₁))) (and-i s l (and-l s (w && w) t₁) (and-l l (s && (w && w)) t))
 
 module _ (room : ℕ) where
   -- those found with one more, by whether it is there and whether there is room
@@ -58,11 +59,11 @@ module _ (room : ℕ) where
   with-one t u rs x = cond t (some rs) (cond u (some (rs ++ (x ∷ []))) none)
 
   there : (x : Remainder) (rs : List Remainder) → any (sameCounted x) rs ≡ true → inserted room (some rs) x ≡ some rs
-  unfolding inserted
+  unfolding inserted addedTo
   there x rs e = rw e
 
   found-there : (x : Remainder) (rs : List Remainder) → inserted room (some rs) x ≡ some rs → any (sameCounted x) rs ≡ true
-  unfolding inserted
+  unfolding inserted addedTo
   found-there x rs h = by-tests (any (sameCounted x) rs) (ltb (length rs) room) h
     where
       by-tests : (t u : Bool) → with-one t u rs x ≡ some rs → t ≡ true
@@ -71,7 +72,7 @@ module _ (room : ℕ) where
       by-tests false false h = absurd (true≢false (ap isNone h))
 
   pub took-none : (a : Advanced) → took room none a ≡ none
-  unfolding inserted
+  unfolding inserted addedTo
   took-none fails = refl
   took-none over = refl
   took-none (onto x) = refl
@@ -86,7 +87,7 @@ module _ (room : ℕ) where
   more-hold rs x (onto y) h = there y (rs ++ (x ∷ [])) (any-snoc (sameCounted y) rs x ∙ rw (found-there y rs h))
 
   took-holds : (p : Found) (a : Advanced) → Holds p (took room p a)
-  unfolding inserted
+  unfolding inserted addedTo
   took-holds none a b h = ap (λ (q : Found). took room q b) (took-none a) ∙ took-none b ∙ sym (took-none a)
   took-holds (some rs) fails b h = h
   took-holds (some rs) over b h = took-none b
@@ -98,7 +99,7 @@ module _ (room : ℕ) where
       by-tests false false = took-none b
 
   took-again : (p : Found) (a : Advanced) → took room (took room p a) a ≡ took room p a
-  unfolding inserted
+  unfolding inserted addedTo
   took-again none a = ap (λ (q : Found). took room q a) (took-none a)
   took-again (some rs) fails = refl
   took-again (some rs) over = refl

@@ -8,8 +8,8 @@ use lib.ListN.{length, set}
 use borrow.Author.Tests.{lt-ltb, le-ltb}
 use borrow.Author.Needs.{needs}
 use Rattle.records.proofs.Lists.{length-listed}
+use Rattle.theory.specs.Adding.{addedTo}
 use Rattle.judge.specs.View.{obligationOf}
-use Rattle.judge.specs.Owed.{added}
 use Rattle.judge.specs.Rows.{rowCount, rowObligation, rowOwed}
 use Rattle.judge.proofs.rows.Owing.{storing-start, storing-stays, storing-put, owed-put, storing-count, count-stored, owed-counted}
 use Rattle.judge.proofs.advance.add_row.Statement.{statement}
@@ -28,7 +28,7 @@ same-length-2 : tie.Need-same-length-2
 same-length-2 c = search needs
 
 returns : tie.Need-returns
-unfolding added
+unfolding addedTo
 returns c =
     let s = c .before .before .before .before .before in
     (s .pre .0, (s .pre .1 .0, (simp (sym (c .before .row-owes .ensures) ∙ c .if1 .taken), (s .pre .1 .1 .1, λ h l k. (refl, refl)))))
@@ -43,7 +43,7 @@ same-length-4 : tie.Need-same-length-4
 same-length-4 c = search needs
 
 returns-2 : tie.Need-returns-2
-unfolding added
+unfolding addedTo
 returns-2 c =
     let e = c .before .before .before in
     let s = e .before .before .before .before .before in
@@ -72,7 +72,7 @@ same-length-6 : tie.Need-same-length-6
 same-length-6 c = search needs
 
 returns-3 : tie.Need-returns-3
-unfolding added
+unfolding addedTo
 returns-3 c =
     let n = c .before .before .before .before .before .before .before .row-count in
     let e = c .before .before .before .before .before .before .before .before .before in

@@ -7,8 +7,9 @@ use borrow.Author.Needs.{needs}
 use Rattle.records.specs.Lists.{listedFrom, listed}
 use Rattle.tesl.specs.Lists.{flatMap}
 use Rattle.tesl.specs.Fits.{owedFrom}
+use Rattle.tesl.specs.Remainder.{sameObligation}
+use Rattle.theory.specs.Adding.{insertAll, onceEach}
 use Rattle.judge.specs.View.{filledOf}
-use Rattle.judge.specs.Once.{joinedAll, onceEach}
 use Rattle.judge.specs.Plan.{linesIn}
 use Rattle.judge.specs.Begun.{begunObligation}
 use Rattle.judge.proofs.owed.Laws.{begunFrom, begun-start}
@@ -19,7 +20,7 @@ use Rattle.judge.proofs.begun.begin_all.Tie as tie
 abbrev Inv-loop : tie.InvT-loop
 Inv-loop lines n ticks tags begun₀ begundues₀ count₀ j₀ begun begundues count j =
     let begins = owedFrom (filledOf ticks tags) in
-    (j ≤ n) × (count ≤ j) × (length begun ≡ 33) × (length begundues ≡ 16) × (onceEach (flatMap begins (linesIn lines 48 n)) ≡ joinedAll (listed (begunObligation begun begundues) count) (begunFrom begins (delayIn lines) n j))
+    (j ≤ n) × (count ≤ j) × (length begun ≡ 33) × (length begundues ≡ 16) × (onceEach sameObligation (flatMap begins (linesIn lines 48 n)) ≡ insertAll sameObligation (listed (begunObligation begun begundues) count) (begunFrom begins (delayIn lines) n j))
 
 abbrev μ-loop : tie.MeasureT-loop
 μ-loop lines n ticks tags begun₀ begundues₀ count₀ j₀ begun begundues count j = n - j
@@ -29,7 +30,7 @@ unfolding listedFrom
 loop-holds c =
     let s = c .before .before in
     let a = s .args in
-    (omega arith, omega arith, s .pre .1 .1 .0, s .pre .1 .1 .1, ap onceEach (begun-start (owedFrom (filledOf (a .ticks) (a .tags))) (delayIn (a .lines .now)) (a .n)))
+    (omega arith, omega arith, s .pre .1 .1 .0, s .pre .1 .1 .1, ap (onceEach sameObligation) (begun-start (owedFrom (filledOf (a .ticks) (a .tags))) (delayIn (a .lines .now)) (a .n)))
 
 add-line-in : tie.Need-add-line-in Inv-loop μ-loop
 add-line-in c = search needs

@@ -7,8 +7,8 @@ use lib.ListN.{length, length-map}
 use lib.Seq.{length-take-le}
 use borrow.Author.Tests.{lt-ltb, le-ltb}
 use borrow.Author.Needs.{needs}
+use Rattle.theory.specs.Adding.{addedTo}
 use Rattle.judge.specs.View.{owedIn}
-use Rattle.judge.specs.Owed.{added}
 use Rattle.judge.proofs.owed.add.Statement.{statement}
 use Rattle.judge.proofs.owed.add.Tie as tie
 
@@ -22,14 +22,14 @@ owes-requires : tie.Need-owes-requires
 owes-requires c κs = search needs
 
 returns : tie.Need-returns
-unfolding added
+unfolding addedTo
 returns c = (simp (sym (c .before .owes .ensures) ∙ c .if1 .taken), c .before .before .before .pre)
 
 push-requires : tie.Need-push-requires
 push-requires c κs = search needs
 
 returns-2 : tie.Need-returns-2
-unfolding added
+unfolding addedTo
 returns-2 c =
     let e = c .before .before in
     let s = e .before .before .before in
@@ -37,7 +37,7 @@ returns-2 c =
     (ap some (c .push .ensures .1) ∙ simp (sym (e .before .owes .ensures) ∙ e .if1 .left, lt-ltb _ _ k), omega (arith, c .push .ensures .0))
 
 returns-3 : tie.Need-returns-3
-unfolding added
+unfolding addedTo
 returns-3 c =
     let e = c .before in
     let s = e .before .before .before in
