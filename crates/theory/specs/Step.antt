@@ -39,16 +39,27 @@ overlap [] ys = false
 overlap (x ∷ xs) [] = false
 overlap (x ∷ xs) (y ∷ ys) = (x && y) || overlap xs ys
 
--- ---- all lines; a line past the end of the leads has lead 0
+-- ---- all lines, each with its state; a line past the end of the states has the default
+
+module _ {X : Type 0} (default : X) where
+  -- each line holds, by its state
+  abbrev pub statesOk : (Line → X → Bool) → List Line → List X → Bool
+  statesOk ok [] states = true
+  statesOk ok (l ∷ ls) [] = ok l default && statesOk ok ls []
+  statesOk ok (l ∷ ls) (x ∷ states) = ok l x && statesOk ok ls states
+
+  -- the states after
+  abbrev pub nextStates : (Line → X → X) → List Line → List X → List X
+  nextStates after [] states = []
+  nextStates after (l ∷ ls) [] = after l default ∷ nextStates after ls []
+  nextStates after (l ∷ ls) (x ∷ states) = after l x ∷ nextStates after ls states
+
+-- the leads: 0 where there is none
 abbrev pub linesOk : (Line → ℕ → Bool) → List Line → List ℕ → Bool
-linesOk ok [] leads = true
-linesOk ok (l ∷ ls) [] = ok l 0 && linesOk ok ls []
-linesOk ok (l ∷ ls) (n ∷ leads) = ok l n && linesOk ok ls leads
+linesOk ok ls leads = statesOk 0 ok ls leads
 
 abbrev pub nextLeads : (Line → ℕ → ℕ) → List Line → List ℕ → List ℕ
-nextLeads after [] leads = []
-nextLeads after (l ∷ ls) [] = after l 0 ∷ nextLeads after ls []
-nextLeads after (l ∷ ls) (n ∷ leads) = after l n ∷ nextLeads after ls leads
+nextLeads after ls leads = nextStates 0 after ls leads
 
 -- those that f doesn't meet, then those that f begins
 abbrev pub nextOwed : List Line → Filled → List Obligation → List Obligation

@@ -16,7 +16,7 @@ use Rattle.records.proofs.Lists.{both}
 use Rattle.tesl.specs.Lists.{all, filter, below, table}
 use Rattle.tesl.specs.Remainder.{Remainder}
 use Rattle.tesl.proofs.Tests.{and-l, and-r}
-use Rattle.theory.specs.Step.{bit, linesOk, nextLeads}
+use Rattle.theory.specs.Step.{bit, statesOk, nextStates, linesOk, nextLeads}
 use Rattle.theory.proofs.Lists.{table-ext}
 use Rattle.judge.specs.View.{inUse, cut}
 use Rattle.judge.specs.Questions.{tickIn, carriedHolds, leadAfter, stoppedAfter}
@@ -29,23 +29,27 @@ use Rattle.judge.proofs.lines.Carried.{all-as-many}
 
 -- ---- places
 
--- each line and its lead
-ok-places : (ok : Line → ℕ → Bool) (ls : List Line) (leads : List ℕ) → linesOk ok ls leads ≡ below (length ls) (λ k. ok (getD ls k blankLine) (getD leads k 0))
-ok-places ok [] leads = refl
-ok-places ok (l ∷ ls) [] =
-    ap (λ (b : Bool). ok l 0 && b) (ok-places ok ls []) ∙ sym (below-front (λ k. ok (getD (l ∷ ls) k blankLine) (getD [] k 0)) (length ls))
-ok-places ok (l ∷ ls) (n ∷ leads) =
-    ap (λ (b : Bool). ok l n && b) (ok-places ok ls leads) ∙ sym (below-front (λ k. ok (getD (l ∷ ls) k blankLine) (getD (n ∷ leads) k 0)) (length ls))
+-- each line and its state
+module _ {X : Type 0} (default : X) where
+  ok-places : (ok : Line → X → Bool) (ls : List Line) (states : List X)
+      → statesOk default ok ls states ≡ below (length ls) (λ k. ok (getD ls k blankLine) (getD states k default))
+  ok-places ok [] states = refl
+  ok-places ok (l ∷ ls) [] =
+      ap (λ (b : Bool). ok l default && b) (ok-places ok ls []) ∙ sym (below-front (λ k. ok (getD (l ∷ ls) k blankLine) (getD [] k default)) (length ls))
+  ok-places ok (l ∷ ls) (x ∷ states) =
+      ap (λ (b : Bool). ok l x && b) (ok-places ok ls states) ∙ sym (below-front (λ k. ok (getD (l ∷ ls) k blankLine) (getD (x ∷ states) k default)) (length ls))
 
-next-places : (after : Line → ℕ → ℕ) (ls : List Line) (leads : List ℕ) → nextLeads after ls leads ≡ table (length ls) (λ k. after (getD ls k blankLine) (getD leads k 0))
-next-places after [] leads = refl
-next-places after (l ∷ ls) [] = ap (λ (ns : List ℕ). after l 0 ∷ ns) (next-places after ls [])
-next-places after (l ∷ ls) (n ∷ leads) = ap (λ (ns : List ℕ). after l n ∷ ns) (next-places after ls leads)
+  next-places : (after : Line → X → X) (ls : List Line) (states : List X)
+      → nextStates default after ls states ≡ table (length ls) (λ k. after (getD ls k blankLine) (getD states k default))
+  next-places after [] states = refl
+  next-places after (l ∷ ls) [] = ap (λ (xs : List X). after l default ∷ xs) (next-places after ls [])
+  next-places after (l ∷ ls) (x ∷ states) = ap (λ (xs : List X). after l x ∷ xs) (next-places after ls states)
 
-next-next : (f g : Line → ℕ → ℕ) (ls : List Line) (leads : List ℕ) → nextLeads g ls (nextLeads f ls leads) ≡ nextLeads (λ l n. g l (f l n)) ls leads
-next-next f g [] leads = refl
-next-next f g (l ∷ ls) [] = ap (λ (ns : List ℕ). g l (f l 0) ∷ ns) (next-next f g ls [])
-next-next f g (l ∷ ls) (n ∷ leads) = ap (λ (ns : List ℕ). g l (f l n) ∷ ns) (next-next f g ls leads)
+  next-next : (f g : Line → X → X) (ls : List Line) (states : List X)
+      → nextStates default g ls (nextStates default f ls states) ≡ nextStates default (λ l x. g l (f l x)) ls states
+  next-next f g [] states = refl
+  next-next f g (l ∷ ls) [] = ap (λ (xs : List X). g l (f l default) ∷ xs) (next-next f g ls [])
+  next-next f g (l ∷ ls) (x ∷ states) = ap (λ (xs : List X). g l (f l x) ∷ xs) (next-next f g ls states)
 
 -- ---- clocks in two lists
 
@@ -223,7 +227,7 @@ module _ (v : SheetValue) (ticks : List Bool) where
     pub carried-holds : linesOk (carriedHolds ticks) (v .lines) (nextLeads inUse (v .lines) leads) ≡ below reach (λ k. leb (needOf ticks (sheetLine v k)) (getD leads k 0))
     carried-holds =
         lines-hold ticks (v .lines) leads
-        ∙ ok-places (asks ticks) (v .lines) leads
+        ∙ ok-places 0 (asks ticks) (v .lines) leads
         ∙ below-either (needed v ticks leads) (length (v .lines)) reach past-lines past-reach
       where
         past-lines : (k : ℕ) → length (v .lines) ≤ k → needed v ticks leads k ≡ true
@@ -237,7 +241,7 @@ module _ (v : SheetValue) (ticks : List Bool) where
         → ((k : ℕ) → k < reach → getD r k 0 ≡ getD leads k 0 + gainOf ticks (sheetLine v k) - lossOf ticks (sheetLine v k))
         → nextLeads inUse (v .lines) r ≡ nextLeads (leadAfter ticks) (v .lines) (nextLeads inUse (v .lines) leads)
     carried-leads r h =
-        next-places inUse (v .lines) r
+        next-places 0 inUse (v .lines) r
         ∙ table-ext (length (v .lines)) (λ k. inUse (sheetLine v k) (getD r k 0)) (λ k. leadAfter ticks (sheetLine v k) (inUse (sheetLine v k) (getD leads k 0)))
         (λ k b. lead-moves ticks (sheetLine v k) (getD leads k 0) (getD r k 0) (λ e. h k (ltb-true k reach (both (ltb k reach) (sym (leading .1 k) ∙ e) .0))))
-        ∙ sym (next-next inUse (leadAfter ticks) (v .lines) leads ∙ next-places (λ l n. leadAfter ticks l (inUse l n)) (v .lines) leads)
+        ∙ sym (next-next 0 inUse (leadAfter ticks) (v .lines) leads ∙ next-places 0 (λ l n. leadAfter ticks l (inUse l n)) (v .lines) leads)
