@@ -26,6 +26,7 @@ use Rattle.theory.proofs.Lists.{any-map, member-any, any-member}
 use Rattle.theory.proofs.Members.{mem-flatMap, of-flatMap, distinct-map, mem-filter, of-filter, of-distinct, each-of, of-each, no-more, some-of, of-beginnings, a-beginning}
 use Rattle.theory.proofs.Sets.{Equivalence, distinct-set, distinct-apart}
 use Rattle.theory.proofs.Respect.{owed-equivalence, remainder-equivalence, overfull-respects, clear-respects}
+use Rattle.theory.proofs.Unmet.{unmet-listed, none-unmet}
 use Rattle.theory.proofs.Seen.{none-owed, clear-when}
 
 -- ---- the fillings of a run are those listed
@@ -166,23 +167,9 @@ owing-number s run n = (
 
 -- ---- exhausted
 
-too-many : (room : ℕ) (s : SheetValue) (run : List Instant) → T (tooMany room (remainders s run)) ↔ (Leaves s run (suc room) ⊎ Owing s run 9)
+too-many : (room : ℕ) (s : SheetValue) (run : List Instant) → T (tooMany room (remainders s run)) ↔ TooMany room s run
 unfolding tooMany overfull
-too-many room s run = (
-  λ t. or-e (ltb room (length rs)) (any overfull rs) t
-      (λ u. inl (leaves-number s run (suc room) .1 (subst (λ (n : ℕ). suc room ≤ n) as-many (ltb→lt room (length rs) u))))
-      (λ u.
-      let m = any-member (λ (f : List Filled). overfull (remainder s f)) ks (subst T all-owed u) in
-      inr (owing-number s run 9 .1 (m .0, of-each (Fitting s run) (kept-fits s run) (m .1), ltb→lt 8 (owes (remainder s (m .0))) (m .2)))),
-  ⊎-elim
-      (λ (l : Leaves s run (suc room)). or-l (ltb room (length rs)) (any overfull rs) (lt→ltb room (length rs) (subst (λ (n : ℕ). suc room ≤ n) (sym as-many) (leaves-number s run (suc room) .0 l))))
-      (λ (w : Owing s run 9).
-      let h = owing-number s run 9 .0 w in
-      let g = kept-all s run (h .0) (h .1) in
-      or-r (ltb room (length rs)) (any overfull rs) (subst T (sym all-owed)
-      (member-any (λ (f : List Filled). overfull (remainder s f)) (g .1)
-      (overfull-respects (remainder s (h .0)) (remainder s (g .0)) (g .2) (lt→ltb 8 (owes (remainder s (h .0))) (h .2)))))),
-)
+too-many room s run = (found, tested)
   where
     ks : List (List Filled)
     ks = kept s run
@@ -195,6 +182,23 @@ too-many room s run = (
 
     all-owed : any overfull rs ≡ any (λ (f : List Filled). overfull (remainder s f)) ks
     all-owed = ap (any overfull) (remainders-kept s run) ∙ any-map overfull (remainder s) ks
+
+    found : T (tooMany room rs) → TooMany room s run
+    found t = or-e (ltb room (length rs)) (any overfull rs) t
+        (λ u. let l = ltb→lt room (length rs) u in inl (leaves-number s run _ .1 (omega (arith, as-many))))
+        (λ u.
+        let m = any-member (λ (f : List Filled). overfull (remainder s f)) ks (subst T all-owed u) in
+        let l = ltb→lt 8 (owes (remainder s (m .0))) (m .2) in
+        inr (owing-number s run _ .1 (m .0, of-each (Fitting s run) (kept-fits s run) (m .1), omega arith)))
+
+    tested : TooMany room s run → T (tooMany room rs)
+    tested (inl h) = let l = leaves-number s run _ .0 h in or-l (ltb room (length rs)) (any overfull rs) (lt→ltb room (length rs) (omega (arith, as-many)))
+    tested (inr h) =
+        let w = owing-number s run _ .0 h in
+        let g = kept-all s run (w .0) (w .1) in
+        or-r (ltb room (length rs)) (any overfull rs)
+        (subst T (sym all-owed) (member-any (λ (f : List Filled). overfull (remainder s f)) (g .1)
+        (overfull-respects (remainder s (w .0)) (remainder s (g .0)) (g .2) (lt→ltb 8 (owes (remainder s (w .0))) (omega (arith, w .2))))))
 
 exhausts-exactly : (room : ℕ) (s : SheetValue) (run : List Instant) → T (over room s run) ↔ Exhausts room s run
 unfolding over
@@ -212,15 +216,15 @@ clear-of : (b : Bool) → T b → cond b clear owed ≡ clear
 clear-of true t = refl
 clear-of false t = absurd t
 
-clear-exactly : (s : SheetValue) (run : List Instant) → (standing (map (remainder s) (kept s run)) ≡ clear) ↔ ((f : List Filled) × Fitting s run f × (unmet (s .lines) f ≡ []))
+clear-exactly : (s : SheetValue) (run : List Instant) → (standing (map (remainder s) (kept s run)) ≡ clear) ↔ ((f : List Filled) × Fitting s run f × NoneUnmet (s .lines) f)
 unfolding remainder owes isClear
 clear-exactly s run = (
   λ e.
       let m = any-member (λ (f : List Filled). isClear (remainder s f)) ks (subst T (any-map isClear (remainder s) ks) (clear-when (any isClear (map (remainder s) ks)) e)) in
-      (m .0, of-each (Fitting s run) (kept-fits s run) (m .1), none-owed (unmet (s .lines) (m .0)) (eqb→eq (owes (remainder s (m .0))) 0 (m .2))),
+      (m .0, of-each (Fitting s run) (kept-fits s run) (m .1), none-unmet (s .lines) (m .0) .0 (none-owed (unmet (s .lines) (m .0)) (eqb→eq (owes (remainder s (m .0))) 0 (m .2)))),
   λ h.
       let g = kept-all s run (h .0) (h .1) in
-      let e : T (isClear (remainder s (h .0))) = subst (λ (os : List Obligation). T (eqb (length (distinct sameObligation os)) 0)) (sym (h .2)) tt in
+      let e : T (isClear (remainder s (h .0))) = subst (λ (os : List Obligation). T (eqb (length (distinct sameObligation os)) 0)) (sym (none-unmet (s .lines) (h .0) .1 (h .2))) tt in
       clear-of (any isClear (map (remainder s) ks)) (subst T (sym (any-map isClear (remainder s) ks))
       (member-any (λ (f : List Filled). isClear (remainder s f)) (g .1) (clear-respects (remainder s (h .0)) (remainder s (g .0)) (g .2) e))),
 )

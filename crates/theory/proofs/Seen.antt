@@ -143,7 +143,7 @@ seen-judged room s run t n = record {
     said = not-exhausted s run room n ∙ ap judged (one-remainder s run f (one-filling run t))
 
     Holding : Type 0
-    Holding = (standing : Standing) × (answerWithin room s run ≡ holding 1 standing) × ((standing ≡ clear) ↔ (unmet (s .lines) f ≡ []))
+    Holding = (standing : Standing) × (answerWithin room s run ≡ holding 1 standing) × ((standing ≡ clear) ↔ NoneUnmet (s .lines) f)
 
     holds : NoneFalls (s .clocks) f × EachHolds (s .lines) f → Holding
     holds h = (

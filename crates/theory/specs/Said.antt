@@ -79,15 +79,20 @@ pub record Owing (s : SheetValue) (run : List Instant) (n : ℕ) : Type 0 where
 
 -- ---- the answer, the first that applies
 
--- some beginning of the run, the whole included, has more distinct remainders than there is room for, or one with more than 8 obligations
+-- more distinct remainders than there is room for, or one with more than 8 obligations
+abbrev pub TooMany : ℕ → SheetValue → List Instant → Type 0
+TooMany room s run = Leaves s run (suc room) ⊎ Owing s run 9
+
+-- some beginning of the run, the whole included, has too many
 pub record Exhausts (room : ℕ) (s : SheetValue) (run : List Instant) : Type 0 where
   pub beginning : List Instant
   pub rest : List Instant
   pub begins : run ≡ beginning ++ rest
-  pub too-many : Leaves s beginning (suc room) ⊎ Owing s beginning 9
+  pub too-many : TooMany room s beginning
 
--- what is said of the run with room for so many
+-- a is the answer for the run with room for so many distinct remainders; `answerWithin` is, and nothing else: `answer-said` and `said-is`, proofs/Said.antt
 pub record Said (room : ℕ) (s : SheetValue) (run : List Instant) (a : Answer) : Type 0 where
+  -- exhausted exactly when some beginning has too many
   pub exhausts : (a ≡ exhausted) ↔ Exhausts room s run
   -- else broken exactly when no filling fits
   pub breaks : a ≢ exhausted → (a ≡ broken) ↔ ((f : List Filled) → Fitting s run f → ⊥)
