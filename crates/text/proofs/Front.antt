@@ -16,7 +16,7 @@ use Rattle.tesl.specs.Machine.{accepts, callOf, callsOf}
 use Rattle.theory.proofs.Accepted.{taken-read}
 use Rattle.text.specs.Text.{refusalLine}
 use Rattle.text.specs.Output.{FrontDecides}
-use Rattle.text.proofs.Walk.{printed, printedAll, watchLines, columnsLines, watch-walk, columns-walk}
+use Rattle.text.proofs.Walk.{walked, walkedAll, watchLines, columnsLines, watch-walk, columns-walk}
 
 -- where the walk stands: what is printed so far, and the instants taken
 record Place : Type 0 where
@@ -26,14 +26,14 @@ record Place : Type 0 where
 module _ (lines : List Instant → Instant → List ℕ) (s : SheetValue) where
   -- all that is printed, from a place on
   abbrev whole-text : Place → List Piece → List ℕ
-  whole-text at ps = at .text ++ printed lines s (at .run) (map callOf ps)
+  whole-text at ps = at .text ++ walked lines s (at .run) (map callOf ps)
 
   abbrev left : Place → ℕ
   left at = 4000 - length (at .run)
 
   -- an instant that is taken has at most 28 bytes, and 4,000 of them are the most
   log-turn : (at : Place) (kind : ℕ) (body : List ℕ) → Turn whole-text left 28 at kind body
-  unfolding printed
+  unfolding walked
   log-turn at kind body = by-outcome (accepts s (at .run) (recordBytes kind body)) refl
     where
       by-outcome : (o : Outcome Instant) → accepts s (at .run) (recordBytes kind body) ≡ o → Turn whole-text left 28 at kind body
@@ -45,15 +45,15 @@ module _ (lines : List Instant → Instant → List ℕ) (s : SheetValue) where
           goes (record { text = at .text ++ lines (at .run) i; run = at .run ++ (i ∷ []) }) (omega arith) (taken-short (s .clocks) kind body (r .0) .bytes)
           (λ ps. rw (e, append-assoc))
 
-  log-front : (n : ℕ) (log : List ℕ) → IsBytes log → 177539 ≤ n → printed lines s [] (callsOf (take n log)) ≡ printed lines s [] (callsOf log)
+  log-front : (n : ℕ) (log : List ℕ) → IsBytes log → 177539 ≤ n → walked lines s [] (callsOf (take n log)) ≡ walked lines s [] (callsOf log)
   log-front n log d l = pieces-front whole-text left 28 log-turn 4000 n (record { text = []; run = [] }) log (omega arith) d (omega arith)
 
 module _ (a b : ℕ) (k : 65704 ≤ a) (l : 177539 ≤ b) where
   text-front : (lines : SheetValue → List Instant → Instant → List ℕ) (sheet log : List ℕ) → IsBytes sheet → IsBytes log
-      → printedAll lines (callsOf (take b log)) (readSheet (take a sheet)) ≡ printedAll lines (callsOf log) (readSheet sheet)
+      → walkedAll lines (callsOf (take b log)) (readSheet (take a sheet)) ≡ walkedAll lines (callsOf log) (readSheet sheet)
   text-front lines sheet log d e = rw (read-front a sheet d k) (by-sheet (readSheet sheet))
     where
-      by-sheet : (o : Outcome SheetValue) → printedAll lines (callsOf (take b log)) o ≡ printedAll lines (callsOf log) o
+      by-sheet : (o : Outcome SheetValue) → walkedAll lines (callsOf (take b log)) o ≡ walkedAll lines (callsOf log) o
       by-sheet (taken s) = log-front (lines s) s b log e l
       by-sheet (refused n) = refl
 

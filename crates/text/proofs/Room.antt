@@ -25,7 +25,7 @@ use Rattle.theory.proofs.Accepted.{taken-read, refused-number}
 use Rattle.text.specs.Text.{line, live, answerLine, refusalLine, cents, hundredths, columnLine}
 use Rattle.text.specs.Output.{watchText, columnsText}
 use Rattle.text.proofs.build.Digits.{length-digits}
-use Rattle.text.proofs.Walk.{printedFor, printed, printedAll, watchLines, columnsLines, watch-walk, columns-walk}
+use Rattle.text.proofs.Walk.{walkedBy, walked, walkedAll, watchLines, columnsLines, watch-walk, columns-walk}
 
 -- ---- lines
 
@@ -80,14 +80,14 @@ Narrow lines w s bytes = (run : List Instant) (i : Instant) → accepts s run by
 
 module _ (lines : List Instant → Instant → List ℕ) (w : ℕ) (s : SheetValue) where
   -- j instants may still be taken
-  printed-room : (j : ℕ) (run : List Instant) (calls : List (List ℕ)) → length run + j ≡ 4000 → All (Narrow lines w s) calls → length (printed lines s run calls) ≤ j * w + 11
-  unfolding printed
-  printed-room j run [] h each = omega arith
-  printed-room j run (bytes ∷ calls) h each = by-outcome (accepts s run bytes) refl (λ k run′ l. printed-room k run′ calls l (each .1))
+  walked-room : (j : ℕ) (run : List Instant) (calls : List (List ℕ)) → length run + j ≡ 4000 → All (Narrow lines w s) calls → length (walked lines s run calls) ≤ j * w + 11
+  unfolding walked
+  walked-room j run [] h each = omega arith
+  walked-room j run (bytes ∷ calls) h each = by-outcome (accepts s run bytes) refl (λ k run′ l. walked-room k run′ calls l (each .1))
     where
       by-outcome : (o : Outcome Instant) → accepts s run bytes ≡ o
-          → ((k : ℕ) (run′ : List Instant) → length run′ + k ≡ 4000 → length (printed lines s run′ calls) ≤ k * w + 11)
-          → length (printedFor lines run (λ run′. printed lines s run′ calls) o) ≤ j * w + 11
+          → ((k : ℕ) (run′ : List Instant) → length run′ + k ≡ 4000 → length (walked lines s run′ calls) ≤ k * w + 11)
+          → length (walkedBy lines run (λ run′. walked lines s run′ calls) o) ≤ j * w + 11
       by-outcome (refused n) e later = omega (arith, refusal-short n (refused-number s run bytes e))
       by-outcome (taken i) e later =
           let r = taken-read s run bytes e .1 in
@@ -96,11 +96,11 @@ module _ (lines : List Instant → Instant → List ℕ) (w : ℕ) (s : SheetVal
           rw length-append (omega (arith, each .0 run i e, later (j - 1) (run ++ (i ∷ [])) (omega (arith, length-append run (i ∷ [])))))
 
 all-room : (lines : SheetValue → List Instant → Instant → List ℕ) (w : ℕ) (sheet : List ℕ) (calls : List (List ℕ)) → ((s : SheetValue) → All (Narrow (lines s) w s) calls)
-    → length (printedAll lines calls (readSheet sheet)) ≤ 4000 * w + 11
+    → length (walkedAll lines calls (readSheet sheet)) ≤ 4000 * w + 11
 all-room lines w sheet calls each = by-sheet (readSheet sheet) refl
   where
-    by-sheet : (o : Outcome SheetValue) → readSheet sheet ≡ o → length (printedAll lines calls o) ≤ 4000 * w + 11
-    by-sheet (taken s) e = printed-room (lines s) w s 4000 [] calls refl (each s)
+    by-sheet : (o : Outcome SheetValue) → readSheet sheet ≡ o → length (walkedAll lines calls o) ≤ 4000 * w + 11
+    by-sheet (taken s) e = walked-room (lines s) w s 4000 [] calls refl (each s)
     by-sheet (refused n) e = omega (arith, refusal-short n (omega (arith, read-number sheet e)))
 
 -- ---- *watch*
