@@ -1,1 +1,4 @@
 pub mod Effects
+pub mod Adding
+pub mod Row
+pub mod Built

@@ -1,3 +1,4 @@
 pub mod Laws
-pub mod Owing
-pub mod Stored
+pub mod Storing
+pub mod Fill
+pub mod Placing

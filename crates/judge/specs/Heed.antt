@@ -1,7 +1,7 @@
 -- The ticks of an instant that its work asks about: those of the clocks that a line or an obligation held names. An unseen tick of another clock counts as idle.
 use mathlib.Core.Bool.{Bool, true, false}
 use mathlib.Core.List.{List, [], _∷_}
-use Prim.Native.Nat.{ℕ, _+_, _*_}
+use Prim.Native.Nat.{ℕ, _+_, _%_}
 use lib.ListN.{getD, set, replicate}
 use Rattle.records.specs.declared.line.Line.{Line}
 use Rattle.records.specs.declared.line.Line.the-variants.{Sporadic, Relation, Implies, Excludes, Delayed, Weakly, Strictly, Kills}
@@ -9,7 +9,7 @@ use Rattle.records.specs.declared.instant.Tick.{Tick}
 use Rattle.records.specs.declared.instant.Tick.the-variants.{Idle, Ticks, Unseen}
 use Rattle.records.specs.Lists.{listed}
 use Rattle.tesl.specs.Lists.{flatMap}
-use Rattle.judge.specs.Rows.{rowCount}
+use Rattle.judge.specs.Rows.{word, rowCount}
 
 -- the clocks whose ticks a line asks about; a sporadic or delayed line asks for a tick by an obligation
 abbrev pub namedBy : Line → List ℕ
@@ -22,12 +22,12 @@ namedBy (Delayed A B D d) = A ∷ []
 namedBy (Sporadic A B t) = []
 namedBy (Relation A B p q) = []
 
--- the clocks that row i owes a tick of; that the first n rows do
+-- the clocks that row i owes a tick of; that n rows from `from` on do
 abbrev pub rowClocks : List ℕ → ℕ → List ℕ
-rowClocks marks i = listed (λ j. getD marks (17 * i + 1 + j) 0) (rowCount marks i)
+rowClocks rows i = listed (λ j. word rows i (1 + j) % 256) (rowCount rows i)
 
-abbrev pub rowsClocks : List ℕ → ℕ → List ℕ
-rowsClocks marks n = flatMap (rowClocks marks) (listed (λ i. i) n)
+abbrev pub rowsClocks : List ℕ → ℕ → ℕ → List ℕ
+rowsClocks rows from n = flatMap (λ k. rowClocks rows (from + k)) (listed (λ k. k) n)
 
 -- a flag for each clock of a list besides
 abbrev pub flagged : List ℕ → List Bool → List Bool
@@ -39,11 +39,6 @@ abbrev pub heeds : List Line → List ℕ → ℕ → Bool
 heeds ls owed k = getD (flagged owed (flagged (flatMap namedBy ls) (replicate 8 false))) k true
 
 -- ---- ticks
-
-abbrev pub isUnseen : Tick → Bool
-isUnseen Idle = false
-isUnseen Ticks = false
-isUnseen Unseen = true
 
 abbrev pub tickHeeded : Bool → Tick → Tick
 tickHeeded true t = t

@@ -1,8 +1,9 @@
--- A monitor kept in rows, as the struct that it stands for: of each array the places in use.
+-- A monitor kept in rows, as the struct that it stands for: of each row the places in use.
+use mathlib.Core.Bool.{Bool, true}
 use mathlib.Core.List.{List}
+use mathlib.Core.Path.{_≡_}
 use Prim.Native.Nat.{ℕ, _+_}
-use lib.IntN.{ℤ}
-use Rattle.records.specs.declared.sheet.Sheet.{Sheet}
+use lib.ListN.{length}
 use Rattle.records.specs.Lists.{listed}
 use Rattle.records.specs.Sheet.{sheetValue}
 use Rattle.records.specs.Types.{IsSheet}
@@ -10,52 +11,57 @@ use Rattle.tesl.specs.Fits.{Obligation}
 use Rattle.judge.specs.declared.obligation.Obligation as code
 use Rattle.judge.specs.declared.remainder.Remainder as arrays
 use Rattle.judge.specs.declared.answer.Reply.{Reply}
-use Rattle.judge.specs.declared.answer.Reply.the-variants as reply
 use Rattle.judge.specs.declared.held.Count.{Count}
-use Rattle.judge.specs.declared.held.Count.the-variants.{Exhausted, Live}
 use Rattle.judge.specs.declared.held.Held.{Held}
-use Rattle.judge.specs.declared.kept.Told.{Told}
 use Rattle.judge.specs.declared.plan.Plan.{Plan}
+use Rattle.judge.specs.declared.kept.Kept.{Kept}
+use Rattle.judge.specs.declared.kept.Told.{Told}
 use Rattle.judge.specs.declared.monitor.Monitor.{Monitor}
 use Rattle.judge.specs.declared.monitor.Given.{Given}
-use Rattle.judge.specs.Plan.{Planned}
-use Rattle.judge.specs.Rows.{Rows, rowCount, rowObligation, rowLeads, rowStopped}
+use Rattle.judge.specs.Limits.{within}
+use Rattle.judge.specs.Plan.{Fitting, Planned}
+use Rattle.judge.specs.Rows.{words, rowCount, rowObligation, rowLeads, rowStopped}
+use Rattle.judge.specs.Settle.{Side}
+use Rattle.judge.specs.Stored.{liveRows}
+use Rattle.judge.specs.Promises.{Observed}
 
 abbrev pub asStruct : Obligation → code.Obligation
 asStruct o = record { clock = o .clock; on = o .on; due = o .due }
 
-abbrev pub rowRemainder : Rows → ℕ → arrays.Remainder
-rowRemainder r i = record {
-  owed = rowCount (r .marks) i;
-  obligations = listed (λ j. asStruct (rowObligation (r .marks) (r .dues) i j)) (rowCount (r .marks) i);
-  leads = rowLeads (r .leads) i;
-  stopped = rowStopped (r .stopped) i;
+abbrev pub rowRemainder : List ℕ → ℕ → arrays.Remainder
+rowRemainder rows i = record {
+  owed = rowCount rows i;
+  obligations = listed (λ j. asStruct (rowObligation rows i j)) (rowCount rows i);
+  leads = rowLeads rows i;
+  stopped = rowStopped rows i;
 }
 
--- none once exhausted
-abbrev pub liveRows : Count → ℕ
-liveRows Exhausted = 0
-liveRows (Live n) = n
+abbrev pub rowsHeld : Count → List ℕ → ℕ → Held
+rowsHeld count rows from = record { count = count; remainders = listed (λ k. rowRemainder rows (from + k)) (liveRows count) }
 
-abbrev pub rowsHeld : Count → Rows → Held
-rowsHeld count r = record { count = count; remainders = listed (rowRemainder r) (liveRows count) }
+abbrev pub keptMonitor : Kept → List ℕ → Monitor
+keptMonitor k rows = record { sheet = k .sheet; instants = k .instants; tags = k .tags; held = rowsHeld (k .count) rows (k .from) }
 
-abbrev pub rowsMonitor : Sheet → ℕ → List ℤ → Count → Rows → Monitor
-rowsMonitor s instants tags count r = record { sheet = s; instants = instants; tags = tags; held = rowsHeld count r }
+-- a monitor once its remainders are stored behind the head
+abbrev pub keptOf : Monitor → Plan → Kept
+keptOf m p = record { sheet = m .sheet; plan = p; instants = m .instants; tags = m .tags; count = m .held .count; from = 6 }
 
 abbrev pub given : Reply → Monitor → Given
 given r m = record { reply = r; monitor = m }
 
--- the monitor to call next: refused, the one before
-abbrev pub goesOn : Reply → Monitor → Monitor → Monitor
-goesOn (reply.Refused n) before after = before
-goesOn (reply.Answered a) before after = after
+-- ---- an instant taken
 
--- what is told of an instant, with the rows after it, as what a call of m gives
-abbrev pub toldBy : Monitor → Told → Rows → Given
-toldBy m t r = given (t .reply) (goesOn (t .reply) m (rowsMonitor (m .sheet) (m .instants + 1) (t .tags) (t .count) r))
+-- a monitor in rows within its limits, of a sheet as reading takes it, what is found out about the sheet once, and room to work in
+pub record Ready (k : Kept) (lines rows : List ℕ) (list : List Bool) : Type 0 where
+  pub value : IsSheet (sheetValue (k .sheet))
+  pub planned : Planned (sheetValue (k .sheet)) (k .plan) lines
+  pub fits : Fitting (k .plan)
+  pub side : Side (k .from)
+  pub size : length rows ≡ words
+  pub lists : length list ≡ 2048
+  pub limits : within (keptMonitor k rows) ≡ true
 
--- a sheet as reading takes it, and what is found out about it once
-pub record Prepared (s : Sheet) (p : Plan) (lines : List ℕ) : Type 0 where
-  pub value : IsSheet (sheetValue s)
-  pub plan : Planned s p lines
+-- what a call of the monitor gives, and the monitor to call next is as ready
+pub record Takes (k : Kept) (bytes lines : List ℕ) (t : Told) (a b : List ℕ) (list : List Bool) : Type 0 where
+  pub observed : Observed (keptMonitor k a) bytes (given (t .reply) (keptMonitor (t .kept) b))
+  pub ready : Ready (t .kept) lines b list

@@ -23,15 +23,20 @@ pub mod Lines
 pub mod Rules
 pub mod Carried
 -- obligations: those that a filling begins, and what becomes of those owed
-pub mod Begun
 pub mod Owed
 -- the work on an instant: one remainder, all of them, and filling by filling
 pub mod Advanced
 pub mod Work
 pub mod Fillings
--- what is kept in arrays: remainders in rows, the ticks asked about, a sheet's lines, the remainder of no instant, a monitor
+-- what is kept in arrays: words, remainders in rows, the ticks asked about, a sheet's lines, the remainder of no instant
+pub mod Word
 pub mod Rows
 pub mod Heed
 pub mod Plan
 pub mod Start
+-- an instant: what depends on a filling alone, the rows by a filling and by all of them, the fillings listed; remainders stored in rows and read back; and a monitor kept in rows
+pub mod Filling
+pub mod Settle
+pub mod Fill
+pub mod Stored
 pub mod Kept

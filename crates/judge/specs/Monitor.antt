@@ -1,5 +1,5 @@
 -- What a monitor keeps, and what the inner functions of opening and observing promise.
-use mathlib.Core.Bool.{false, cond}
+use mathlib.Core.Bool.{cond}
 use mathlib.Core.List.{List, [], _∷_}
 use mathlib.Core.Option.{Option, none, some}
 use mathlib.Core.Path.{_≡_}
@@ -14,12 +14,11 @@ use Rattle.records.specs.Sheet.{SheetValue, sheetValue, sheetOf}
 use Rattle.tesl.specs.Lists.{all, flatMap}
 use Rattle.tesl.specs.Fits.{Obligation, owedAtStart}
 use Rattle.tesl.specs.Remainder.{Remainder}
-use Rattle.judge.specs.declared.remainder.Remainder as arrays
 use Rattle.judge.specs.declared.held.Count.the-variants.{Live}
 use Rattle.judge.specs.declared.answer.Reply.the-variants as reply
 use Rattle.judge.specs.declared.monitor.Monitor.{Monitor}
 use Rattle.judge.specs.declared.monitor.Given.{Given}
-use Rattle.judge.specs.View.{cut, heldOf, liveOf, seenOf, tagsBefore, sized}
+use Rattle.judge.specs.View.{blankRemainder, cut, heldOf, liveOf, seenOf, tagsBefore, sized}
 use Rattle.judge.specs.Lines.{smallLeads}
 use Rattle.judge.specs.Work.{addedAll, worked}
 use Rattle.judge.specs.Start.{firstOwing}
@@ -37,16 +36,6 @@ abbrev pub lastBy : Monitor → Option (List ℤ)
 lastBy m = cond (eqb (m .instants) 0) none (some (take (m .sheet .clocks) (m .tags)))
 
 -- ---- no monitor
-
--- nothing is owed, no line leads, no clock is stopped
-abbrev pub blankRemainder : arrays.Remainder
-blankRemainder =
-    record {
-      owed = 0;
-      obligations = replicate 8 (record { clock = 0; on = 0; due = pos 0 });
-      leads = replicate 16 0;
-      stopped = replicate 8 false;
-    }
 
 abbrev pub blankMonitor : Sheet → Monitor
 blankMonitor s = record { sheet = s; instants = 0; tags = replicate 8 (pos 0); held = record { count = Live 0; remainders = replicate 32 blankRemainder } }

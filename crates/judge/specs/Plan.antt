@@ -1,22 +1,21 @@
 -- A sheet's lines in an array of numbers, five to a row, and what is found out about a sheet once.
-use mathlib.Core.Bool.{Bool, true, false, cond}
+use mathlib.Core.Bool.{Bool, true, false, cond, _&&_}
 use mathlib.Core.List.{List}
 use mathlib.Core.Path.{_≡_}
 use Prim.Native.Nat.{ℕ, _+_, _*_, _%_, _≤_, _<_}
-use lib.Dec.{eqb}
+use lib.Dec.{eqb, ltb}
 use lib.ListN.{length, getD, replicate}
 use Rattle.records.specs.declared.line.Line.{Line}
 use Rattle.records.specs.declared.line.Line.the-variants.{Sporadic, Relation, Implies, Excludes, Delayed, Weakly, Strictly, Kills}
 use Rattle.records.specs.declared.sheet.Sheet.{Sheet}
 use Rattle.records.specs.Lists.{listed}
 use Rattle.records.specs.Word.{tagOf}
-use Rattle.records.specs.Line.{blankLine, ofRelation, ofDelayed}
-use Rattle.records.specs.Sheet.{sheetValue}
+use Rattle.records.specs.Line.{blankLine, ofRelation, ofDelayed, ofPrecedes}
+use Rattle.records.specs.Sheet.{SheetValue, sheetValue}
 use Rattle.tesl.specs.Lists.{filter, flatMap}
 use Rattle.judge.specs.declared.plan.Plan.{Plan}
 use Rattle.judge.specs.declared.plan.Part.{Part}
 use Rattle.judge.specs.declared.plan.Part.the-variants.{All, Relations, Rules, Delays}
-use Rattle.judge.specs.Rows.{Leading}
 use Rattle.judge.specs.Heed.{namedBy, flagged}
 
 -- ---- the parts of a sheet
@@ -37,6 +36,9 @@ isRule (Strictly A B) = false
 
 abbrev pub isDelay : Line → Bool
 isDelay l = ofDelayed false (λ A B D d. true) l
+
+abbrev pub isPrecedes : Line → Bool
+isPrecedes l = ofPrecedes false (λ A B. true) l
 
 abbrev pub belongs : Part → Line → Bool
 belongs All l = true
@@ -68,16 +70,65 @@ linesIn lines from n = listed (λ j. lineIn lines (from + j)) n
 
 -- ---- the plan
 
--- all lines from row 0 on, the relations from 16, the rules from 32, the delay lines from 48 on; the precedes lines; the clocks that lines name
-pub record Planned (s : Sheet) (p : Plan) (lines : List ℕ) : Type 0 where
-  pub size : length lines ≡ 320
-  pub all : (k : ℕ) → k < s .count → lineIn lines k ≡ getD (sheetValue s .lines) k blankLine
+-- the precedes lines of a sheet stand before place `reach`, where `precede` has a flag
+abbrev pub Leading : SheetValue → ℕ → List Bool → Type 0
+Leading v reach precede = (reach ≤ 16) × ((i : ℕ) → isPrecedes (getD (v .lines) i blankLine) ≡ (ltb i reach && getD precede i false))
+
+-- what the code asks of a plan, whatever the sheet
+pub record Fitting (p : Plan) : Type 0 where
+  pub clocks : p .clocks ≤ 8
+  pub reach : p .reach ≤ 16
   pub few-relations : p .relations ≤ 16
-  pub relations : linesIn lines 16 (p .relations) ≡ filter isRelation (sheetValue s .lines)
   pub few-rules : p .rules ≤ 16
-  pub rules : linesIn lines 32 (p .rules) ≡ filter isRule (sheetValue s .lines)
   pub few-delays : p .delays ≤ 16
-  pub delays : linesIn lines 48 (p .delays) ≡ filter isDelay (sheetValue s .lines)
-  pub far : p .reach ≤ s .count
-  pub leading : Leading (sheetValue s) (p .reach) (p .precede)
-  pub named : p .named ≡ flagged (flatMap namedBy (sheetValue s .lines)) (replicate 8 false)
+
+-- what was found out about a sheet: all lines from row 0 on, the relations from 16, the rules from 32, the delay lines from 48 on; the precedes lines; the clocks that lines name
+pub record Planned (v : SheetValue) (p : Plan) (lines : List ℕ) : Type 0 where
+  pub as-many : p .clocks ≡ v .clocks
+  pub few-clocks : v .clocks ≤ 8
+  pub all : (k : ℕ) → k < p .reach → lineIn lines k ≡ getD (v .lines) k blankLine
+  pub relations : linesIn lines 16 (p .relations) ≡ filter isRelation (v .lines)
+  pub rules : linesIn lines 32 (p .rules) ≡ filter isRule (v .lines)
+  pub delays : linesIn lines 48 (p .delays) ≡ filter isDelay (v .lines)
+  pub leading : Leading v (p .reach) (p .precede)
+  pub named : p .named ≡ flagged (flatMap namedBy (v .lines)) (replicate 8 false)
+
+-- ---- gathered from a sheet, with the precedes lines before place r
+
+pub record Reaches (s : Sheet) (r : ℕ) : Type 0 where
+  pub within : r ≤ s .count
+  pub past : (i : ℕ) → r ≤ i → isPrecedes (getD (sheetValue s .lines) i blankLine) ≡ false
+
+-- row j of 64
+pub record LineRow (lines : List ℕ) (j : ℕ) : Type 0 where
+  pub size : length lines ≡ 320
+  pub row : j < 64
+
+-- a line in row j; the rows before stay
+pub record PutLine (j : ℕ) (l : Line) (a b : List ℕ) : Type 0 where
+  pub size : length b ≡ 320
+  pub there : lineIn b j ≡ l
+  pub before : (h : ℕ) → h < j → lineIn b h ≡ lineIn a h
+
+pub record Gathering (s : Sheet) (lines : List ℕ) (from : ℕ) : Type 0 where
+  pub few : s .count ≤ 16
+  pub size : length lines ≡ 320
+  pub room : from ≤ 48
+
+-- the r lines of a part from row `from` on; the rows before stay
+pub record GatheredPart (s : Sheet) (part : Part) (from r : ℕ) (a b : List ℕ) : Type 0 where
+  pub size : length b ≡ 320
+  pub few : r ≤ 16
+  pub lines : linesIn b from r ≡ filter (belongs part) (sheetValue s .lines)
+  pub before : (h : ℕ) → h < from → lineIn b h ≡ lineIn a h
+
+pub record Preparing (s : Sheet) (lines : List ℕ) : Type 0 where
+  pub few-lines : s .count ≤ 16
+  pub few-clocks : s .clocks ≤ 8
+  pub size : length lines ≡ 320
+
+-- a plan of the sheet
+pub record PlanOf (s : Sheet) (p : Plan) (lines : List ℕ) : Type 0 where
+  pub size : length lines ≡ 320
+  pub fits : Fitting p
+  pub planned : Planned (sheetValue s) p lines

@@ -1,97 +1,125 @@
--- Remainders in lent arrays, a row each.
-use mathlib.Core.Bool.{Bool, true, false, cond, _&&_}
+-- Remainders in one array of words, a row of 64 each. A row: 0 its count of obligations, 1 to 8 their clocks, 9 to 16 their on-clocks, 17 to 24 their dues; 25 to 40 the leads; 41 to 48 the stopped clocks; 15 words are free. A power of two, so that a row is found by a shift.
+use mathlib.Core.Bool.{Bool, true, cond}
 use mathlib.Core.List.{List}
 use mathlib.Core.Option.{Option, none, some}
 use mathlib.Core.Path.{_≡_}
-use Prim.Native.Nat.{ℕ, _+_, _*_, _≤_, _<_}
-use lib.Dec.{ltb}
-use lib.IntN.{ℤ, pos}
+use Prim.Native.Nat.{ℕ, _+_, _*_, _%_, _-_, _≤_, _<_}
 use lib.ListN.{length, getD}
-use Rattle.records.specs.declared.line.Line.{Line}
 use Rattle.records.specs.Lists.{listed}
-use Rattle.records.specs.Line.{blankLine, ofPrecedes}
 use Rattle.records.specs.Sheet.{SheetValue}
+use Rattle.tesl.specs.Run.{Filled}
 use Rattle.tesl.specs.Fits.{Obligation}
 use Rattle.tesl.specs.Remainder.{Remainder}
-use Rattle.judge.specs.declared.held.Count.{Count}
-use Rattle.judge.specs.declared.held.Count.the-variants.{Exhausted, Live}
-use Rattle.judge.specs.View.{cut}
+use Rattle.judge.specs.declared.obligation.Obligation as code
+use Rattle.judge.specs.Word.{dueOf, flagOf}
+use Rattle.judge.specs.View.{firstOf, blankObligation, cut}
+use Rattle.judge.specs.Owed.{added, kept}
+use Rattle.judge.specs.Carried.{either}
+use Rattle.judge.specs.Work.{addedAll}
 
--- the arrays: of a row the count of its obligations, their clocks and their on-clocks; their dues; the leads; the stopped clocks
-pub record Rows : Type 0 where
-  pub marks : List ℕ
-  pub dues : List ℤ
-  pub leads : List ℕ
-  pub stopped : List Bool
+-- words of a row, rows, words in all
+abbrev pub width : ℕ
+width = 64
 
-abbrev pub rows : List ℕ → List ℤ → List ℕ → List Bool → Rows
-rows marks dues leads stopped = record { marks = marks; dues = dues; leads = leads; stopped = stopped }
+abbrev pub words : ℕ
+words = 4608
 
--- arrays of 33 rows: 32, and one to build the next in
-pub record Roomy (r : Rows) : Type 0 where
-  pub marks : length (r .marks) ≡ 561
-  pub dues : length (r .dues) ≡ 264
-  pub leads : length (r .leads) ≡ 528
-  pub stopped : length (r .stopped) ≡ 264
+-- ---- what a row is read as
 
--- how many obligations row i has
+-- word p of row i
+abbrev pub word : List ℕ → ℕ → ℕ → ℕ
+word rows i p = getD rows (width * i + p) 0
+
 abbrev pub rowCount : List ℕ → ℕ → ℕ
-rowCount marks i = getD marks (17 * i) 0
+rowCount rows i = word rows i 0
 
--- obligation j of row i
-abbrev pub rowObligation : List ℕ → List ℤ → ℕ → ℕ → Obligation
-rowObligation marks dues i j = record { clock = getD marks (17 * i + 1 + j) 0; due = getD dues (8 * i + j) (pos 0); on = getD marks (17 * i + 9 + j) 0 }
+abbrev pub rowObligation : List ℕ → ℕ → ℕ → Obligation
+rowObligation rows i j = record { clock = word rows i (1 + j) % 256; due = dueOf (word rows i (17 + j)); on = word rows i (9 + j) % 256 }
 
-abbrev pub rowOwed : List ℕ → List ℤ → ℕ → List Obligation
-rowOwed marks dues i = listed (rowObligation marks dues i) (rowCount marks i)
+abbrev pub rowOwed : List ℕ → ℕ → List Obligation
+rowOwed rows i = listed (rowObligation rows i) (rowCount rows i)
 
 abbrev pub rowLead : List ℕ → ℕ → ℕ → ℕ
-rowLead leads i k = getD leads (16 * i + k) 0
+rowLead rows i k = word rows i (25 + k)
+
+abbrev pub rowStop : List ℕ → ℕ → ℕ → Bool
+rowStop rows i k = flagOf (word rows i (41 + k))
 
 abbrev pub rowLeads : List ℕ → ℕ → List ℕ
-rowLeads leads i = listed (rowLead leads i) 16
+rowLeads rows i = listed (rowLead rows i) 16
 
-abbrev pub rowStop : List Bool → ℕ → ℕ → Bool
-rowStop stopped i k = getD stopped (8 * i + k) false
+abbrev pub rowStopped : List ℕ → ℕ → List Bool
+rowStopped rows i = listed (rowStop rows i) 8
 
-abbrev pub rowStopped : List Bool → ℕ → List Bool
-rowStopped stopped i = listed (rowStop stopped i) 8
+-- with the leads of sixteen lines and the stopped ones of eight clocks
+abbrev pub rowOf : List ℕ → ℕ → Remainder
+rowOf rows i = record { owed = rowOwed rows i; leads = rowLeads rows i; stopped = rowStopped rows i }
 
--- row i, with the leads of sixteen lines and the stopped ones of eight clocks
-abbrev pub rowOf : Rows → ℕ → Remainder
-rowOf r i = record { owed = rowOwed (r .marks) (r .dues) i; leads = rowLeads (r .leads) i; stopped = rowStopped (r .stopped) i }
+-- n rows from `first` on, as remainders of a sheet
+abbrev pub rowsOf : SheetValue → List ℕ → ℕ → ℕ → List Remainder
+rowsOf v rows first n = listed (λ k. cut v (rowOf rows (first + k))) n
 
--- the first n rows as remainders of a sheet
-abbrev pub rowsOf : SheetValue → ℕ → Rows → List Remainder
-rowsOf v n r = listed (λ i. cut v (rowOf r i)) n
-
--- those found; `none` once exhausted
-abbrev pub foundIn : SheetValue → Count → Rows → Option (List Remainder)
-foundIn v Exhausted r = none
-foundIn v (Live n) r = some (rowsOf v n r)
-
--- the first n rows have at most eight obligations each
-abbrev pub Small : ℕ → List ℕ → Type 0
-Small n marks = (i : ℕ) → i < n → rowCount marks i ≤ 8
-
--- counts that the arrays have room for
-abbrev pub SmallIn : Count → ℕ → List ℕ → Type 0
-SmallIn Exhausted room marks = Small 0 marks
-SmallIn (Live n) room marks = (n ≤ room) × Small n marks
-
--- what the rows before row i owe stays
-abbrev pub OwedStays : ℕ → List ℕ → List ℤ → List ℕ → List ℤ → Type 0
-OwedStays i marks dues newmarks newdues =
-    (h : ℕ) → h < i → rowCount marks h ≤ 8 → (rowCount newmarks h ≡ rowCount marks h) × (rowOwed newmarks newdues h ≡ rowOwed marks dues h)
+-- each of n rows from `first` on has at most eight obligations
+abbrev pub Small : List ℕ → ℕ → ℕ → Type 0
+Small rows first n = (k : ℕ) → k < n → rowCount rows (first + k) ≤ 8
 
 -- x, if there is one
 abbrev pub provided : {A : Type 0} → Bool → A → Option A
 provided there x = cond there (some x) none
 
--- ---- precedes lines
-abbrev pub isPrecedes : Line → Bool
-isPrecedes l = ofPrecedes false (λ A B. true) l
+-- ---- what stays: b is a but for the words lo to hi - 1 of row i
+pub record Stays (i lo hi : ℕ) (a b : List ℕ) : Type 0 where
+  pub size : length b ≡ length a
+  pub same : (h p : ℕ) → p < width → (h ≡ i → lo ≤ p → p < hi → ⊥) → word b h p ≡ word a h p
 
--- the precedes lines of a sheet stand before place `reach`, where `precede` has a flag
-abbrev pub Leading : SheetValue → ℕ → List Bool → Type 0
-Leading v reach precede = (reach ≤ 16) × ((i : ℕ) → isPrecedes (getD (v .lines) i blankLine) ≡ (ltb i reach && getD precede i false))
+-- the rows of the head stay
+abbrev pub HeadStays : List ℕ → List ℕ → Type 0
+HeadStays a b = (h p : ℕ) → h < 6 → p < width → word b h p ≡ word a h p
+
+-- ---- contracts: of one row, and of a row that gives another; 72 rows, 6 of the head and 33 of each side, 32 and one to build the next in
+
+pub record Row (rows : List ℕ) (i : ℕ) : Type 0 where
+  pub size : length rows ≡ words
+  pub row : i < 72
+  pub few : rowCount rows i ≤ 8
+
+pub record Between (rows : List ℕ) (i to : ℕ) : Type 0 where
+  pub size : length rows ≡ words
+  pub row : i < 72
+  pub into : to < 72
+  pub apart : i ≡ to → ⊥
+
+pub record PutObligation (i j : ℕ) (o : Obligation) (a b : List ℕ) : Type 0 where
+  pub stays : Stays i 1 25 a b
+  pub here : rowObligation b i j ≡ o
+  pub others : (k : ℕ) → k < 8 → (k ≡ j → ⊥) → rowObligation b i k ≡ rowObligation a i k
+
+-- those owed, and nothing past them
+pub record ObligationsAt (i n : ℕ) (os : List code.Obligation) (rows : List ℕ) : Type 0 where
+  pub owed : firstOf n os ≡ rowOwed rows i
+  pub rest : (j : ℕ) → n ≤ j → getD os j blankObligation ≡ blankObligation
+
+pub record KeptRow (f : Filled) (i to : ℕ) (r : Bool) (a b : List ℕ) : Type 0 where
+  pub stays : Stays to 0 25 a b
+  pub owed : provided r (rowOwed b to) ≡ kept f (rowOwed a i)
+  pub few : r ≡ true → rowCount b to ≤ 8
+
+pub record AddedRow (i : ℕ) (o : Obligation) (r : Bool) (a b : List ℕ) : Type 0 where
+  pub stays : Stays i 0 25 a b
+  pub owed : provided r (rowOwed b i) ≡ added (rowOwed a i) o
+  pub few : rowCount b i ≤ 8
+
+-- with obligations that were begun
+pub record BegunRow (i : ℕ) (os : List Obligation) (r : Bool) (a b : List ℕ) : Type 0 where
+  pub stays : Stays i 0 25 a b
+  pub owed : provided r (rowOwed b i) ≡ addedAll os (rowOwed a i)
+  pub few : rowCount b i ≤ 8
+
+-- leads with what precedes lines gain and without what they lose, where they are small
+pub record LeadsOn (reach : ℕ) (gains losses : List ℕ) (i to : ℕ) (a b : List ℕ) : Type 0 where
+  pub stays : Stays to 25 41 a b
+  pub leads : (k : ℕ) → k < reach → rowLead a i k < 65536 → rowLead b to k ≡ rowLead a i k + getD gains k 0 - getD losses k 0
+
+pub record StoppedOn (stops : List Bool) (i to : ℕ) (a b : List ℕ) : Type 0 where
+  pub stays : Stays to 41 49 a b
+  pub stopped : rowStopped b to ≡ either (rowStopped a i) stops

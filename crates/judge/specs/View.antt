@@ -2,12 +2,13 @@
 use mathlib.Core.Bool.{Bool, true, false, cond, _&&_}
 use mathlib.Core.List.{List, [], _∷_, map}
 use mathlib.Core.Option.{Option, none, some}
-use Prim.Native.Nat.{ℕ}
+use mathlib.Core.Path.{_≡_}
+use Prim.Native.Nat.{ℕ, _≤_}
 use lib.Dec.{leb}
-use lib.IntN.{ℤ}
-use lib.ListN.{take}
+use lib.IntN.{ℤ, pos}
+use lib.ListN.{getD, replicate, take}
 use Rattle.records.specs.declared.line.Line.{Line}
-use Rattle.records.specs.Line.{ofPrecedes}
+use Rattle.records.specs.Line.{blankLine, ofPrecedes}
 use Rattle.records.specs.declared.instant.Tick.{Tick}
 use Rattle.records.specs.declared.instant.TickSlot.{TickSlot}
 use Rattle.records.specs.Sheet.{SheetValue}
@@ -51,6 +52,13 @@ owedOf r = firstOf (r .owed) (r .obligations)
 abbrev pub remainderOf : arrays.Remainder → Remainder
 remainderOf r = record { owed = owedOf r; leads = r .leads; stopped = r .stopped }
 
+abbrev pub blankObligation : code.Obligation
+blankObligation = record { clock = 0; on = 0; due = pos 0 }
+
+-- nothing is owed, no line leads, no clock is stopped
+abbrev pub blankRemainder : arrays.Remainder
+blankRemainder = record { owed = 0; obligations = replicate 8 blankObligation; leads = replicate 16 0; stopped = replicate 8 false }
+
 -- what is owed, apart from the rest
 abbrev pub owedIn : apart.Owed → List Obligation
 owedIn r = firstOf (r .count) (r .obligations)
@@ -71,6 +79,12 @@ cut v r = record { owed = r .owed; leads = nextLeads inUse (v .lines) (r .leads)
 -- a remainder of a sheet; unused places are no part of it
 abbrev pub viewOf : SheetValue → arrays.Remainder → Remainder
 viewOf v r = cut v (remainderOf r)
+
+-- unused places are as in the blank remainder: obligations past those owed, leads of lines that have none, clocks past the sheet's
+pub record NothingUnused (v : SheetValue) (r : arrays.Remainder) : Type 0 where
+  pub obligations : (j : ℕ) → r .owed ≤ j → getD (r .obligations) j blankObligation ≡ blankObligation
+  pub leads : (k : ℕ) → getD (r .leads) k 0 ≡ inUse (getD (v .lines) k blankLine) (getD (r .leads) k 0)
+  pub stopped : (k : ℕ) → v .clocks ≤ k → getD (r .stopped) k false ≡ false
 
 -- ---- what is worked on
 

@@ -1,82 +1,95 @@
-// What a filled instant makes of a row: whether the row fits, and the row that it becomes, built in place in a second set of arrays.
-use crate::begun::begun_at;
-use crate::begun::begun_count;
+// What a filled instant makes of a row: the row that it becomes, built in place in another row of the same array.
+use crate::filling::Filling;
 use crate::obligation::Obligation;
 use crate::obligation::is_late;
 use crate::obligation::is_met;
 use crate::obligation::same_obligation;
+use crate::plan::Plan;
+use crate::rows::COUNT;
+use crate::rows::LEADS;
+use crate::rows::SIZE;
+use crate::rows::STOPPED;
 use crate::rows::obligation_at;
 use crate::rows::put_obligation;
+use crate::rows::put_word;
 use crate::rows::row_count;
+use crate::rows::word_at;
+use crate::word::count_word;
+use crate::word::flag_in;
+use crate::word::flag_word;
 ghost use mathlib.Core.Path.{_≡_};
-ghost use mathlib.Core.Bool.{true};
-ghost use Prim.Native.Nat.{ℕ, _+_, _-_, _≤_, _<_};
+ghost use Prim.Native.Nat.{ℕ, _+_, _-_, _<_, _≤_};
 ghost use lib.Dec.{leb};
-ghost use lib.ListN.{length, getD};
+ghost use lib.ListN.{getD};
 ghost use Rattle.records.specs.Lists.{listed};
 ghost use Rattle.tesl.specs.Lists.{any, below};
 ghost use Rattle.tesl.specs.Remainder.{sameObligation};
 ghost use Rattle.theory.specs.Step.{overlap};
-ghost use Rattle.judge.specs.View.{obligationOf, filledOf};
-ghost use Rattle.judge.specs.Carried.{either};
-ghost use Rattle.judge.specs.Owed.{added, kept};
-ghost use Rattle.judge.specs.Work.{addedAll};
-ghost use Rattle.judge.specs.Begun.{begunCount, begunIn};
-ghost use Rattle.judge.specs.Rows.{rowCount, rowOwed, rowLead, rowLeads, rowStop, rowStopped, provided, OwedStays};
+ghost use Rattle.judge.specs.View.{obligationOf, firstOf, filledOf};
+ghost use Rattle.judge.specs.Rows.{rowCount, rowOwed, rowLead, rowStop, Row, Between, KeptRow, AddedRow, BegunRow, LeadsOn, StoppedOn};
+ghost use Rattle.judge.specs.Filling.{Advancing, AdvancedRow};
+
+// What becomes of a row: it doesn't fit, it would owe more than eight, or it goes on.
+pub enum Next {
+    Fails,
+    Over,
+    Onto,
+}
 
 // A clock of the sheet that is stopped in row i ticks.
-pub(crate) fn is_barred(clocks: usize, stopped: &[bool], i: usize, ticks: [bool; 8]) -> bool
-    requires { ⌜ (clocks ≤ 8) × ((length (now stopped) ≡ 264) × (i < 33)) ⌝ }
-    ensures { λ r. ⌜ r ≡ overlap ticks (listed (rowStop (now (stopped .entry)) i) clocks) ⌝ }
+fn is_barred(rows: &[u32; SIZE], i: usize, clocks: usize, ticks: [bool; 8]) -> bool
+    requires { ⌜ (i < 72) × (clocks ≤ 8) ⌝ }
+    ensures { λ r. ⌜ r ≡ overlap ticks (listed (rowStop (now (rows .entry)) i) clocks) ⌝ }
 {
-    let mut found = false;
     let mut k = 0;
     while k < clocks {
         if ticks[k] {
-            if stopped[8 * i + k] {
-                found = true;
+            if flag_in(word_at(rows, i, STOPPED + k)) {
+                return true;
             }
         }
         k += 1;
     }
-    found
+    false
+}
+
+fn is_enough(lead: u32, need: u16) -> bool
+    ensures { λ r. ⌜ r ≡ leb need lead ⌝ }
+{
+    (need as u32) <= lead
 }
 
 // Each lead of row i is what is needed, or more.
-pub(crate) fn leads_hold(reach: usize, asks: &[u16], leads: &[u16], i: usize) -> bool
-    requires { ⌜ (reach ≤ 16) × ((length (now asks) ≡ 48) × ((length (now leads) ≡ 528) × (i < 33))) ⌝ }
-    ensures { λ r. ⌜ r ≡ below reach (λ (k : ℕ). leb (getD (now (asks .entry)) k 0) (rowLead (now (leads .entry)) i k)) ⌝ }
+fn leads_hold(rows: &[u32; SIZE], i: usize, reach: usize, needs: [u16; 16]) -> bool
+    requires { ⌜ (i < 72) × (reach ≤ 16) ⌝ }
+    ensures { λ r. ⌜ r ≡ below reach (λ (k : ℕ). leb (getD needs k 0) (rowLead (now (rows .entry)) i k)) ⌝ }
 {
     let mut k = reach;
     while 0 < k {
         k -= 1;
-        let need = asks[k];
-        if leads[16 * i + k] < need {
+        if !is_enough(word_at(rows, i, LEADS + k), needs[k]) {
             return false;
         }
     }
     true
 }
 
-// Stores in row `to` of the second arrays what row i owes that a filled instant doesn't meet; the rows before it stay. False: one of the rest is late.
-pub(crate) fn keep_row(
-    marks: &[u8],
-    dues: &[i32],
+// Stores in row `to` what row i owes that a filled instant doesn't meet. False: one of the rest is late.
+fn keep_row(
+    rows: &mut [u32; SIZE],
     i: usize,
+    to: usize,
     ticks: [bool; 8],
     tags: [i16; 8],
-    outmarks: &mut [u8],
-    outdues: &mut [i32],
-    to: usize,
 ) -> bool
-    requires { ⌜ (length (now marks) ≡ 561) × ((length (now dues) ≡ 264) × ((i < 33) × ((rowCount (now marks) i ≤ 8) × ((length (now outmarks) ≡ 561) × ((length (now outdues) ≡ 264) × (to < 33)))))) ⌝ }
-    ensures { λ r. ⌜ (length (now (outmarks .exit)) ≡ 561) × ((length (now (outdues .exit)) ≡ 264) × ((provided r (rowOwed (now (outmarks .exit)) (now (outdues .exit)) to) ≡ kept (filledOf ticks tags) (rowOwed (now (marks .entry)) (now (dues .entry)) i)) × ((r ≡ true → rowCount (now (outmarks .exit)) to ≤ 8) × OwedStays to (now (outmarks .entry)) (now (outdues .entry)) (now (outmarks .exit)) (now (outdues .exit))))) ⌝ }
+    requires { ⌜ Between (now rows) i to × (rowCount (now rows) i ≤ 8) ⌝ }
+    ensures { λ r. ⌜ KeptRow (filledOf ticks tags) i to r (now (rows .entry)) (now (rows .exit)) ⌝ }
 {
-    let n = row_count(marks, i);
+    let n = row_count(rows, i);
     let mut count = 0;
     let mut j = 0;
     while j < n {
-        let o = obligation_at(marks, dues, i, j);
+        let o = obligation_at(rows, i, j);
         j += 1;
         if is_met(o, ticks, tags) {
             continue;
@@ -84,22 +97,22 @@ pub(crate) fn keep_row(
         if is_late(o, tags) {
             return false;
         }
-        put_obligation(outmarks, outdues, to, count, o);
+        put_obligation(rows, to, count, o);
         count += 1;
     }
-    outmarks[17 * to] = count as u8;
+    put_word(rows, to, COUNT, count_word(count));
     true
 }
 
 // Row i owes o.
-fn row_owes(marks: &[u8], dues: &[i32], i: usize, o: Obligation) -> bool
-    requires { ⌜ (length (now marks) ≡ 561) × ((length (now dues) ≡ 264) × ((i < 33) × (rowCount (now marks) i ≤ 8))) ⌝ }
-    ensures { λ r. ⌜ r ≡ any (sameObligation (obligationOf o)) (rowOwed (now (marks .entry)) (now (dues .entry)) i) ⌝ }
+fn row_owes(rows: &[u32; SIZE], i: usize, o: Obligation) -> bool
+    requires { ⌜ (i < 72) × (rowCount (now rows) i ≤ 8) ⌝ }
+    ensures { λ r. ⌜ r ≡ any (sameObligation (obligationOf o)) (rowOwed (now (rows .entry)) i) ⌝ }
 {
-    let n = row_count(marks, i);
+    let n = row_count(rows, i);
     let mut j = 0;
     while j < n {
-        if same_obligation(o, obligation_at(marks, dues, i, j)) {
+        if same_obligation(o, obligation_at(rows, i, j)) {
             return true;
         }
         j += 1;
@@ -107,39 +120,32 @@ fn row_owes(marks: &[u8], dues: &[i32], i: usize, o: Obligation) -> bool
     false
 }
 
-// Row i with one obligation more, which counts once; the rows before stay. False: a ninth has no room.
-fn add_row(marks: &mut [u8], dues: &mut [i32], i: usize, o: Obligation) -> bool
-    requires { ⌜ (length (now marks) ≡ 561) × ((length (now dues) ≡ 264) × ((i < 33) × (rowCount (now marks) i ≤ 8))) ⌝ }
-    ensures { λ r. ⌜ (length (now (marks .exit)) ≡ 561) × ((length (now (dues .exit)) ≡ 264) × ((provided r (rowOwed (now (marks .exit)) (now (dues .exit)) i) ≡ added (rowOwed (now (marks .entry)) (now (dues .entry)) i) (obligationOf o)) × ((rowCount (now (marks .exit)) i ≤ 8) × OwedStays i (now (marks .entry)) (now (dues .entry)) (now (marks .exit)) (now (dues .exit))))) ⌝ }
+// Row i with one obligation more, which counts once. False: a ninth has no room.
+fn add_row(rows: &mut [u32; SIZE], i: usize, o: Obligation) -> bool
+    requires { ⌜ Row (now rows) i ⌝ }
+    ensures { λ r. ⌜ AddedRow i (obligationOf o) r (now (rows .entry)) (now (rows .exit)) ⌝ }
 {
-    if row_owes(marks, dues, i, o) {
+    if row_owes(rows, i, o) {
         return true;
     }
-    let n = row_count(marks, i);
+    let n = row_count(rows, i);
     if 8 <= n {
         return false;
     }
-    put_obligation(marks, dues, i, n, o);
-    marks[17 * i] = (n + 1) as u8;
+    put_obligation(rows, i, n, o);
+    put_word(rows, i, COUNT, count_word(n + 1));
     true
 }
 
-// Row i with the obligations that were begun; the rows before stay. False: one had no room.
-pub(crate) fn begin_row(
-    begun: &[u8],
-    begundues: &[i32],
-    marks: &mut [u8],
-    dues: &mut [i32],
-    i: usize,
-) -> bool
-    requires { ⌜ (length (now begun) ≡ 33) × ((length (now begundues) ≡ 16) × ((begunCount (now begun) ≤ 16) × ((length (now marks) ≡ 561) × ((length (now dues) ≡ 264) × ((i < 33) × (rowCount (now marks) i ≤ 8)))))) ⌝ }
-    ensures { λ r. ⌜ (length (now (marks .exit)) ≡ 561) × ((length (now (dues .exit)) ≡ 264) × ((provided r (rowOwed (now (marks .exit)) (now (dues .exit)) i) ≡ addedAll (begunIn (now (begun .entry)) (now (begundues .entry))) (rowOwed (now (marks .entry)) (now (dues .entry)) i)) × ((rowCount (now (marks .exit)) i ≤ 8) × OwedStays i (now (marks .entry)) (now (dues .entry)) (now (marks .exit)) (now (dues .exit))))) ⌝ }
+// Row i with the n obligations that were begun. False: one had no room.
+fn begin_row(rows: &mut [u32; SIZE], i: usize, n: usize, begun: [Obligation; 16]) -> bool
+    requires { ⌜ Row (now rows) i × (n ≤ 16) ⌝ }
+    ensures { λ r. ⌜ BegunRow i (firstOf n begun) r (now (rows .entry)) (now (rows .exit)) ⌝ }
 {
-    let n = begun_count(begun);
     let mut j = 0;
     while j < n {
-        let o = begun_at(begun, begundues, j);
-        if !add_row(marks, dues, i, o) {
+        let o = begun[j];
+        if !add_row(rows, i, o) {
             return false;
         }
         j += 1;
@@ -147,55 +153,82 @@ pub(crate) fn begin_row(
     true
 }
 
-// A lead that would fall below 0 stays 0.
-fn moved(lead: u16, gain: u16, loss: u16) -> u16
-    requires { ⌜ lead + gain < 65536 ⌝ }
-    ensures { λ r. ⌜ r ≡ lead + gain - loss ⌝ }
+// A lead that would fall below 0 stays 0, and so does one that is no lead.
+fn moved(lead: u32, gain: u16, loss: u16) -> u32
+    ensures { λ r. ⌜ (lead < 65536 → r ≡ lead + gain - loss) ⌝ }
 {
-    let up = lead + gain;
-    if loss <= up { up - loss } else { 0 }
+    if 65535 < lead {
+        return 0;
+    }
+    let up = lead + (gain as u32);
+    let down = loss as u32;
+    if down <= up { up - down } else { 0 }
 }
 
-// Stores in row `to` of the second array the leads of row i after an instant; the rows before it stay.
-pub(crate) fn leads_on(
-    reach: usize,
-    asks: &[u16],
-    leads: &[u16],
+// Stores in row `to` the leads of row i after an instant.
+fn leads_on(
+    rows: &mut [u32; SIZE],
     i: usize,
-    outleads: &mut [u16],
     to: usize,
+    reach: usize,
+    gains: [u16; 16],
+    losses: [u16; 16],
 )
-    requires { ⌜ (reach ≤ 16) × ((length (now asks) ≡ 48) × ((length (now leads) ≡ 528) × ((i < 33) × ((length (now outleads) ≡ 528) × ((to < 33) × ((k : ℕ) → k < reach → rowLead (now leads) i k + getD (now asks) (16 + k) 0 < 65536)))))) ⌝ }
-    ensures { λ _. ⌜ (length (now (outleads .exit)) ≡ 528) × (((k : ℕ) → k < reach → rowLead (now (outleads .exit)) to k ≡ rowLead (now (leads .entry)) i k + getD (now (asks .entry)) (16 + k) 0 - getD (now (asks .entry)) (32 + k) 0) × ((h : ℕ) → h < to → rowLeads (now (outleads .exit)) h ≡ rowLeads (now (outleads .entry)) h)) ⌝ }
+    requires { ⌜ Between (now rows) i to × (reach ≤ 16) ⌝ }
+    ensures { λ _. ⌜ LeadsOn reach gains losses i to (now (rows .entry)) (now (rows .exit)) ⌝ }
 {
     let mut k = 0;
     while k < reach {
-        let lead = leads[16 * i + k];
-        let gain = asks[16 + k];
-        let loss = asks[32 + k];
-        outleads[16 * to + k] = moved(lead, gain, loss);
+        let lead = word_at(rows, i, LEADS + k);
+        put_word(rows, to, LEADS + k, moved(lead, gains[k], losses[k]));
         k += 1;
     }
 }
 
-// Stores in row `to` of the second array the stopped clocks of row i, with more; the rows before it stay.
-pub(crate) fn stopped_on(
-    stopped: &[bool],
-    i: usize,
-    stops: [bool; 8],
-    outstopped: &mut [bool],
-    to: usize,
-)
-    requires { ⌜ (length (now stopped) ≡ 264) × ((i < 33) × ((length (now outstopped) ≡ 264) × (to < 33))) ⌝ }
-    ensures { λ _. ⌜ (length (now (outstopped .exit)) ≡ 264) × ((rowStopped (now (outstopped .exit)) to ≡ either (rowStopped (now (stopped .entry)) i) stops) × ((h : ℕ) → h < to → rowStopped (now (outstopped .exit)) h ≡ rowStopped (now (outstopped .entry)) h)) ⌝ }
+// Stores in row `to` the stopped clocks of row i, with more.
+fn stopped_on(rows: &mut [u32; SIZE], i: usize, to: usize, stops: [bool; 8])
+    requires { ⌜ Between (now rows) i to ⌝ }
+    ensures { λ _. ⌜ StoppedOn stops i to (now (rows .entry)) (now (rows .exit)) ⌝ }
 {
     let mut k = 0;
     while k < 8 {
         let mut flag = stops[k];
-        if stopped[8 * i + k] {
+        if flag_in(word_at(rows, i, STOPPED + k)) {
             flag = true;
         }
-        outstopped[8 * to + k] = flag;
+        put_word(rows, to, STOPPED + k, flag_word(flag));
         k += 1;
     }
+}
+
+// Builds in row `to` what row i becomes by a filling; a row that it doesn't fit is left at once. What is promised holds of every sheet that the plan and the filling are of.
+pub(crate) fn advance_row(rows: &mut [u32; SIZE], i: usize, to: usize, plan: Plan, f: Filling) -> Next
+    requires { ⌜ Advancing (now rows) i to plan f ⌝ }
+    ensures { λ r. ⌜ AdvancedRow plan f i to r (now (rows .entry)) (now (rows .exit)) ⌝ }
+{
+    let clocks = plan.clocks;
+    let ticks = f.ticks;
+    if is_barred(rows, i, clocks, ticks) {
+        return Next::Fails;
+    }
+    let reach = plan.reach;
+    let needs = f.needs;
+    if !leads_hold(rows, i, reach, needs) {
+        return Next::Fails;
+    }
+    let tags = f.tags;
+    if !keep_row(rows, i, to, ticks, tags) {
+        return Next::Fails;
+    }
+    let count = f.count;
+    let begun = f.begun;
+    if !begin_row(rows, to, count, begun) {
+        return Next::Over;
+    }
+    let gains = f.gains;
+    let losses = f.losses;
+    leads_on(rows, i, to, reach, gains, losses);
+    let stops = f.stops;
+    stopped_on(rows, i, to, stops);
+    Next::Onto
 }

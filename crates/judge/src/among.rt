@@ -1,30 +1,36 @@
 // Rows compared: whether the row after those found is one of them.
 use crate::owed::owes;
+use crate::rows::LEADS;
+use crate::rows::SIZE;
+use crate::rows::STOPPED;
 use crate::rows::obligation_at;
 use crate::rows::obligations_at;
 use crate::rows::row_count;
+use crate::rows::word_at;
+use crate::word::flag_in;
 ghost use mathlib.Core.Path.{_≡_};
 ghost use mathlib.Core.Bool.{Bool·beq, false, not, _||_};
 ghost use Prim.Native.Nat.{ℕ, _+_, _≤_, _<_};
 ghost use lib.Dec.{eqb};
-ghost use lib.ListN.{length, getD};
+ghost use lib.ListN.{getD};
 ghost use Rattle.records.specs.Sheet.{SheetValue};
 ghost use Rattle.tesl.specs.Lists.{any, below};
 ghost use Rattle.judge.specs.View.{cut};
 ghost use Rattle.judge.specs.Work.{sameCounted};
-ghost use Rattle.judge.specs.Rows.{rows, Roomy, rowLead, rowStop, rowOf, rowsOf, Small, Leading};
+ghost use Rattle.judge.specs.Rows.{rowLead, rowStop, rowOf, rowsOf, Small};
+ghost use Rattle.judge.specs.Plan.{Leading};
 
 // Rows i and x lead alike; only the leads of precedes lines are in use.
-fn same_leads(reach: usize, precede: [bool; 16], leads: &[u16], i: usize, x: usize) -> bool
-    requires { ⌜ (reach ≤ 16) × ((length (now leads) ≡ 528) × ((i < 33) × (x < 33))) ⌝ }
-    ensures { λ r. ⌜ r ≡ below reach (λ (k : ℕ). not (getD precede k false) || eqb (rowLead (now (leads .entry)) x k) (rowLead (now (leads .entry)) i k)) ⌝ }
+fn same_leads(rows: &[u32; SIZE], i: usize, x: usize, reach: usize, precede: [bool; 16]) -> bool
+    requires { ⌜ (i < 72) × ((x < 72) × (reach ≤ 16)) ⌝ }
+    ensures { λ r. ⌜ r ≡ below reach (λ (k : ℕ). not (getD precede k false) || eqb (rowLead (now (rows .entry)) x k) (rowLead (now (rows .entry)) i k)) ⌝ }
 {
     let mut k = reach;
     while 0 < k {
         k -= 1;
         if precede[k] {
-            let lead = leads[16 * x + k];
-            if lead != leads[16 * i + k] {
+            let lead = word_at(rows, x, LEADS + k);
+            if lead != word_at(rows, i, LEADS + k) {
                 return false;
             }
         }
@@ -33,56 +39,55 @@ fn same_leads(reach: usize, precede: [bool; 16], leads: &[u16], i: usize, x: usi
 }
 
 // The same of the sheet's clocks are stopped in rows i and x.
-fn same_stopped(clocks: usize, stopped: &[bool], i: usize, x: usize) -> bool
-    requires { ⌜ (clocks ≤ 8) × ((length (now stopped) ≡ 264) × ((i < 33) × (x < 33))) ⌝ }
-    ensures { λ r. ⌜ r ≡ below clocks (λ (k : ℕ). Bool·beq (rowStop (now (stopped .entry)) x k) (rowStop (now (stopped .entry)) i k)) ⌝ }
+fn same_stopped(rows: &[u32; SIZE], i: usize, x: usize, clocks: usize) -> bool
+    requires { ⌜ (i < 72) × ((x < 72) × (clocks ≤ 8)) ⌝ }
+    ensures { λ r. ⌜ r ≡ below clocks (λ (k : ℕ). Bool·beq (rowStop (now (rows .entry)) x k) (rowStop (now (rows .entry)) i k)) ⌝ }
 {
     let mut k = clocks;
     while 0 < k {
         k -= 1;
-        let is_stopped = stopped[8 * x + k];
-        if is_stopped != stopped[8 * i + k] {
+        let is_stopped = flag_in(word_at(rows, x, STOPPED + k));
+        if is_stopped != flag_in(word_at(rows, i, STOPPED + k)) {
             return false;
         }
     }
     true
 }
 
-// Row n is one of the rows before it; the comparison stops at the first equal one.
+// Row first + n is one of the n rows from `first` on; the comparison stops at the first equal one.
 pub(crate) fn is_among(
+    rows: &[u32; SIZE],
+    first: usize,
+    n: usize,
     clocks: usize,
     reach: usize,
     precede: [bool; 16],
-    marks: &[u8],
-    dues: &[i32],
-    leads: &[u16],
-    stopped: &[bool],
-    n: usize,
 ) -> bool
-    requires { ⌜ (clocks ≤ 8) × ((reach ≤ 16) × (Roomy (rows (now marks) (now dues) (now leads) (now stopped)) × ((n ≤ 32) × Small (n + 1) (now marks)))) ⌝ }
-    ensures { λ r. ⌜ ((v : SheetValue) → v .clocks ≡ clocks → Leading v reach precede → r ≡ any (sameCounted (cut v (rowOf (rows (now (marks .entry)) (now (dues .entry)) (now (leads .entry)) (now (stopped .entry))) n))) (rowsOf v n (rows (now (marks .entry)) (now (dues .entry)) (now (leads .entry)) (now (stopped .entry))))) ⌝ }
+    requires { ⌜ (clocks ≤ 8) × ((reach ≤ 16) × ((first + n < 72) × Small (now rows) first (n + 1))) ⌝ }
+    ensures { λ r. ⌜ ((v : SheetValue) → v .clocks ≡ clocks → Leading v reach precede → r ≡ any (sameCounted (cut v (rowOf (now (rows .entry)) (first + n)))) (rowsOf v (now (rows .entry)) first n)) ⌝ }
 {
     if n == 0 {
         return false;
     }
-    let owed = row_count(marks, n);
-    let obligations = obligations_at(marks, dues, n, owed);
-    let mut i = 0;
-    'held: while i < n {
-        let at = i;
-        i += 1;
-        if row_count(marks, at) != owed {
+    let x = first + n;
+    let owed = row_count(rows, x);
+    let obligations = obligations_at(rows, x, owed);
+    let mut k = 0;
+    'held: while k < n {
+        let i = first + k;
+        k += 1;
+        if row_count(rows, i) != owed {
             continue;
         }
-        if !same_leads(reach, precede, leads, at, n) {
+        if !same_leads(rows, i, x, reach, precede) {
             continue;
         }
-        if !same_stopped(clocks, stopped, at, n) {
+        if !same_stopped(rows, i, x, clocks) {
             continue;
         }
         let mut j = 0;
         while j < owed {
-            let o = obligation_at(marks, dues, at, j);
+            let o = obligation_at(rows, i, j);
             if !owes(owed, obligations, o) {
                 continue 'held;
             }

@@ -1,21 +1,20 @@
 // What the monitor answers.
 use crate::held::Count;
 use crate::held::Held;
+use crate::held::live_count;
 use crate::remainder::owed_count;
-use crate::settle::live_count;
+use crate::rows::SIZE;
+use crate::rows::row_count;
 ghost use mathlib.Core.Path.{_≡_};
-ghost use mathlib.Core.Bool.{Bool};
-ghost use mathlib.Core.List.{List};
-ghost use Prim.Native.Nat.{ℕ, _≤_};
+ghost use Prim.Native.Nat.{_+_, _≤_};
 ghost use lib.Dec.{T};
-ghost use lib.IntN.{ℤ};
-ghost use lib.ListN.{length};
 ghost use Rattle.records.specs.Sheet.{SheetValue};
 ghost use Rattle.tesl.specs.Lists.{any};
 ghost use Rattle.tesl.specs.Remainder.{isClear};
 ghost use Rattle.judge.specs.View.{heldOf, liveOf, sized};
 ghost use Rattle.judge.specs.Answer.{answerOf, saidBy};
-ghost use Rattle.judge.specs.Rows.{rows, rowsOf, foundIn, SmallIn};
+ghost use Rattle.judge.specs.Rows.{rowsOf};
+ghost use Rattle.judge.specs.Settle.{foundIn, SmallIn};
 
 // live: how many distinct remainders; clear: one of them has no obligation.
 pub enum Answer {
@@ -67,14 +66,14 @@ pub(crate) fn say(h: Held) -> Answer
     }
 }
 
-// One of the first n rows has no obligation.
-fn is_clear_in(n: usize, marks: &[u8]) -> bool
-    requires { ⌜ (length (now marks) ≡ 561) × (n ≤ 32) ⌝ }
-    ensures { λ r. ⌜ ((v : SheetValue) (dues : List ℤ) (leads : List ℕ) (stopped : List Bool) → r ≡ any isClear (rowsOf v n (rows (now (marks .entry)) dues leads stopped))) ⌝ }
+// One of n rows from row `from` on has no obligation.
+fn is_clear_in(rows: &[u32; SIZE], from: usize, n: usize) -> bool
+    requires { ⌜ from + n ≤ 72 ⌝ }
+    ensures { λ r. ⌜ ((v : SheetValue) → r ≡ any isClear (rowsOf v (now (rows .entry)) from n)) ⌝ }
 {
     let mut i = 0;
     while i < n {
-        if marks[17 * i] == 0 {
+        if row_count(rows, from + i) == 0 {
             return true;
         }
         i += 1;
@@ -82,10 +81,10 @@ fn is_clear_in(n: usize, marks: &[u8]) -> bool
     false
 }
 
-// What those in rows say.
-pub(crate) fn say_rows(count: Count, marks: &[u8]) -> Answer
-    requires { ⌜ (length (now marks) ≡ 561) × SmallIn count 32 (now marks) ⌝ }
-    ensures { λ r. ⌜ ((v : SheetValue) (dues : List ℤ) (leads : List ℕ) (stopped : List Bool) → answerOf r ≡ saidBy (foundIn v count (rows (now (marks .entry)) dues leads stopped))) ⌝ }
+// What those in rows from row `from` on say.
+pub(crate) fn say_rows(rows: &[u32; SIZE], from: usize, count: Count) -> Answer
+    requires { ⌜ (from ≤ 39) × SmallIn count (now rows) from ⌝ }
+    ensures { λ r. ⌜ ((v : SheetValue) → answerOf r ≡ saidBy (foundIn v count (now (rows .entry)) from)) ⌝ }
 {
     match count {
         Count::Exhausted => Answer::Exhausted,
@@ -95,7 +94,7 @@ pub(crate) fn say_rows(count: Count, marks: &[u8]) -> Answer
             }
             Answer::Holding {
                 live: n,
-                clear: is_clear_in(n, marks),
+                clear: is_clear_in(rows, from, n),
             }
         }
     }

@@ -1,4 +1,4 @@
-// The obligations that the delay lines begin by a filling, each once, in lent arrays: `begun` has their count, their clocks and their on-clocks, `begundues` their dues.
+// The obligations that the delay lines begin by a filling, each once.
 use crate::line::Begun;
 use crate::line::begins;
 use crate::obligation::Obligation;
@@ -6,45 +6,27 @@ use crate::obligation::same_obligation;
 use crate::plan::DELAYS;
 use crate::plan::line_in;
 ghost use mathlib.Core.Path.{_≡_};
-ghost use Prim.Native.Nat.{_+_, _≤_, _<_};
-ghost use lib.ListN.{length, set};
-ghost use Rattle.records.specs.Lists.{listed};
+ghost use Prim.Native.Nat.{_≤_};
 ghost use Rattle.tesl.specs.Lists.{any, flatMap};
 ghost use Rattle.tesl.specs.Fits.{owedFrom};
 ghost use Rattle.tesl.specs.Remainder.{sameObligation};
 ghost use Rattle.theory.specs.Adding.{onceEach};
-ghost use Rattle.judge.specs.View.{obligationOf, filledOf};
+ghost use Rattle.judge.specs.View.{obligationOf, firstOf, filledOf};
 ghost use Rattle.judge.specs.Plan.{linesIn};
-ghost use Rattle.judge.specs.Begun.{begunCount, begunObligation, begunIn};
 
-// How many there are.
-pub(crate) fn begun_count(begun: &[u8]) -> usize
-    requires { ⌜ length (now begun) ≡ 33 ⌝ }
-    ensures { λ r. ⌜ r ≡ begunCount (now (begun .entry)) ⌝ }
-{
-    let n = begun[0];
-    n as usize
-}
-
-// Obligation j of them.
-pub(crate) fn begun_at(begun: &[u8], begundues: &[i32], j: usize) -> Obligation
-    requires { ⌜ (length (now begun) ≡ 33) × ((length (now begundues) ≡ 16) × (j < 16)) ⌝ }
-    ensures { λ r. ⌜ obligationOf r ≡ begunObligation (now (begun .entry)) (now (begundues .entry)) j ⌝ }
-{
-    let clock = begun[1 + j];
-    let on = begun[17 + j];
-    let due = begundues[j];
-    Obligation { clock, on, due }
+pub(crate) struct Begins {
+    pub count: usize,
+    pub begun: [Obligation; 16],
 }
 
 // Whether o is among the first n.
-fn has_begun(begun: &[u8], begundues: &[i32], n: usize, o: Obligation) -> bool
-    requires { ⌜ (length (now begun) ≡ 33) × ((length (now begundues) ≡ 16) × (n ≤ 16)) ⌝ }
-    ensures { λ r. ⌜ r ≡ any (sameObligation (obligationOf o)) (listed (begunObligation (now (begun .entry)) (now (begundues .entry))) n) ⌝ }
+fn has_begun(n: usize, begun: [Obligation; 16], o: Obligation) -> bool
+    requires { ⌜ n ≤ 16 ⌝ }
+    ensures { λ r. ⌜ r ≡ any (sameObligation (obligationOf o)) (firstOf n begun) ⌝ }
 {
     let mut j = 0;
     while j < n {
-        if same_obligation(o, begun_at(begun, begundues, j)) {
+        if same_obligation(o, begun[j]) {
             return true;
         }
         j += 1;
@@ -52,31 +34,17 @@ fn has_begun(begun: &[u8], begundues: &[i32], n: usize, o: Obligation) -> bool
     false
 }
 
-// Stores an obligation in place j.
-fn put_begun(begun: &mut [u8], begundues: &mut [i32], j: usize, o: Obligation)
-    requires { ⌜ (length (now begun) ≡ 33) × ((length (now begundues) ≡ 16) × (j < 16)) ⌝ }
-    ensures { λ _. ⌜ (now (begun .exit) ≡ set (set (now (begun .entry)) (1 + j) (o .clock)) (17 + j) (o .on)) × (now (begundues .exit) ≡ set (now (begundues .entry)) j (o .due)) ⌝ }
+// What n delay lines begin: at most one obligation to a line.
+pub(crate) fn begin_all(lines: &[u16; 320], n: usize, ticks: [bool; 8], tags: [i16; 8]) -> Begins
+    requires { ⌜ n ≤ 16 ⌝ }
+    ensures { λ r. ⌜ (r .count ≤ 16) × (firstOf (r .count) (r .begun) ≡ onceEach sameObligation (flatMap (owedFrom (filledOf ticks tags)) (linesIn (now (lines .entry)) 48 n))) ⌝ }
 {
-    let clock = o.clock;
-    let on = o.on;
-    let due = o.due;
-    begun[1 + j] = clock;
-    begun[17 + j] = on;
-    begundues[j] = due;
-}
-
-// Stores what n delay lines begin: at most one obligation to a line.
-pub(crate) fn begin_all(
-    lines: &[u16],
-    n: usize,
-    ticks: [bool; 8],
-    tags: [i16; 8],
-    begun: &mut [u8],
-    begundues: &mut [i32],
-)
-    requires { ⌜ (length (now lines) ≡ 320) × ((n ≤ 16) × ((length (now begun) ≡ 33) × (length (now begundues) ≡ 16))) ⌝ }
-    ensures { λ _. ⌜ (length (now (begun .exit)) ≡ 33) × ((length (now (begundues .exit)) ≡ 16) × ((begunCount (now (begun .exit)) ≤ 16) × (begunIn (now (begun .exit)) (now (begundues .exit)) ≡ onceEach sameObligation (flatMap (owedFrom (filledOf ticks tags)) (linesIn (now (lines .entry)) 48 n))))) ⌝ }
-{
+    let none = Obligation {
+        clock: 0,
+        on: 0,
+        due: 0,
+    };
+    let mut begun = [none; 16];
     let mut count = 0;
     let mut j = 0;
     while j < n {
@@ -87,13 +55,13 @@ pub(crate) fn begin_all(
                 continue;
             }
             Begun::Owed(o) => {
-                if has_begun(begun, begundues, count, o) {
+                if has_begun(count, begun, o) {
                     continue;
                 }
-                put_begun(begun, begundues, count, o);
+                begun[count] = o;
                 count += 1;
             }
         }
     }
-    begun[0] = count as u8;
+    Begins { count, begun }
 }

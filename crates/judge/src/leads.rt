@@ -5,14 +5,14 @@ use records::line::Line;
 use records::sheet::Sheet;
 ghost use mathlib.Core.Path.{_≡_};
 ghost use mathlib.Core.Bool.{false};
-ghost use Prim.Native.Nat.{ℕ, _+_, _≤_, _<_};
-ghost use lib.ListN.{length, getD};
+ghost use Prim.Native.Nat.{ℕ, _≤_};
+ghost use lib.ListN.{getD};
 ghost use Rattle.records.specs.Line.{blankLine};
 ghost use Rattle.records.specs.Sheet.{sheetValue};
 ghost use Rattle.theory.specs.Step.{bit};
 ghost use Rattle.judge.specs.Carried.{needOf, gainOf, lossOf};
-ghost use Rattle.judge.specs.Plan.{lineIn};
-ghost use Rattle.judge.specs.Rows.{isPrecedes};
+ghost use Rattle.judge.specs.Plan.{isPrecedes, Reaches};
+ghost use Rattle.judge.specs.Filling.{AskedLeads};
 
 fn precedes(l: Line) -> bool
     ensures { λ r. ⌜ r ≡ isPrecedes l ⌝ }
@@ -32,7 +32,7 @@ fn precedes(l: Line) -> bool
 // Where the last precedes line stands, from 1; 0 without one.
 pub(crate) fn reach_of(s: Sheet) -> usize
     requires { ⌜ s .count ≤ 16 ⌝ }
-    ensures { λ r. ⌜ (r ≤ s .count) × ((i : ℕ) → r ≤ i → isPrecedes (getD (sheetValue s .lines) i blankLine) ≡ false) ⌝ }
+    ensures { λ r. ⌜ Reaches s r ⌝ }
 {
     let mut k = s.count;
     while 0 < k {
@@ -120,17 +120,32 @@ fn loss_of(l: Line, ticks: [bool; 8]) -> u16
     }
 }
 
-// For each of the first `reach` lines the lead that it needs, its ticks of A and its ticks of B: in the first, second and third sixteen places.
-pub(crate) fn ask_leads(lines: &[u16], reach: usize, ticks: [bool; 8], asks: &mut [u16])
-    requires { ⌜ (length (now lines) ≡ 320) × ((reach ≤ 16) × (length (now asks) ≡ 48)) ⌝ }
-    ensures { λ _. ⌜ (length (now (asks .exit)) ≡ 48) × ((k : ℕ) → k < reach → (getD (now (asks .exit)) k 0 ≡ needOf ticks (lineIn (now (lines .entry)) k)) × ((getD (now (asks .exit)) (16 + k) 0 ≡ gainOf ticks (lineIn (now (lines .entry)) k)) × (getD (now (asks .exit)) (32 + k) 0 ≡ lossOf ticks (lineIn (now (lines .entry)) k)))) ⌝ }
+// Of each of the first lines the lead that it needs, its ticks of A and its ticks of B.
+pub(crate) struct Asks {
+    pub needs: [u16; 16],
+    pub gains: [u16; 16],
+    pub losses: [u16; 16],
+}
+
+// For each of the first `reach` lines.
+pub(crate) fn ask_leads(lines: &[u16; 320], reach: usize, ticks: [bool; 8]) -> Asks
+    requires { ⌜ reach ≤ 16 ⌝ }
+    ensures { λ r. ⌜ AskedLeads (now (lines .entry)) reach ticks (r .needs) (r .gains) (r .losses) ⌝ }
 {
+    let mut needs = [0u16; 16];
+    let mut gains = [0u16; 16];
+    let mut losses = [0u16; 16];
     let mut i = 0;
     while i < reach {
         let l = line_in(lines, i);
-        asks[i] = need_of(l, ticks);
-        asks[16 + i] = gain_of(l, ticks);
-        asks[32 + i] = loss_of(l, ticks);
+        needs[i] = need_of(l, ticks);
+        gains[i] = gain_of(l, ticks);
+        losses[i] = loss_of(l, ticks);
         i += 1;
+    }
+    Asks {
+        needs,
+        gains,
+        losses,
     }
 }

@@ -12,8 +12,8 @@ ghost use Rattle.judge.specs.Questions.{tagsHold};
 ghost use Rattle.judge.specs.Plan.{linesIn};
 
 // What n relations ask of the tags.
-pub(crate) fn all_tags_hold(lines: &[u16], n: usize, tags: [i16; 8]) -> bool
-    requires { ⌜ (length (now lines) ≡ 320) × (n ≤ 16) ⌝ }
+pub(crate) fn all_tags_hold(lines: &[u16; 320], n: usize, tags: [i16; 8]) -> bool
+    requires { ⌜ n ≤ 16 ⌝ }
     ensures { λ r. ⌜ r ≡ all (tagsHold tags) (linesIn (now (lines .entry)) 16 n) ⌝ }
 {
     let mut i = 0;

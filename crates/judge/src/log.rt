@@ -1,24 +1,21 @@
 // A whole log: a sheet opened, then its instants, record by record.
 use crate::answer::Reply;
-use crate::held::Count;
-use crate::kept::observe_turn;
+use crate::kept::Kept;
+use crate::kept::kept_of;
+use crate::kept::observe_rows;
 use crate::limits::is_within;
+use crate::list::LIST;
 use crate::monitor::Given;
 use crate::monitor::open;
-use crate::plan::Plan;
 use crate::plan::plan_of;
-use crate::settle::keep_held;
+use crate::rows::SIZE;
+use crate::stored::keep_held;
 use records::number;
 use records::record::Record;
 use records::record::record_at;
-use records::sheet::Sheet;
 ghost use mathlib.Core.Path.{_≡_};
-ghost use mathlib.Core.Bool.{true};
-ghost use lib.ListN.{length};
 ghost use Rattle.tesl.specs.Machine.{judgeLog};
-ghost use Rattle.judge.specs.Limits.{within};
-ghost use Rattle.judge.specs.Rows.{rows, Roomy};
-ghost use Rattle.judge.specs.Kept.{rowsMonitor, given, Prepared};
+ghost use Rattle.judge.specs.Kept.{keptMonitor, given, Ready};
 ghost use Rattle.judge.specs.Log.{judgedOf, Concludes};
 
 // What a whole log came to: the last answer or the number of a refusal, and the count of instants taken before it.
@@ -27,32 +24,19 @@ pub struct Judged {
     pub instants: usize,
 }
 
-// Observes the records of a log one by one, with a monitor kept in rows: it begins in the first set of arrays, and changes sides at each instant.
+// Observes the records of a log one by one, with a monitor kept in rows, where it changes sides at each instant.
 fn observe_records(
     log: &[u8],
     opening: Reply,
-    sheet: Sheet,
-    plan: Plan,
-    lines: &[u16],
-    held: usize,
-    was: [i16; 8],
-    first: Count,
-    marks: &mut [u8],
-    dues: &mut [i32],
-    leads: &mut [u16],
-    stopped: &mut [bool],
-    marks2: &mut [u8],
-    dues2: &mut [i32],
-    leads2: &mut [u16],
-    stopped2: &mut [bool],
-    list: &mut [bool],
+    first: Kept,
+    lines: &[u16; 320],
+    rows: &mut [u32; SIZE],
+    list: &mut [bool; LIST],
 ) -> Judged
-    requires { ⌜ Prepared sheet plan (now lines) × ((within (rowsMonitor sheet held was first (rows (now marks) (now dues) (now leads) (now stopped))) ≡ true) × (Roomy (rows (now marks) (now dues) (now leads) (now stopped)) × (Roomy (rows (now marks2) (now dues2) (now leads2) (now stopped2)) × (length (now list) ≡ 2048)))) ⌝ }
-    ensures { λ r. ⌜ Concludes (given opening (rowsMonitor sheet held was first (rows (now (marks .entry)) (now (dues .entry)) (now (leads .entry)) (now (stopped .entry))))) (now (log .entry)) r ⌝ }
+    requires { ⌜ Ready first (now lines) (now rows) (now list) ⌝ }
+    ensures { λ r. ⌜ Concludes (given opening (keptMonitor first (now (rows .entry)))) (now (log .entry)) r ⌝ }
 {
-    let mut turned = false;
-    let mut count = first;
-    let mut tags = was;
+    let mut kept = first;
     let mut reply = opening;
     let mut instants = 0;
     let mut at = 0;
@@ -66,25 +50,7 @@ fn observe_records(
             }
             Record::Whole { kind: _, len } => {
                 let end = at + number::HEAD_LENGTH + len;
-                let told = observe_turn(
-                    turned,
-                    sheet,
-                    plan,
-                    lines,
-                    held + instants,
-                    tags,
-                    count,
-                    &log[at..end],
-                    marks,
-                    dues,
-                    leads,
-                    stopped,
-                    marks2,
-                    dues2,
-                    leads2,
-                    stopped2,
-                    list,
-                );
+                let told = observe_rows(kept, lines, &log[at..end], rows, list);
                 let said = told.reply;
                 match said {
                     Reply::Refused(_) => {
@@ -94,10 +60,9 @@ fn observe_records(
                         };
                     }
                     Reply::Answered(_) => {
+                        let next = told.kept;
+                        kept = next;
                         reply = said;
-                        count = told.count;
-                        tags = told.tags;
-                        turned = !turned;
                         instants += 1;
                         at = end;
                     }
@@ -125,45 +90,12 @@ fn observe_all(opened: Given, log: &[u8]) -> Judged
     let held = monitor.held;
     let count = held.count;
     let remainders = held.remainders;
-    let mut marks = [0u8; 561];
-    let mut dues = [0i32; 264];
-    let mut leads = [0u16; 528];
-    let mut stopped = [false; 264];
-    let mut marks2 = [0u8; 561];
-    let mut dues2 = [0i32; 264];
-    let mut leads2 = [0u16; 528];
-    let mut stopped2 = [false; 264];
-    let mut list = [false; 2048];
-    keep_held(
-        count,
-        remainders,
-        &mut marks,
-        &mut dues,
-        &mut leads,
-        &mut stopped,
-    );
+    let mut rows = [0u32; SIZE];
+    keep_held(&mut rows, count, remainders);
+    let mut list = [false; LIST];
+    let kept = kept_of(monitor, plan);
     let opening = opened.reply;
-    let instants = monitor.instants;
-    let tags = monitor.tags;
-    observe_records(
-        log,
-        opening,
-        sheet,
-        plan,
-        &lines,
-        instants,
-        tags,
-        count,
-        &mut marks,
-        &mut dues,
-        &mut leads,
-        &mut stopped,
-        &mut marks2,
-        &mut dues2,
-        &mut leads2,
-        &mut stopped2,
-        &mut list,
-    )
+    observe_records(log, opening, kept, &lines, &mut rows, &mut list)
 }
 
 // Judges a sheet and a whole log; the first refusal ends it.

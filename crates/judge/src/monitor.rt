@@ -3,13 +3,16 @@ use crate::answer::Reply;
 use crate::answer::say;
 use crate::held::Count;
 use crate::held::Held;
+use crate::kept::kept_of;
 use crate::kept::observe_rows;
 use crate::limits::is_within;
+use crate::list::LIST;
 use crate::plan::plan_of;
 use crate::remainder::blank_remainder;
-use crate::settle::from_rows;
-use crate::settle::keep_held;
+use crate::rows::SIZE;
 use crate::start::first_remainder;
+use crate::stored::from_rows;
+use crate::stored::keep_held;
 use records::number;
 use records::record::Answer;
 use records::sheet::Sheet;
@@ -111,69 +114,35 @@ pub fn observe(monitor: Monitor, bytes: &[u8]) -> Given
         return refuse(number::MONITOR_LIMITS, monitor);
     }
     let sheet = monitor.sheet;
-    let instants = monitor.instants;
-    let was = monitor.tags;
+    let mut lines = [0u16; 320];
+    let plan = plan_of(sheet, &mut lines);
     let held = monitor.held;
     let count = held.count;
     let remainders = held.remainders;
-    let mut lines = [0u16; 320];
-    let mut marks = [0u8; 561];
-    let mut dues = [0i32; 264];
-    let mut leads = [0u16; 528];
-    let mut stopped = [false; 264];
-    let mut outmarks = [0u8; 561];
-    let mut outdues = [0i32; 264];
-    let mut outleads = [0u16; 528];
-    let mut outstopped = [false; 264];
-    let mut list = [false; 2048];
-    let plan = plan_of(sheet, &mut lines);
-    keep_held(
-        count,
-        remainders,
-        &mut marks,
-        &mut dues,
-        &mut leads,
-        &mut stopped,
-    );
-    let told = observe_rows(
-        sheet,
-        plan,
-        &lines,
-        instants,
-        was,
-        count,
-        bytes,
-        &marks,
-        &dues,
-        &leads,
-        &stopped,
-        &mut outmarks,
-        &mut outdues,
-        &mut outleads,
-        &mut outstopped,
-        &mut list,
-    );
+    let mut rows = [0u32; SIZE];
+    keep_held(&mut rows, count, remainders);
+    let mut list = [false; LIST];
+    let kept = kept_of(monitor, plan);
+    let told = observe_rows(kept, &lines, bytes, &mut rows, &mut list);
     let reply = told.reply;
     match reply {
         Reply::Refused(n) => refuse(n, monitor),
         Reply::Answered(_) => {
-            let next = told.count;
-            let after = from_rows(
-                next,
-                remainders,
-                &outmarks,
-                &outdues,
-                &outleads,
-                &outstopped,
-            );
+            let next = told.kept;
+            let sheet = next.sheet;
+            let plan = next.plan;
+            let count = next.count;
+            let from = next.from;
+            let after = from_rows(&rows, from, count, plan);
             let held = Held {
-                count: next,
+                count,
                 remainders: after,
             };
-            let tags = told.tags;
+            let instants = next.instants;
+            let tags = next.tags;
             let monitor = Monitor {
                 sheet,
-                instants: instants + 1,
+                instants,
                 tags,
                 held,
             };

@@ -1,5 +1,6 @@
-// A sheet's lines in a lent array of numbers, gathered once per sheet: five numbers to a line, its row. All lines stand in the sheet's order from row 0 on; its relations, its rules and its delay lines once more, from rows 16, 32 and 48 on.
+// A sheet's lines in a lent array of numbers, five to a line, its row, and what is found out about the sheet once. All lines stand in the sheet's order from row 0 on; its relations, its rules and its delay lines once more, from rows 16, 32 and 48 on.
 use crate::heed::flag_lines;
+use crate::held::clocks_of;
 use crate::leads::leading_of;
 use crate::leads::reach_of;
 use records::line::Line;
@@ -8,11 +9,8 @@ use records::sheet::Sheet;
 use records::word::raw_of;
 use records::word::tag_of;
 ghost use mathlib.Core.Path.{_≡_};
-ghost use Prim.Native.Nat.{ℕ, _+_, _%_, _≤_, _<_};
-ghost use lib.ListN.{length};
-ghost use Rattle.records.specs.Sheet.{sheetValue};
-ghost use Rattle.tesl.specs.Lists.{filter};
-ghost use Rattle.judge.specs.Plan.{isRelation, isRule, isDelay, belongs, lineBy, lineIn, linesIn, Planned};
+ghost use Prim.Native.Nat.{_%_, _<_};
+ghost use Rattle.judge.specs.Plan.{isRelation, isRule, isDelay, belongs, lineBy, lineIn, LineRow, PutLine, Gathering, GatheredPart, Preparing, PlanOf};
 
 // The rows where relations, rules and delay lines begin.
 pub(crate) const RELATIONS: usize = 16;
@@ -21,8 +19,9 @@ pub(crate) const RULES: usize = 32;
 
 pub(crate) const DELAYS: usize = 48;
 
-// How many relations, rules and delay lines there are; where the last precedes line stands, and which lines are precedes lines; the clocks whose ticks lines ask about.
+// Its clocks; how many relations, rules and delay lines there are; where the last precedes line stands, and which lines are precedes lines; the clocks whose ticks lines ask about.
 pub struct Plan {
+    pub clocks: usize,
     pub relations: usize,
     pub rules: usize,
     pub delays: usize,
@@ -129,8 +128,8 @@ fn line_by(kind: u16, a: u8, b: u8, x: u16, y: u16) -> Line
 }
 
 // The line of row j.
-pub(crate) fn line_in(lines: &[u16], j: usize) -> Line
-    requires { ⌜ (length (now lines) ≡ 320) × (j < 64) ⌝ }
+pub(crate) fn line_in(lines: &[u16; 320], j: usize) -> Line
+    requires { ⌜ j < 64 ⌝ }
     ensures { λ r. ⌜ r ≡ lineIn (now (lines .entry)) j ⌝ }
 {
     let kind = lines[5 * j];
@@ -142,9 +141,9 @@ pub(crate) fn line_in(lines: &[u16], j: usize) -> Line
 }
 
 // Stores five numbers in row j; the rows before stay.
-fn put_numbers(lines: &mut [u16], j: usize, kind: u16, a: u8, b: u8, x: u16, y: u16)
-    requires { ⌜ (length (now lines) ≡ 320) × (j < 64) ⌝ }
-    ensures { λ _. ⌜ (length (now (lines .exit)) ≡ 320) × ((lineIn (now (lines .exit)) j ≡ lineBy kind a b x y) × ((h : ℕ) → h < j → lineIn (now (lines .exit)) h ≡ lineIn (now (lines .entry)) h)) ⌝ }
+fn put_numbers(lines: &mut [u16; 320], j: usize, kind: u16, a: u8, b: u8, x: u16, y: u16)
+    requires { ⌜ LineRow (now lines) j ⌝ }
+    ensures { λ _. ⌜ PutLine j (lineBy kind a b x y) (now (lines .entry)) (now (lines .exit)) ⌝ }
 {
     lines[5 * j] = kind;
     lines[5 * j + 1] = a as u16;
@@ -154,9 +153,9 @@ fn put_numbers(lines: &mut [u16], j: usize, kind: u16, a: u8, b: u8, x: u16, y: 
 }
 
 // Stores a line in row j; the rows before stay.
-fn put_line(lines: &mut [u16], j: usize, l: Line)
-    requires { ⌜ (length (now lines) ≡ 320) × (j < 64) ⌝ }
-    ensures { λ _. ⌜ (length (now (lines .exit)) ≡ 320) × ((lineIn (now (lines .exit)) j ≡ l) × ((h : ℕ) → h < j → lineIn (now (lines .exit)) h ≡ lineIn (now (lines .entry)) h)) ⌝ }
+fn put_line(lines: &mut [u16; 320], j: usize, l: Line)
+    requires { ⌜ LineRow (now lines) j ⌝ }
+    ensures { λ _. ⌜ PutLine j l (now (lines .entry)) (now (lines .exit)) ⌝ }
 {
     match l {
         Line::Sporadic { a, b, t } => put_numbers(lines, j, number::SPORADIC, a, b, raw_of(t), 0),
@@ -175,9 +174,9 @@ fn put_line(lines: &mut [u16], j: usize, l: Line)
 }
 
 // Gathers the lines of a part from row `from` on, in the sheet's order; the rows before stay.
-fn gather(s: Sheet, part: Part, lines: &mut [u16], from: usize) -> usize
-    requires { ⌜ (s .count ≤ 16) × ((length (now lines) ≡ 320) × (from ≤ 48)) ⌝ }
-    ensures { λ r. ⌜ (length (now (lines .exit)) ≡ 320) × ((r ≤ 16) × ((linesIn (now (lines .exit)) from r ≡ filter (belongs part) (sheetValue s .lines)) × ((h : ℕ) → h < from → lineIn (now (lines .exit)) h ≡ lineIn (now (lines .entry)) h))) ⌝ }
+fn gather(s: Sheet, part: Part, lines: &mut [u16; 320], from: usize) -> usize
+    requires { ⌜ Gathering s (now lines) from ⌝ }
+    ensures { λ r. ⌜ GatheredPart s part from r (now (lines .entry)) (now (lines .exit)) ⌝ }
 {
     let n = s.count;
     let mut count = 0;
@@ -196,10 +195,11 @@ fn gather(s: Sheet, part: Part, lines: &mut [u16], from: usize) -> usize
 }
 
 // What is found out about a sheet once.
-pub(crate) fn plan_of(s: Sheet, lines: &mut [u16]) -> Plan
-    requires { ⌜ (s .count ≤ 16) × (length (now lines) ≡ 320) ⌝ }
-    ensures { λ r. ⌜ Planned s r (now (lines .exit)) ⌝ }
+pub(crate) fn plan_of(s: Sheet, lines: &mut [u16; 320]) -> Plan
+    requires { ⌜ Preparing s (now lines) ⌝ }
+    ensures { λ r. ⌜ PlanOf s r (now (lines .exit)) ⌝ }
 {
+    let clocks = clocks_of(s);
     let _all = gather(s, Part::All, lines, 0);
     let relations = gather(s, Part::Relations, lines, RELATIONS);
     let rules = gather(s, Part::Rules, lines, RULES);
@@ -208,6 +208,7 @@ pub(crate) fn plan_of(s: Sheet, lines: &mut [u16]) -> Plan
     let precede = leading_of(s);
     let named = flag_lines(s);
     Plan {
+        clocks,
         relations,
         rules,
         delays,

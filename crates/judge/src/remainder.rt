@@ -3,8 +3,7 @@ use crate::obligation::Obligation;
 ghost use mathlib.Core.Path.{_≡_};
 ghost use Prim.Native.Nat.{_≤_};
 ghost use lib.ListN.{length};
-ghost use Rattle.judge.specs.View.{firstOf, owedOf};
-ghost use Rattle.judge.specs.Monitor.{blankRemainder};
+ghost use Rattle.judge.specs.View.{firstOf, owedOf, blankRemainder};
 
 pub struct Remainder {
     pub owed: usize,

@@ -1,39 +1,90 @@
-// Remainders in lent arrays, a row each: `marks` has a row's count of obligations, their clocks and their on-clocks; beside them are their dues, the leads and the stopped clocks.
+// A monitor in a lent array of words: six rows are its head; then its remainders, a row each, both those held and those found.
 use crate::obligation::Obligation;
-use crate::remainder::Remainder;
+use crate::word::byte_in;
+use crate::word::byte_word;
+use crate::word::count_in;
+use crate::word::due_in;
+use crate::word::due_word;
 ghost use mathlib.Core.Path.{_≡_};
-ghost use mathlib.Core.List.{[], _∷_, _++_};
-ghost use Prim.Native.Nat.{ℕ, _+_, _*_, _≤_, _<_};
+ghost use Prim.Native.Nat.{_+_, _*_, _<_, _≤_};
 ghost use lib.ListN.{length, set};
-ghost use Rattle.records.specs.Sheet.{SheetValue};
-ghost use Rattle.judge.specs.View.{obligationOf, firstOf, owedOf, remainderOf, viewOf};
-ghost use Rattle.judge.specs.Fillings.{flagsIn};
-ghost use Rattle.judge.specs.Rows.{rows, Roomy, rowCount, rowObligation, rowOwed, rowLeads, rowOf, rowsOf, Small, OwedStays};
+ghost use Rattle.judge.specs.View.{obligationOf};
+ghost use Rattle.judge.specs.Rows.{width, words, word, rowCount, rowObligation, PutObligation, ObligationsAt};
+
+// All words, those of a row, and where a row's parts begin.
+pub(crate) const SIZE: usize = 4608;
+
+// The rows of the head: the first side begins after them.
+pub(crate) const HEAD: usize = 6;
+
+// The first rows of the two sides, 6 and 39, together.
+pub(crate) const SIDES: usize = 45;
+
+pub(crate) const WIDTH: usize = 64;
+
+pub(crate) const COUNT: usize = 0;
+
+pub(crate) const CLOCKS: usize = 1;
+
+pub(crate) const ON_CLOCKS: usize = 9;
+
+pub(crate) const DUES: usize = 17;
+
+pub(crate) const LEADS: usize = 25;
+
+pub(crate) const STOPPED: usize = 41;
+
+// Word p of row i.
+pub(crate) fn word_at(rows: &[u32; SIZE], i: usize, p: usize) -> u32
+    requires { ⌜ (i < 72) × (p < width) ⌝ }
+    ensures { λ r. ⌜ r ≡ word (now (rows .entry)) i p ⌝ }
+{
+    rows[WIDTH * i + p]
+}
+
+pub(crate) fn put_word(rows: &mut [u32; SIZE], i: usize, p: usize, w: u32)
+    requires { ⌜ (i < 72) × (p < width) ⌝ }
+    ensures { λ _. ⌜ now (rows .exit) ≡ set (now (rows .entry)) (width * i + p) w ⌝ }
+{
+    rows[WIDTH * i + p] = w;
+}
 
 // How many obligations row i has.
-pub(crate) fn row_count(marks: &[u8], i: usize) -> usize
-    requires { ⌜ (length (now marks) ≡ 561) × (i < 33) ⌝ }
-    ensures { λ r. ⌜ r ≡ rowCount (now (marks .entry)) i ⌝ }
+pub(crate) fn row_count(rows: &[u32; SIZE], i: usize) -> usize
+    requires { ⌜ i < 72 ⌝ }
+    ensures { λ r. ⌜ r ≡ rowCount (now (rows .entry)) i ⌝ }
 {
-    let n = marks[17 * i];
-    n as usize
+    count_in(word_at(rows, i, COUNT))
 }
 
 // Obligation j of row i.
-pub(crate) fn obligation_at(marks: &[u8], dues: &[i32], i: usize, j: usize) -> Obligation
-    requires { ⌜ (length (now marks) ≡ 561) × ((length (now dues) ≡ 264) × ((i < 33) × (j < 8))) ⌝ }
-    ensures { λ r. ⌜ obligationOf r ≡ rowObligation (now (marks .entry)) (now (dues .entry)) i j ⌝ }
+pub(crate) fn obligation_at(rows: &[u32; SIZE], i: usize, j: usize) -> Obligation
+    requires { ⌜ (i < 72) × (j < 8) ⌝ }
+    ensures { λ r. ⌜ obligationOf r ≡ rowObligation (now (rows .entry)) i j ⌝ }
 {
-    let clock = marks[17 * i + 1 + j];
-    let on = marks[17 * i + 9 + j];
-    let due = dues[8 * i + j];
+    let clock = byte_in(word_at(rows, i, CLOCKS + j));
+    let on = byte_in(word_at(rows, i, ON_CLOCKS + j));
+    let due = due_in(word_at(rows, i, DUES + j));
     Obligation { clock, on, due }
 }
 
-// The obligations of row i, at the front of eight places.
-pub(crate) fn obligations_at(marks: &[u8], dues: &[i32], i: usize, n: usize) -> [Obligation; 8]
-    requires { ⌜ (length (now marks) ≡ 561) × ((length (now dues) ≡ 264) × ((i < 33) × ((n ≤ 8) × (n ≡ rowCount (now marks) i)))) ⌝ }
-    ensures { λ r. ⌜ firstOf n r ≡ rowOwed (now (marks .entry)) (now (dues .entry)) i ⌝ }
+// Stores an obligation in place j of row i.
+pub(crate) fn put_obligation(rows: &mut [u32; SIZE], i: usize, j: usize, o: Obligation)
+    requires { ⌜ (length (now rows) ≡ words) × ((i < 72) × (j < 8)) ⌝ }
+    ensures { λ _. ⌜ PutObligation i j (obligationOf o) (now (rows .entry)) (now (rows .exit)) ⌝ }
+{
+    let clock = o.clock;
+    let on = o.on;
+    let due = o.due;
+    put_word(rows, i, CLOCKS + j, byte_word(clock));
+    put_word(rows, i, ON_CLOCKS + j, byte_word(on));
+    put_word(rows, i, DUES + j, due_word(due));
+}
+
+// The n obligations of row i, at the front of eight places; blank ones past them.
+pub(crate) fn obligations_at(rows: &[u32; SIZE], i: usize, n: usize) -> [Obligation; 8]
+    requires { ⌜ (i < 72) × ((n ≤ 8) × (n ≡ rowCount (now rows) i)) ⌝ }
+    ensures { λ r. ⌜ ObligationsAt i n r (now (rows .entry)) ⌝ }
 {
     let none = Obligation {
         clock: 0,
@@ -43,133 +94,9 @@ pub(crate) fn obligations_at(marks: &[u8], dues: &[i32], i: usize, n: usize) -> 
     let mut all = [none; 8];
     let mut j = 0;
     while j < n {
-        let o = obligation_at(marks, dues, i, j);
+        let o = obligation_at(rows, i, j);
         all[j] = o;
         j += 1;
     }
     all
-}
-
-fn leads_at(leads: &[u16], i: usize) -> [u16; 16]
-    requires { ⌜ (length (now leads) ≡ 528) × (i < 33) ⌝ }
-    ensures { λ r. ⌜ r ≡ rowLeads (now (leads .entry)) i ⌝ }
-{
-    let mut all = [0u16; 16];
-    let mut k = 0;
-    while k < 16 {
-        let lead = leads[16 * i + k];
-        all[k] = lead;
-        k += 1;
-    }
-    all
-}
-
-// The eight flags of row i.
-pub(crate) fn flags_at(flags: &[bool], i: usize) -> [bool; 8]
-    requires { ⌜ 8 * i + 8 ≤ length (now flags) ⌝ }
-    ensures { λ r. ⌜ r ≡ flagsIn (now (flags .entry)) i ⌝ }
-{
-    let mut all = [false; 8];
-    let mut k = 0;
-    while k < 8 {
-        let flag = flags[8 * i + k];
-        all[k] = flag;
-        k += 1;
-    }
-    all
-}
-
-// The remainder of row i.
-pub(crate) fn row_at(
-    marks: &[u8],
-    dues: &[i32],
-    leads: &[u16],
-    stopped: &[bool],
-    i: usize,
-) -> Remainder
-    requires { ⌜ Roomy (rows (now marks) (now dues) (now leads) (now stopped)) × ((i < 33) × (rowCount (now marks) i ≤ 8)) ⌝ }
-    ensures { λ r. ⌜ (remainderOf r ≡ rowOf (rows (now (marks .entry)) (now (dues .entry)) (now (leads .entry)) (now (stopped .entry))) i) × (r .owed ≤ 8) ⌝ }
-{
-    let owed = row_count(marks, i);
-    let obligations = obligations_at(marks, dues, i, owed);
-    let leads_here = leads_at(leads, i);
-    let stopped_here = flags_at(stopped, i);
-    Remainder {
-        owed,
-        obligations,
-        leads: leads_here,
-        stopped: stopped_here,
-    }
-}
-
-// Stores an obligation in place j of row i.
-pub(crate) fn put_obligation(marks: &mut [u8], dues: &mut [i32], i: usize, j: usize, o: Obligation)
-    requires { ⌜ (length (now marks) ≡ 561) × ((length (now dues) ≡ 264) × ((i < 33) × (j < 8))) ⌝ }
-    ensures { λ _. ⌜ (now (marks .exit) ≡ set (set (now (marks .entry)) (17 * i + 1 + j) (o .clock)) (17 * i + 9 + j) (o .on)) × (now (dues .exit) ≡ set (now (dues .entry)) (8 * i + j) (o .due)) ⌝ }
-{
-    let clock = o.clock;
-    let on = o.on;
-    let due = o.due;
-    marks[17 * i + 1 + j] = clock;
-    marks[17 * i + 9 + j] = on;
-    dues[8 * i + j] = due;
-}
-
-// Stores what a remainder owes in row i; the rows before stay.
-fn put_obligations(marks: &mut [u8], dues: &mut [i32], i: usize, r: Remainder)
-    requires { ⌜ (length (now marks) ≡ 561) × ((length (now dues) ≡ 264) × ((i < 33) × (r .owed ≤ 8))) ⌝ }
-    ensures { λ _. ⌜ (length (now (marks .exit)) ≡ 561) × ((length (now (dues .exit)) ≡ 264) × ((rowCount (now (marks .exit)) i ≡ r .owed) × ((rowOwed (now (marks .exit)) (now (dues .exit)) i ≡ owedOf r) × OwedStays i (now (marks .entry)) (now (dues .entry)) (now (marks .exit)) (now (dues .exit))))) ⌝ }
-{
-    let n = r.owed;
-    marks[17 * i] = n as u8;
-    let mut j = 0;
-    while j < n {
-        let o = r.obligations[j];
-        put_obligation(marks, dues, i, j, o);
-        j += 1;
-    }
-}
-
-fn put_leads(leads: &mut [u16], i: usize, x: [u16; 16])
-    requires { ⌜ (length (now leads) ≡ 528) × (i < 33) ⌝ }
-    ensures { λ _. ⌜ (length (now (leads .exit)) ≡ 528) × ((rowLeads (now (leads .exit)) i ≡ x) × ((h : ℕ) → h < i → rowLeads (now (leads .exit)) h ≡ rowLeads (now (leads .entry)) h)) ⌝ }
-{
-    let mut k = 0;
-    while k < 16 {
-        let lead = x[k];
-        leads[16 * i + k] = lead;
-        k += 1;
-    }
-}
-
-// Stores eight flags in row i; the rows before stay.
-pub(crate) fn put_flags(flags: &mut [bool], i: usize, x: [bool; 8])
-    requires { ⌜ 8 * i + 8 ≤ length (now flags) ⌝ }
-    ensures { λ _. ⌜ (length (now (flags .exit)) ≡ length (now (flags .entry))) × ((flagsIn (now (flags .exit)) i ≡ x) × ((h : ℕ) → h < i → flagsIn (now (flags .exit)) h ≡ flagsIn (now (flags .entry)) h)) ⌝ }
-{
-    let mut k = 0;
-    while k < 8 {
-        let flag = x[k];
-        flags[8 * i + k] = flag;
-        k += 1;
-    }
-}
-
-// Stores a remainder in row i; the rows before stay.
-pub(crate) fn put_row(
-    marks: &mut [u8],
-    dues: &mut [i32],
-    leads: &mut [u16],
-    stopped: &mut [bool],
-    i: usize,
-    r: Remainder,
-)
-    requires { ⌜ Roomy (rows (now marks) (now dues) (now leads) (now stopped)) × ((i < 33) × ((r .owed ≤ 8) × Small i (now marks))) ⌝ }
-    ensures { λ _. ⌜ Roomy (rows (now (marks .exit)) (now (dues .exit)) (now (leads .exit)) (now (stopped .exit))) × (Small (i + 1) (now (marks .exit)) × ((v : SheetValue) → rowsOf v (i + 1) (rows (now (marks .exit)) (now (dues .exit)) (now (leads .exit)) (now (stopped .exit))) ≡ rowsOf v i (rows (now (marks .entry)) (now (dues .entry)) (now (leads .entry)) (now (stopped .entry))) ++ (viewOf v r ∷ []))) ⌝ }
-{
-    put_obligations(marks, dues, i, r);
-    let leads_here = r.leads;
-    put_leads(leads, i, leads_here);
-    let stopped_here = r.stopped;
-    put_flags(stopped, i, stopped_here);
 }

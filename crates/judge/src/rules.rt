@@ -17,8 +17,8 @@ ghost use Rattle.judge.specs.Plan.{linesIn};
 ghost use Rattle.judge.specs.Rules.{allowed, isSettled, cuts};
 
 // What the rules ask of the ticks.
-pub(crate) fn all_hold(lines: &[u16], n: usize, ticks: [bool; 8]) -> bool
-    requires { ⌜ (length (now lines) ≡ 320) × (n ≤ 16) ⌝ }
+pub(crate) fn all_hold(lines: &[u16; 320], n: usize, ticks: [bool; 8]) -> bool
+    requires { ⌜ n ≤ 16 ⌝ }
     ensures { λ b. ⌜ b ≡ allowed (linesIn (now (lines .entry)) 32 n) ticks ⌝ }
 {
     let mut i = 0;
@@ -59,8 +59,8 @@ fn is_settled(l: Line, k: usize) -> bool
 }
 
 // A rule whose clocks are below k forbids these ticks.
-pub(crate) fn is_cut(lines: &[u16], n: usize, k: usize, ticks: [bool; 8]) -> bool
-    requires { ⌜ (length (now lines) ≡ 320) × (n ≤ 16) ⌝ }
+pub(crate) fn is_cut(lines: &[u16; 320], n: usize, k: usize, ticks: [bool; 8]) -> bool
+    requires { ⌜ n ≤ 16 ⌝ }
     ensures { λ b. ⌜ b ≡ any (cuts k ticks) (linesIn (now (lines .entry)) 32 n) ⌝ }
 {
     let mut i = 0;
@@ -78,8 +78,8 @@ pub(crate) fn is_cut(lines: &[u16], n: usize, k: usize, ticks: [bool; 8]) -> boo
 }
 
 // The clocks that the kills lines stop.
-pub(crate) fn all_stops(lines: &[u16], n: usize, ticks: [bool; 8]) -> [bool; 8]
-    requires { ⌜ (length (now lines) ≡ 320) × (n ≤ 16) ⌝ }
+pub(crate) fn all_stops(lines: &[u16; 320], n: usize, ticks: [bool; 8]) -> [bool; 8]
+    requires { ⌜ n ≤ 16 ⌝ }
     ensures { λ b. ⌜ b ≡ allStopped ticks (linesIn (now (lines .entry)) 32 n) (replicate 8 false) ⌝ }
 {
     let mut stops = [false; 8];

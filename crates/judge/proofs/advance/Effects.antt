@@ -1,41 +1,42 @@
--- A turn of each loop over the clocks, or the leads, of a row. Assumes nothing.
-use mathlib.Core.Bool.{Bool, true, false, _&&_, _||_, or-false, or-assoc}
+-- The clocks in both of two lists, and in either. Assumes nothing.
+use mathlib.Core.Bool.{Bool, true, false, _&&_, _||_, and-false, or-false}
 use mathlib.Core.List.{List, [], _∷_}
 use mathlib.Core.Path.{_≡_, refl, sym, ap, _∙_}
 use Prim.Native.Nat.{ℕ, zero, suc, _+_, _-_, _<_, _≤_}
 use native.Mathlib.Numerals.{add-one}
 use native.Mathlib.Omega.{arith}
-use lib.ListN.{length, drop, getD, set}
-use lib.Seq.{drop-cons, getD-take}
+use lib.ListN.{length, drop, getD}
+use lib.Seq.{drop-cons, ext-getD}
 use Rattle.records.specs.Lists.{listedFrom, listed}
 use Rattle.records.proofs.Lists.{listed-cons, listed-end, length-listed}
 use Rattle.theory.specs.Step.{overlap}
 use Rattle.judge.specs.Carried.{either}
-use Rattle.judge.proofs.Listing.{listed-at, Copied, copied-more}
+use Rattle.judge.proofs.Listing.{listed-at}
 
--- ---- a clock in both: found so far, or from place k on
-module _ (xs : List Bool) (f : ℕ → Bool) (n k : ℕ) (found : Bool) where
-  abbrev pub overlapFrom : Bool
-  overlapFrom = found || overlap (drop k xs) (listedFrom f k (n - k))
-
-module _ (xs : List Bool) (f : ℕ → Bool) (n k : ℕ) (found : Bool) {whole : Bool} (w : whole ≡ overlapFrom xs f n k found) where
+-- ---- a clock in both, from place k on
+module _ (xs : List Bool) (f : ℕ → Bool) (n k : ℕ) {whole : Bool} (w : whole ≡ overlap (drop k xs) (listedFrom f k (n - k))) where
   nothing : (ys : List Bool) → overlap ys [] ≡ false
   nothing [] = refl
   nothing (y ∷ ys) = refl
 
-  pub overlap-end : n ≤ k → found ≡ whole
-  overlap-end h = sym (w ∙ rw (listed-end f n k h, nothing (drop k xs)) (or-false found))
+  pub overlap-end : n ≤ k → false ≡ whole
+  overlap-end h = sym (w ∙ rw (listed-end f n k h) (nothing (drop k xs)))
 
-  pub overlap-more : k < n → k < length xs → (after : Bool) → after ≡ (found || (getD xs k false && f k)) → whole ≡ overlapFrom xs f n (k + 1) after
-  overlap-more h l after e = w ∙ rw (listed-cons f n k h, drop-cons xs k false l, add-one k, e) (sym (or-assoc found (getD xs k false && f k) _))
+  module _ (h : k < n) (l : k < length xs) where
+    turn : whole ≡ ((getD xs k false && f k) || overlap (drop (k + 1) xs) (listedFrom f (k + 1) (n - (k + 1))))
+    turn = w ∙ rw (listed-cons f n k h, drop-cons xs k false l, add-one k)
 
--- ---- a list x stored from place b on: one place more, and a place stored
-module _ {A : Type 0} (d : A) (b : ℕ) (was x l : List A) (k : ℕ) (w : Copied d b was x l k) where
-  pub copied-as : b + k < length was → k < length x → (a : A) → a ≡ getD x k d → Copied d b was x (set l (b + k) a) (k + 1)
-  copied-as h m a e = rw e (copied-more d b was x l k w h m)
+    pub overlap-here : getD xs k false ≡ true → f k ≡ true → true ≡ whole
+    overlap-here a b = sym (turn ∙ rw (a, b))
 
-  pub copied-at : (j : ℕ) → j < k → getD l (b + j) d ≡ getD x j d
-  copied-at j h = sym (listed-at (λ i. getD l (b + i) d) d k j h) ∙ rw (w .1) (getD-take k x j d h)
+    pub overlap-more : (getD xs k false && f k) ≡ false → whole ≡ overlap (drop (k + 1) xs) (listedFrom f (k + 1) (n - (k + 1)))
+    overlap-more a = turn ∙ rw a
+
+pub not-here : (a : Bool) {b : Bool} → b ≡ false → (a && b) ≡ false
+not-here a e = rw e (and-false a)
+
+pub not-barred : {a : Bool} (b : Bool) → a ≡ false → (a && b) ≡ false
+not-barred b e = rw e
 
 -- ---- the clocks in either
 length-either : (xs ys : List Bool) → length (either xs ys) ≡ length xs
@@ -49,16 +50,16 @@ either-at (x ∷ xs) [] k h = sym (or-false (getD (x ∷ xs) k false))
 either-at (x ∷ xs) (y ∷ ys) zero h = refl
 either-at (x ∷ xs) (y ∷ ys) (suc k) h = either-at xs ys k (omega arith)
 
-pub length-both : (f : ℕ → Bool) (n : ℕ) (ys : List Bool) → length (either (listed f n) ys) ≡ n
-length-both f n ys = length-either (listed f n) ys ∙ length-listed f n
+pub either-listed : (f g : ℕ → Bool) (n : ℕ) (ys : List Bool) → ((k : ℕ) → k < n → g k ≡ (f k || getD ys k false)) → listed g n ≡ either (listed f n) ys
+either-listed f g n ys h =
+    ext-getD false (listed g n) (either (listed f n) ys) (length-listed g n ∙ sym (length-either (listed f n) ys ∙ length-listed f n))
+    (λ k l.
+    let m : k < n = omega (arith, length-listed g n) in
+    listed-at g false n k m ∙ h k m ∙ rw (either-at (listed f n) ys k (omega (arith, length-listed f n)), listed-at f false n k m))
 
--- one of them, by whether f k
-module _ (f : ℕ → Bool) (n : ℕ) (ys : List Bool) (k : ℕ) (h : k < n) (b : Bool) where
-  one-either : getD (either (listed f n) ys) k false ≡ (f k || getD ys k false)
-  one-either = either-at (listed f n) ys k (omega (arith, length-listed f n)) ∙ rw (listed-at f false n k h)
+-- one of them, by a
+pub either-yes : {a c : Bool} (b : Bool) → a ≡ true → c ≡ true → c ≡ (a || b)
+either-yes b e s = rw (e, s)
 
-  pub either-yes : f k ≡ true → b ≡ true → b ≡ getD (either (listed f n) ys) k false
-  either-yes e s = s ∙ sym (one-either ∙ rw e)
-
-  pub either-no : f k ≡ false → b ≡ getD ys k false → b ≡ getD (either (listed f n) ys) k false
-  either-no e s = s ∙ sym (one-either ∙ rw e)
+pub either-no : {a b c : Bool} → a ≡ false → c ≡ b → c ≡ (a || b)
+either-no e s = rw (e, s)

@@ -2,7 +2,7 @@
 use mathlib.Core.Bool.{Bool, true, false, not, _&&_, _||_, Bool·beq, and-true, and-false}
 use mathlib.Core.List.{List, [], _∷_}
 use mathlib.Core.Path.{_≡_, refl, sym, ap, ap₂, _∙_}
-use Prim.Native.Nat.{ℕ, zero, suc, _<_, _≤_}
+use Prim.Native.Nat.{ℕ, zero, suc, _+_, _<_, _≤_}
 use native.Mathlib.Omega.{arith}
 use lib.Dec.{eqb}
 use lib.ListN.{length, take, getD, List·getD-eq-default}
@@ -20,7 +20,8 @@ use Rattle.tesl.specs.Remainder.{sameObligation}
 use Rattle.theory.specs.Step.{nextLeads}
 use Rattle.judge.specs.View.{inUse, cut}
 use Rattle.judge.specs.Work.{sameCounted}
-use Rattle.judge.specs.Rows.{Rows, rowCount, rowObligation, rowOwed, rowLead, rowStop, rowOf, rowsOf, isPrecedes, Leading}
+use Rattle.judge.specs.Rows.{rowCount, rowObligation, rowOwed, rowLead, rowStop, rowOf, rowsOf}
+use Rattle.judge.specs.Plan.{isPrecedes, Leading}
 use Rattle.judge.proofs.Below.{below-ext, below-miss, below-front, below-either}
 use Rattle.judge.proofs.Listing.{listed-at, all-listed, any-listed}
 
@@ -43,12 +44,12 @@ module _ {A : Type 0} (same : A → A → Bool) (d : A) where
       ∙ below-ext n _ _ (λ k t. rw (getD-take n (listed f m) k d t, getD-take n (listed g m) k d t, listed-at f d m k (omega arith), listed-at g d m k (omega arith)))
 
 -- ---- the leads in use
-length-used : (ls : List Line) (xs : List ℕ) → length (nextLeads inUse ls xs) ≡ length ls
+pub length-used : (ls : List Line) (xs : List ℕ) → length (nextLeads inUse ls xs) ≡ length ls
 length-used [] xs = refl
 length-used (l ∷ ls) [] = ap suc (length-used ls [])
 length-used (l ∷ ls) (n ∷ xs) = ap suc (length-used ls xs)
 
-used-at : (ls : List Line) (xs : List ℕ) (k : ℕ) → getD (nextLeads inUse ls xs) k 0 ≡ inUse (getD ls k blankLine) (getD xs k 0)
+pub used-at : (ls : List Line) (xs : List ℕ) (k : ℕ) → getD (nextLeads inUse ls xs) k 0 ≡ inUse (getD ls k blankLine) (getD xs k 0)
 used-at [] xs k = refl
 used-at (l ∷ ls) [] zero = refl
 used-at (l ∷ ls) [] (suc k) = used-at ls [] k
@@ -96,14 +97,14 @@ module _ (v : SheetValue) (reach : ℕ) (precede : List Bool) (leading : Leading
       ∙ below-either sameAt (length (v .lines)) reach past-lines past-reach
       ∙ below-ext reach sameAt _ within-reach
 
--- ---- rows n and i
+-- ---- rows x and i
 
--- row n owes obligation j of row i
-abbrev pub owesAt : Rows → ℕ → ℕ → ℕ → Bool
-owesAt r n i j = any (sameObligation (rowObligation (r .marks) (r .dues) i j)) (rowOwed (r .marks) (r .dues) n)
+-- row x owes obligation j of row i
+abbrev pub owesAt : List ℕ → ℕ → ℕ → ℕ → Bool
+owesAt r x i j = any (sameObligation (rowObligation r i j)) (rowOwed r x)
 
-pub owes-here : (r : Rows) (n i j : ℕ) {o : Obligation} {os : List Obligation} {b : Bool} → o ≡ rowObligation (r .marks) (r .dues) i j → os ≡ rowOwed (r .marks) (r .dues) n → b ≡ any (sameObligation o) os → owesAt r n i j ≡ b
-owes-here r n i j e w f = rw (sym e, sym w) (sym f)
+pub owes-here : (r : List ℕ) (x i j : ℕ) {o : Obligation} {os : List Obligation} {b : Bool} → o ≡ rowObligation r i j → os ≡ rowOwed r x → b ≡ any (sameObligation o) os → owesAt r x i j ≡ b
+owes-here r x i j e w f = rw (sym e, sym w) (sym f)
 
 -- equality by counts, and the same carried, with the tests in turn
 in-turn : (c s l w : Bool) → ((c && w) && (s && l)) ≡ (c && (s && (l && w)))
@@ -112,56 +113,56 @@ in-turn true true true w = and-true w
 in-turn true true false w = and-false w
 in-turn true false l w = and-false w
 
-module _ (clocks reach : ℕ) (precede : List Bool) (r : Rows) (n : ℕ) where
+module _ (clocks reach : ℕ) (precede : List Bool) (r : List ℕ) (x : ℕ) where
   abbrev stopsSame : ℕ → Bool
-  stopsSame i = below clocks (λ k. Bool·beq (rowStop (r .stopped) n k) (rowStop (r .stopped) i k))
+  stopsSame i = below clocks (λ k. Bool·beq (rowStop r x k) (rowStop r i k))
 
   abbrev leadsSame : ℕ → Bool
-  leadsSame i = below reach (λ k. not (getD precede k false) || eqb (rowLead (r .leads) n k) (rowLead (r .leads) i k))
+  leadsSame i = below reach (λ k. not (getD precede k false) || eqb (rowLead r x k) (rowLead r i k))
 
   -- the tests in turn
   unfoldable pub sameRow : ℕ → Bool
-  sameRow i = eqb (rowCount (r .marks) n) (rowCount (r .marks) i) && (stopsSame i && (leadsSame i && below (rowCount (r .marks) i) (owesAt r n i)))
+  sameRow i = eqb (rowCount r x) (rowCount r i) && (stopsSame i && (leadsSame i && below (rowCount r i) (owesAt r x i)))
 
-  -- none of the first m rows is row n
-  abbrev pub noneSame : ℕ → Bool
-  noneSame m = below m (λ i. not (sameRow i))
+  -- none of the m rows from `first` on is row x
+  abbrev pub noneSame : ℕ → ℕ → Bool
+  noneSame first m = below m (λ k. not (sameRow (first + k)))
 
   module _ (i : ℕ) where
-    pub other-count : (rowCount (r .marks) i ≡ rowCount (r .marks) n → ⊥) → sameRow i ≡ false
+    pub other-count : (rowCount r i ≡ rowCount r x → ⊥) → sameRow i ≡ false
     unfolding sameRow
-    other-count q = rw (ne-eqb (rowCount (r .marks) n) (rowCount (r .marks) i) (λ e. q (sym e)))
+    other-count q = rw (ne-eqb (rowCount r x) (rowCount r i) (λ e. q (sym e)))
 
     pub other-stops : {b : Bool} → b ≡ stopsSame i → not b ≡ true → sameRow i ≡ false
     unfolding sameRow
-    other-stops {b} e q = rw (sym e, not-true b q) (and-false (eqb (rowCount (r .marks) n) (rowCount (r .marks) i)))
+    other-stops {b} e q = rw (sym e, not-true b q) (and-false (eqb (rowCount r x) (rowCount r i)))
 
     pub other-leads : {b : Bool} → b ≡ leadsSame i → not b ≡ true → sameRow i ≡ false
     unfolding sameRow
-    other-leads {b} e q = rw (sym e, not-true b q, and-false (stopsSame i)) (and-false (eqb (rowCount (r .marks) n) (rowCount (r .marks) i)))
+    other-leads {b} e q = rw (sym e, not-true b q, and-false (stopsSame i)) (and-false (eqb (rowCount r x) (rowCount r i)))
 
-    pub other-owed : (j : ℕ) → j < rowCount (r .marks) i → owesAt r n i j ≡ false → sameRow i ≡ false
+    pub other-owed : (j : ℕ) → j < rowCount r i → owesAt r x i j ≡ false → sameRow i ≡ false
     unfolding sameRow
-    other-owed j h q = rw (below-miss (owesAt r n i) (rowCount (r .marks) i) j h q, and-false (leadsSame i), and-false (stopsSame i)) (and-false (eqb (rowCount (r .marks) n) (rowCount (r .marks) i)))
+    other-owed j h q = rw (below-miss (owesAt r x i) (rowCount r i) j h q, and-false (leadsSame i), and-false (stopsSame i)) (and-false (eqb (rowCount r x) (rowCount r i)))
 
-    pub equal : {s l : Bool} → rowCount (r .marks) i ≡ rowCount (r .marks) n → s ≡ stopsSame i → not s ≡ false → l ≡ leadsSame i → not l ≡ false → below (rowCount (r .marks) i) (owesAt r n i) ≡ true → sameRow i ≡ true
+    pub equal : {s l : Bool} → rowCount r i ≡ rowCount r x → s ≡ stopsSame i → not s ≡ false → l ≡ leadsSame i → not l ≡ false → below (rowCount r i) (owesAt r x i) ≡ true → sameRow i ≡ true
     unfolding sameRow
-    equal {s} {l} z e q f g o = rw (eq-eqb (rowCount (r .marks) n) (rowCount (r .marks) i) (sym z), sym e, not-false s q, sym f, not-false l g, o)
+    equal {s} {l} z e q f g o = rw (eq-eqb (rowCount r x) (rowCount r i) (sym z), sym e, not-false s q, sym f, not-false l g, o)
 
   -- in any sheet of these clocks and precedes lines
   module _ (c : clocks ≤ 8) (v : SheetValue) (e : v .clocks ≡ clocks) (leading : Leading v reach precede) where
-    same-row : (i : ℕ) → sameCounted (cut v (rowOf r n)) (cut v (rowOf r i)) ≡ sameRow i
+    same-row : (i : ℕ) → sameCounted (cut v (rowOf r x)) (cut v (rowOf r i)) ≡ sameRow i
     unfolding sameCounted sameRow
     same-row i =
         rw (
           e,
-          length-listed (rowObligation (r .marks) (r .dues) n) (rowCount (r .marks) n),
-          length-listed (rowObligation (r .marks) (r .dues) i) (rowCount (r .marks) i),
-          same-first Bool·beq false clocks 8 (rowStop (r .stopped) n) (rowStop (r .stopped) i) c,
-          same-leads v reach precede leading (rowLead (r .leads) n) (rowLead (r .leads) i),
-          all-listed (rowObligation (r .marks) (r .dues) i) (λ o. any (sameObligation o) (rowOwed (r .marks) (r .dues) n)) (rowCount (r .marks) i),
+          length-listed (rowObligation r x) (rowCount r x),
+          length-listed (rowObligation r i) (rowCount r i),
+          same-first Bool·beq false clocks 8 (rowStop r x) (rowStop r i) c,
+          same-leads v reach precede leading (rowLead r x) (rowLead r i),
+          all-listed (rowObligation r i) (λ o. any (sameObligation o) (rowOwed r x)) (rowCount r i),
         )
-        (in-turn (eqb (rowCount (r .marks) n) (rowCount (r .marks) i)) (stopsSame i) (leadsSame i) (below (rowCount (r .marks) i) (owesAt r n i)))
+        (in-turn (eqb (rowCount r x) (rowCount r i)) (stopsSame i) (leadsSame i) (below (rowCount r i) (owesAt r x i)))
 
-    pub among : any (sameCounted (cut v (rowOf r n))) (rowsOf v n r) ≡ not (noneSame n)
-    among = any-listed (λ i. cut v (rowOf r i)) (sameCounted (cut v (rowOf r n))) n ∙ ap not (below-ext n _ _ (λ i h. ap not (same-row i)))
+    pub among : (first n : ℕ) → any (sameCounted (cut v (rowOf r x))) (rowsOf v r first n) ≡ not (noneSame first n)
+    among first n = any-listed (λ k. cut v (rowOf r (first + k))) (sameCounted (cut v (rowOf r x))) n ∙ ap not (below-ext n _ _ (λ k h. ap not (same-row (first + k))))

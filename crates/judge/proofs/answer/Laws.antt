@@ -22,7 +22,8 @@ use Rattle.judge.specs.declared.held.Count.the-variants.{Live}
 use Rattle.judge.specs.declared.held.Held.{Held}
 use Rattle.judge.specs.View.{obligationOf, firstOf, owedOf, cut, viewOf, heldOf, liveOf, sizedIn, sized}
 use Rattle.judge.specs.Answer.{saidBy}
-use Rattle.judge.specs.Rows.{Rows, rowCount, rowObligation, rowOwed, rowOf, rowsOf, foundIn}
+use Rattle.judge.specs.Rows.{rowCount, rowObligation, rowOwed, rowOf, rowsOf}
+use Rattle.judge.specs.Settle.{foundIn}
 use Rattle.judge.proofs.Listing.{any-of}
 
 -- one of each of a list is none only of the empty list
@@ -62,25 +63,30 @@ said-some v h n e t l k b f =
 
 -- ---- in rows
 
-module _ (v : SheetValue) (r : Rows) where
-  clear-row : (i : ℕ) → isClear (cut v (rowOf r i)) ≡ eqb (rowCount (r .marks) i) 0
+module _ (v : SheetValue) (rows : List ℕ) where
+  clear-row : (i : ℕ) → isClear (cut v (rowOf rows i)) ≡ eqb (rowCount rows i) 0
   unfolding owes isClear
-  clear-row i = distinct-none sameObligation (rowOwed (r .marks) (r .dues) i) ∙ ap (λ k. eqb k 0) (length-listed (rowObligation (r .marks) (r .dues) i) (rowCount (r .marks) i))
+  clear-row i = distinct-none sameObligation (rowOwed rows i) ∙ ap (λ k. eqb k 0) (length-listed (rowObligation rows i) (rowCount rows i))
 
-  pub row-owes : (i : ℕ) → any isClear (rowsOf v i r) ≡ false → (rowCount (r .marks) i ≡ 0 → ⊥) → any isClear (rowsOf v (i + 1) r) ≡ false
-  row-owes i a k =
-      let b : isClear (cut v (rowOf r i)) ≡ false = clear-row i ∙ ne-eqb (rowCount (r .marks) i) 0 k in
-      ap (any isClear) (listed-snoc (λ j. cut v (rowOf r j)) i) ∙ any-snoc isClear (rowsOf v i r) (cut v (rowOf r i)) ∙ simp (a, b)
+  module _ (from : ℕ) where
+    pub none-clear : any isClear (rowsOf v rows from 0) ≡ false
+    unfolding listedFrom
+    none-clear = refl
 
-  pub row-clear : (n i : ℕ) → i < n → rowCount (r .marks) i ≡ 0 → any isClear (rowsOf v n r) ≡ true
-  row-clear n i h e = any-of (λ j. cut v (rowOf r j)) isClear n i h (clear-row i ∙ eq-eqb (rowCount (r .marks) i) 0 e)
+    pub row-owes : (i : ℕ) → any isClear (rowsOf v rows from i) ≡ false → (rowCount rows (from + i) ≡ 0 → ⊥) → any isClear (rowsOf v rows from (i + 1)) ≡ false
+    row-owes i a k =
+        let b : isClear (cut v (rowOf rows (from + i))) ≡ false = clear-row (from + i) ∙ ne-eqb (rowCount rows (from + i)) 0 k in
+        ap (any isClear) (listed-snoc (λ j. cut v (rowOf rows (from + j))) i) ∙ any-snoc isClear (rowsOf v rows from i) (cut v (rowOf rows (from + i))) ∙ simp (a, b)
 
-  module _ (count : Count) (n : ℕ) (e : count ≡ Live n) where
-    pub rows-none : n ≡ 0 → broken ≡ saidBy (foundIn v count r)
-    unfolding judged listedFrom
-    rows-none z = rw (e, z)
+    pub row-clear : (n i : ℕ) → i < n → rowCount rows (from + i) ≡ 0 → any isClear (rowsOf v rows from n) ≡ true
+    row-clear n i h e = any-of (λ j. cut v (rowOf rows (from + j))) isClear n i h (clear-row (from + i) ∙ eq-eqb (rowCount rows (from + i)) 0 e)
 
-    pub rows-some : (n ≡ 0 → ⊥) → (b : Bool) → b ≡ any isClear (rowsOf v n r) → holding n (cond b clear owed) ≡ saidBy (foundIn v count r)
-    rows-some k b f =
-        let m : length (rowsOf v n r) ≡ n = length-listed (λ j. cut v (rowOf r j)) n in
-        rw (f, e) (sym (judged-some (rowsOf v n r) (λ z. k (sym m ∙ z)) ∙ rw m))
+    module _ {count : Count} {n : ℕ} (e : count ≡ Live n) where
+      pub rows-none : n ≡ 0 → broken ≡ saidBy (foundIn v count rows from)
+      unfolding judged listedFrom
+      rows-none z = rw (e, z)
+
+      pub rows-some : (n ≡ 0 → ⊥) → {b : Bool} → b ≡ any isClear (rowsOf v rows from n) → holding n (cond b clear owed) ≡ saidBy (foundIn v count rows from)
+      rows-some k f =
+          let m : length (rowsOf v rows from n) ≡ n = length-listed (λ j. cut v (rowOf rows (from + j))) n in
+          rw (f, e) (sym (judged-some (rowsOf v rows from n) (λ z. k (sym m ∙ z)) ∙ rw m))

@@ -3,7 +3,7 @@ use mathlib.Core.Bool.{Bool, true, false, not}
 use mathlib.Core.List.{List, map}
 use mathlib.Core.Option.{Option, some}
 use mathlib.Core.Path.{_≡_, refl, sym, ap, _∙_, subst, fun-ext}
-use Prim.Native.Nat.{ℕ, zero, suc, _+_, _≤_}
+use Prim.Native.Nat.{ℕ, zero, suc, _+_, _-_, _≤_}
 use native.Mathlib.Omega.{arith}
 use native.Mathlib.Numerals.{add-one}
 use lib.Dec.{T, eqb, leb, leb→le, le→leb}
@@ -30,15 +30,20 @@ use Rattle.judge.specs.declared.remainder.Remainder as arrays
 use Rattle.judge.specs.declared.held.Count.{Count}
 use Rattle.judge.specs.declared.held.Count.the-variants.{Exhausted, Live}
 use Rattle.judge.specs.declared.held.Held.{Held}
+use Rattle.judge.specs.declared.plan.Plan.{Plan}
+use Rattle.judge.specs.declared.kept.Kept.{Kept}
 use Rattle.judge.specs.declared.monitor.Monitor.{Monitor}
-use Rattle.judge.specs.View.{obligationOf, owedOf, viewOf, cut, heldIn, heldOf, live, seenOf, tagsBefore, sizedIn, sized}
+use Rattle.judge.specs.View.{obligationOf, owedOf, viewOf, cut, heldOf, live, seenOf, tagsBefore, sized}
 use Rattle.judge.specs.Lines.{smallLeads}
 use Rattle.judge.specs.Work.{worked}
 use Rattle.judge.specs.Answer.{answerOf, saidBy}
 use Rattle.judge.specs.Limits.{sheetWithin, within, Limited}
-use Rattle.judge.specs.Rows.{Rows, Roomy, rowCount, rowObligation, rowOwed, rowLeads, rowStopped, rowOf, rowsOf, foundIn, Small, SmallIn}
-use Rattle.judge.specs.Monitor.{sheetBy, heldBy, Workable, Accepts}
-use Rattle.judge.specs.Kept.{asStruct, rowRemainder, liveRows, rowsHeld, rowsMonitor, toldBy}
+use Rattle.judge.specs.Plan.{Planned, Preparing, PlanOf}
+use Rattle.judge.specs.Rows.{words, rowCount, rowObligation, rowOwed, rowLeads, rowStopped, rowOf}
+use Rattle.judge.specs.Settle.{Side, foundIn, SmallIn}
+use Rattle.judge.specs.Stored.{liveRows, KeepingHeld, KeptHeld}
+use Rattle.judge.specs.Monitor.{sheetBy, heldBy, Accepts}
+use Rattle.judge.specs.Kept.{asStruct, rowRemainder, rowsHeld, keptMonitor, keptOf, given, Ready}
 use Rattle.judge.specs.Promises.{Follows}
 use Rattle.judge.proofs.Listing.{map-listed, one-of, all-of}
 use Rattle.judge.proofs.monitor.Limits.{held-limits, limits-of, within-limits}
@@ -57,73 +62,76 @@ module _ {A : Type 0} (f : ℕ → A) where
   each-from P h i (suc n) = (h i, each-from P h (i + 1) n)
 
 -- ---- those held
-owed-row : (r : Rows) (i : ℕ) → owedOf (rowRemainder r i) ≡ rowOwed (r .marks) (r .dues) i
-owed-row r i = map-all (λ j. asStruct (rowObligation (r .marks) (r .dues) i j)) obligationOf (rowCount (r .marks) i)
+owed-row : (rows : List ℕ) (i : ℕ) → owedOf (rowRemainder rows i) ≡ rowOwed rows i
+owed-row rows i = map-all (λ j. asStruct (rowObligation rows i j)) obligationOf (rowCount rows i)
 
-view-row : (v : SheetValue) (r : Rows) (i : ℕ) → viewOf v (rowRemainder r i) ≡ cut v (rowOf r i)
-view-row v r i = ap (λ (os : List _). cut v (record { owed = os; leads = rowLeads (r .leads) i; stopped = rowStopped (r .stopped) i })) (owed-row r i)
-
-pub held-rows : (v : SheetValue) (count : Count) (r : Rows) → heldOf v (rowsHeld count r) ≡ foundIn v count r
-held-rows v Exhausted r = refl
-held-rows v (Live n) r = ap some (map-all (rowRemainder r) (viewOf v) n ∙ ap (λ (f : ℕ → Remainder). listed f n) (fun-ext (view-row v r)))
+view-row : (v : SheetValue) (rows : List ℕ) (i : ℕ) → viewOf v (rowRemainder rows i) ≡ cut v (rowOf rows i)
+view-row v rows i = ap (λ (os : List _). cut v (record { owed = os; leads = rowLeads rows i; stopped = rowStopped rows i })) (owed-row rows i)
 
 few : arrays.Remainder → Bool
 few q = leb (q .owed) 8
 
-pub small-rows : (count : Count) (r : Rows) → T (sized (rowsHeld count r)) → SmallIn count 32 (r .marks)
-unfolding few
-small-rows Exhausted r t = λ i h. absurd (omega arith)
-small-rows (Live n) r t =
-    let u = rw (take-all (rowRemainder r) n) at (and-r (leb n 32) (all few (take n (listed (rowRemainder r) n))) t) in
-    (leb→le n 32 (and-l (leb n 32) (all few (take n (listed (rowRemainder r) n))) t), λ i h. leb→le (rowCount (r .marks) i) 8 (one-of (rowRemainder r) few n u i h))
+module _ (rows : List ℕ) (from : ℕ) where
+  abbrev one : ℕ → arrays.Remainder
+  one k = rowRemainder rows (from + k)
 
-pub sized-rows : (count : Count) (r : Rows) → SmallIn count 32 (r .marks) → T (sized (rowsHeld count r))
-unfolding few
-sized-rows Exhausted r h = tt
-sized-rows (Live n) r h =
-    and-i (leb n 32) (all few (take n (listed (rowRemainder r) n))) (le→leb n 32 (h .0))
-    (rw (take-all (rowRemainder r) n) (all-of (rowRemainder r) few n (λ k l. le→leb (rowCount (r .marks) k) 8 (h .1 k l))))
+  pub held-rows : (v : SheetValue) (count : Count) → heldOf v (rowsHeld count rows from) ≡ foundIn v count rows from
+  held-rows v Exhausted = refl
+  held-rows v (Live n) = ap some (map-all one (viewOf v) n ∙ ap (λ (f : ℕ → Remainder). listed f n) (fun-ext (λ k. view-row v rows (from + k))))
 
-pub eight-rows : (count : Count) (r : Rows) → All (λ (q : arrays.Remainder). length (q .stopped) ≡ 8) (rowsHeld count r .remainders)
-eight-rows count r = each-from (rowRemainder r) (λ (q : arrays.Remainder). length (q .stopped) ≡ 8) (λ i. length-listed _ 8) 0 (liveRows count)
+  pub small-rows : (count : Count) → T (sized (rowsHeld count rows from)) → SmallIn count rows from
+  unfolding few
+  small-rows Exhausted t = tt
+  small-rows (Live n) t =
+      let u = rw (take-all one n) at (and-r (leb n 32) (all few (take n (listed one n))) t) in
+      (leb→le n 32 (and-l (leb n 32) (all few (take n (listed one n))) t), λ k h. leb→le (rowCount rows (from + k)) 8 (one-of one few n u k h))
 
--- ---- a count and its rows
-module _ (count : Count) (rs : List arrays.Remainder) where
-  abbrev Stores : Rows → Type 0
-  Stores r = Roomy r × (SmallIn count 32 (r .marks) × ((v : SheetValue) → foundIn v count r ≡ heldIn v count rs))
+  pub sized-rows : (count : Count) → SmallIn count rows from → T (sized (rowsHeld count rows from))
+  unfolding few
+  sized-rows Exhausted h = tt
+  sized-rows (Live n) h =
+      and-i (leb n 32) (all few (take n (listed one n))) (le→leb n 32 (h .0))
+      (rw (take-all one n) (all-of one few n (λ k l. le→leb (rowCount rows (from + k)) 8 (h .1 k l))))
 
-  pub stores-none : (r : Rows) → count ≡ Exhausted → Roomy r → Stores r
-  stores-none r e h = (h, (rw e (λ i l. absurd (omega arith)), λ v. rw e))
-
-  pub stores-live : (r : Rows) {n : ℕ} → count ≡ Live n → n ≤ 32 → Roomy r × (Small n (r .marks) × ((v : SheetValue) → rowsOf v n r ≡ map (viewOf v) (take n rs))) → Stores r
-  stores-live r e l h = (h .0, (rw e (l, h .1 .0), λ v. rw e (ap some (h .1 .1 v))))
+  pub eight-rows : (count : Count) → All (λ (q : arrays.Remainder). length (q .stopped) ≡ 8) (rowsHeld count rows from .remainders)
+  eight-rows count = each-from one (λ (q : arrays.Remainder). length (q .stopped) ≡ 8) (λ k. length-listed _ 8) 0 (liveRows count)
 
 -- ---- a monitor in rows
-module _ (s : Sheet) (n : ℕ) (tags : List ℤ) (count : Count) (r : Rows) where
+module _ (k : Kept) (rows : List ℕ) where
   abbrev m : Monitor
-  m = rowsMonitor s n tags count r
+  m = keptMonitor k rows
+
+  abbrev v : SheetValue
+  v = sheetValue (k .sheet)
+
+  pub limited : IsSheet v → within m ≡ true → Limited m true
+  limited h e = record { answer = sym e; value = λ t. h }
 
   -- what work asks of the rows
-  pub leads-rows : Workable m → T (all smallLeads (live (foundIn (sheetValue s) count r)))
-  leads-rows w = subst (λ (o : Option (List Remainder)). T (all smallLeads (live o))) (held-rows (sheetValue s) count r) (w .leads)
+  pub leads-rows : T (all smallLeads (live (heldBy m))) → T (all smallLeads (live (foundIn v (k .count) rows (k .from))))
+  leads-rows t = subst (λ (o : Option (List Remainder)). T (all smallLeads (live o))) (held-rows rows (k .from) v (k .count)) t
 
-  pub accepts-rows : (i : Instant) (next : Count) (out : Rows) (said : code.Answer)
-      → foundIn (sheetValue s) next out ≡ worked 32 (sheetValue s) (tagsBefore (eqb n 0) tags) (seenOf (s .clocks) (i .ticks)) (i .tags) (foundIn (sheetValue s) count r)
-      → SmallIn next 32 (out .marks) → answerOf said ≡ saidBy (foundIn (sheetValue s) next out)
-      → Accepts mostLive m i (toldBy m (record { reply = reply.Answered said; count = next; tags = i .tags }) out)
-  accepts-rows i next out said w small q =
-      let v = sheetValue s in
-      record {
-        sheet = refl;
-        instants = add-one n;
-        tags = refl;
-        held = held-rows v next out ∙ w ∙ ap (worked 32 v (tagsBefore (eqb n 0) tags) (seenOf (s .clocks) (i .ticks)) (i .tags)) (sym (held-rows v count r));
-        fits = sized-rows next out small;
-        said = ap taken (q ∙ ap saidBy (sym (held-rows v next out)));
-      }
+  pub accepts-rows : (i : Instant) (next : Count) (out : List ℕ) (to : ℕ) {said : code.Answer}
+      → foundIn v next out to ≡ worked mostLive v (tagsBefore (eqb (k .instants) 0) (k .tags)) (seenOf (k .sheet .clocks) (i .ticks)) (i .tags) (foundIn v (k .count) rows (k .from))
+      → SmallIn next out to → answerOf said ≡ saidBy (foundIn v next out to)
+      → Accepts mostLive m i (given (reply.Answered said) (keptMonitor (record { sheet = k .sheet; plan = k .plan; instants = k .instants + 1; tags = i .tags; count = next; from = to }) out))
+  accepts-rows i next out to w small q = record {
+    sheet = refl;
+    instants = add-one (k .instants);
+    tags = refl;
+    held = held-rows out to v next ∙ w ∙ ap (worked mostLive v (tagsBefore (eqb (k .instants) 0) (k .tags)) (seenOf (k .sheet .clocks) (i .ticks)) (i .tags)) (sym (held-rows rows (k .from) v (k .count)));
+    fits = sized-rows out to next small;
+    said = ap taken (q ∙ ap saidBy (sym (held-rows out to v next)));
+  }
 
-  pub limited : IsSheet (sheetValue s) → within m ≡ true → Limited m true
-  limited h e = record { answer = sym e; value = λ t. h }
+-- the sides change places
+pub other-side : {from : ℕ} → Side from → Side (45 - from)
+other-side s = record {
+  one = s .other;
+  other = omega (arith, s .one);
+  past = omega (arith, s .one, s .other);
+  apart = λ k l h j e. s .apart l k j h (omega (arith, s .one, s .other));
+}
 
 -- ---- monitors of the same sheet, instants and tags that hold the same: they are within the same limits, and follow the same runs
 module _ (s : Sheet) (n : ℕ) (tags : List ℤ) (h k : Held) (same : heldOf (sheetValue s) k ≡ heldOf (sheetValue s) h) (fits : T (sized k)) where
@@ -152,27 +160,40 @@ module _ (s : Sheet) (n : ℕ) (tags : List ℤ) (h k : Held) (same : heldOf (sh
   }
 
 -- ---- a monitor whose remainders are stored
-module _ (m : Monitor) (r : Rows) (small : SmallIn (m .held .count) 32 (r .marks))
-    (same : (v : SheetValue) → foundIn v (m .held .count) r ≡ heldIn v (m .held .count) (m .held .remainders)) where
+module _ (m : Monitor) (p : Plan) {blank rows : List ℕ} (kept : KeptHeld (m .held .count) (m .held .remainders) blank rows) where
   abbrev stored : Monitor
-  stored = rowsMonitor (m .sheet) (m .instants) (m .tags) (m .held .count) r
+  stored = keptMonitor (keptOf m p) rows
 
   same-held : heldBy stored ≡ heldBy m
-  same-held = held-rows (sheetBy m) (m .held .count) r ∙ same (sheetBy m)
+  same-held = held-rows rows 6 (sheetBy m) (m .held .count) ∙ kept .held (sheetBy m)
 
   pub within-stored : within m ≡ true → within stored ≡ true
-  within-stored e = within-same (m .sheet) (m .instants) (m .tags) (m .held) (stored .held) same-held (sized-rows (m .held .count) r small) e
+  within-stored e = within-same (m .sheet) (m .instants) (m .tags) (m .held) (stored .held) same-held (sized-rows rows 6 (m .held .count) (kept .small)) e
 
   pub follows-stored : {s : SheetValue} {run : List tesl.Instant} → Follows s run m → Follows s run stored
-  follows-stored f = follows-same (m .sheet) (m .instants) (m .tags) (m .held) (stored .held) same-held (sized-rows (m .held .count) r small) f
+  follows-stored f = follows-same (m .sheet) (m .instants) (m .tags) (m .held) (stored .held) same-held (sized-rows rows 6 (m .held .count) (kept .small)) f
+
+  pub ready-stored : Limited m true → {lines : List ℕ} → PlanOf (m .sheet) p lines → {list : List Bool} → length list ≡ 2048 → Ready (keptOf m p) lines rows list
+  ready-stored l plan lists = record {
+    value = l .value refl;
+    planned = plan .planned;
+    fits = plan .fits;
+    side = record { one = omega arith; other = omega arith; past = omega arith; apart = λ k l h j e. omega arith };
+    size = kept .size;
+    lists = lists;
+    limits = within-stored (sym (l .answer));
+  }
 
 -- ---- what is within the limits of a monitor
 pub inside : {m : Monitor} {b : Bool} → Limited m b → not b ≡ false → Limited m true
 inside {m} {b} l e = subst (Limited m) (not-false b e) l
 
 module _ (m : Monitor) (l : Limited m true) where
-  pub few-lines : m .sheet .count ≤ 16
+  few-lines : m .sheet .count ≤ 16
   few-lines = subst (λ (k : ℕ). k ≤ 16) (length-listed (lineAt (m .sheet)) (m .sheet .count)) (limits-of m (l .value refl) (sym (l .answer)) .sheet .lines-most)
 
-  pub has-room : T (sizedIn (m .held .count) (m .held .remainders))
-  has-room = limits-of m (l .value refl) (sym (l .answer)) .fits
+  pub has-room : {rows : List ℕ} → length rows ≡ words → KeepingHeld rows (m .held .count) (m .held .remainders)
+  has-room size = record { size = size; fits = limits-of m (l .value refl) (sym (l .answer)) .fits }
+
+  pub prepares : {lines : List ℕ} → length lines ≡ 320 → Preparing (m .sheet) lines
+  prepares size = record { few-lines = few-lines; few-clocks = limits-of m (l .value refl) (sym (l .answer)) .sheet .clocks-most; size = size }

@@ -1,6 +1,6 @@
 -- Which lines of a sheet are precedes lines, place by place. Assumes nothing.
 use mathlib.Core.Bool.{Bool, true, false, _&&_}
-use mathlib.Core.List.{List, []}
+use mathlib.Core.List.{List}
 use mathlib.Core.Path.{_≡_, refl, sym, ap, _∙_}
 use Prim.Native.Nat.{ℕ, _+_, _-_, _<_, _≤_}
 use native.Mathlib.Omega.{arith}
@@ -11,9 +11,9 @@ use borrow.Author.Tests.{ltb-true, ltb-false, lt-ltb, le-ltb, eqb-true, eqb-fals
 use Rattle.records.specs.declared.sheet.Sheet.{Sheet}
 use Rattle.records.specs.Line.{blankLine}
 use Rattle.records.specs.Sheet.{lineAt, sheetValue}
-use Rattle.judge.specs.Rows.{isPrecedes, Leading}
+use Rattle.judge.specs.Plan.{isPrecedes, Leading, Reaches}
 use Rattle.judge.proofs.Listing.{listed-at, listed-past}
-use Rattle.judge.proofs.work.PaddedLaws.{filled-reads}
+use Rattle.judge.proofs.rows.Placing.{blank-at}
 
 module _ (s : Sheet) where
   abbrev pub precedesAt : ℕ → Bool
@@ -44,7 +44,7 @@ module _ (s : Sheet) where
   Flagged i flags = (j : ℕ) → getD flags j false ≡ (ltb j i && precedesAt j)
 
   pub flagged-start : Flagged 0 (replicate 16 false)
-  flagged-start j = filled-reads false 16 [] j ∙ rw (le-ltb j 0 (omega arith))
+  flagged-start j = blank-at false 16 j ∙ rw (le-ltb j 0 (omega arith))
 
   module _ (i : ℕ) (flags : List Bool) (w : Flagged i flags) where
     pub flagged-more : i < s .count → i < length flags → (b : Bool) → b ≡ isPrecedes (lineAt s i) → Flagged (i + 1) (set flags i b)
@@ -71,11 +71,11 @@ module _ (s : Sheet) where
 
 -- ---- the precedes lines, by what `reach_of` and `leading_of` ensure
 pub leading : (s : Sheet) (reach : ℕ) (precede : List Bool) → s .count ≤ 16
-    → (reach ≤ s .count) × ((i : ℕ) → reach ≤ i → isPrecedes (getD (sheetValue s .lines) i blankLine) ≡ false)
+    → Reaches s reach
     → ((i : ℕ) → getD precede i false ≡ isPrecedes (getD (sheetValue s .lines) i blankLine))
     → Leading (sheetValue s) reach precede
-leading s reach precede c r p = (omega arith, λ i. by-test i (ltb i reach) refl)
+leading s reach precede c r p = (omega (arith, r .within), λ i. by-test i (ltb i reach) refl)
   where
     by-test : (i : ℕ) (t : Bool) → ltb i reach ≡ t → isPrecedes (getD (sheetValue s .lines) i blankLine) ≡ (t && getD precede i false)
     by-test i true e = sym (p i)
-    by-test i false e = r .1 i (ltb-false i reach e)
+    by-test i false e = r .past i (ltb-false i reach e)

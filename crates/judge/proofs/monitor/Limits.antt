@@ -113,12 +113,15 @@ unfolding withinLimits
 small-leads c n h r t = all-imp (λ (k : ℕ). leb k n) (λ (k : ℕ). ltb k 65535) (r .leads) (λ k u. let b = leb→le k n u in lt→ltb k 65535 (omega arith))
     (and-r (all (clocksOk c) (r .owed) && all (λ (o : Obligation). dueOk (o .due)) (r .owed)) (all (λ (k : ℕ). leb k n) (r .leads)) t)
 
+pub leads-small : (m : Monitor) → Limits m → T (all smallLeads (live (heldBy m)))
+leads-small m l = all-imp (withinLimits (m .sheet .clocks) (m .instants)) smallLeads (live (heldBy m)) (small-leads (m .sheet .clocks) (m .instants) (l .instants)) (l .views)
+
 pub workable : (m : Monitor) → Limits m → m .instants < 4000 → Workable m
 workable m l h = record {
   lines = subst (λ (k : ℕ). k ≤ 16) (length-listed (lineAt (m .sheet)) (m .sheet .count)) (l .sheet .lines-most);
   clocks = l .sheet .clocks-most;
   room = h;
-  leads = all-imp (withinLimits (m .sheet .clocks) (m .instants)) smallLeads (live (heldBy m)) (small-leads (m .sheet .clocks) (m .instants) (l .instants)) (l .views);
+  leads = leads-small m l;
   fits = l .fits;
 }
 

@@ -74,24 +74,28 @@ added-owed a {os} e = by-over (a .over) e
 -- ---- what an instant leaves of all is what is kept so far with what it leaves of the rest
 
 module _ (f : Filled) where
-  abbrev pub keptFrom : List Obligation → List Obligation → Option (List Obligation)
+  unfoldable pub keptFrom : List Obligation → List Obligation → Option (List Obligation)
   keptFrom xs rest = cond (notLate (some (f .tags)) (left f rest)) (some (xs ++ left f rest)) none
 
   pub keeping-start : {os rest : List Obligation} → os ≡ rest → kept f os ≡ keptFrom [] rest
-  unfolding kept
+  unfolding kept keptFrom
   keeping-start e = rw e
 
   module _ {whole : Option (List Obligation)} (xs rest : List Obligation) (w : whole ≡ keptFrom xs rest) where
     pub keeping-end : rest ≡ [] → some xs ≡ whole
+    unfolding keptFrom
     keeping-end e = sym (w ∙ rw (e, append-nil xs))
 
-    module _ (o : code.Obligation) (more : List Obligation) (e : rest ≡ obligationOf o ∷ more) (b : Bool) (m : b ≡ meets f (obligationOf o)) where
+    module _ {o : Obligation} {more : List Obligation} (e : rest ≡ o ∷ more) {b : Bool} (m : b ≡ meets f o) where
       pub keeping-met : b ≡ true → whole ≡ keptFrom xs more
+      unfolding keptFrom
       keeping-met t = w ∙ rw (e, sym m ∙ t)
 
-      module _ (t : b ≡ false) (late : Bool) (l : late ≡ not (leZ (tagIn (f .tags) (o .on)) (o .due))) where
+      module _ (t : b ≡ false) {late : Bool} (l : late ≡ not (leZ (tagIn (f .tags) (o .on)) (o .due))) where
         pub keeping-late : late ≡ true → none ≡ whole
+        unfolding keptFrom
         keeping-late u = sym (w ∙ rw (e, sym m ∙ t, not-true (leZ (tagIn (f .tags) (o .on)) (o .due)) (sym l ∙ u)))
 
-        pub keeping-more : late ≡ false → whole ≡ keptFrom (xs ++ (obligationOf o ∷ [])) more
-        keeping-more u = w ∙ rw (e, sym m ∙ t, not-false (leZ (tagIn (f .tags) (o .on)) (o .due)) (sym l ∙ u), append-assoc xs (obligationOf o ∷ []) (left f more))
+        pub keeping-more : late ≡ false → whole ≡ keptFrom (xs ++ (o ∷ [])) more
+        unfolding keptFrom
+        keeping-more u = w ∙ rw (e, sym m ∙ t, not-false (leZ (tagIn (f .tags) (o .on)) (o .due)) (sym l ∙ u), append-assoc xs (o ∷ []) (left f more))

@@ -17,16 +17,16 @@ use Rattle.tesl.specs.Lists.{filter}
 use Rattle.theory.proofs.Lists.{filter-true}
 use Rattle.judge.specs.declared.plan.Part.{Part}
 use Rattle.judge.specs.declared.plan.Part.the-variants.{All}
-use Rattle.judge.specs.Plan.{belongs, lineIn, linesIn}
+use Rattle.judge.specs.Plan.{belongs, lineIn, linesIn, PutLine, GatheredPart}
 use Rattle.judge.proofs.Listing.{listed-at, listed-same, listed-next}
 
 -- the rows before b are as they were
 abbrev pub RowsKept : ℕ → List ℕ → List ℕ → Type 0
 RowsKept b was lines = (h : ℕ) → h < b → lineIn lines h ≡ lineIn was h
 
--- rows that end before b
-pub rows-kept : (b from n : ℕ) (was lines : List ℕ) → from + n ≤ b → RowsKept b was lines → linesIn lines from n ≡ linesIn was from n
-rows-kept b from n was lines h k = listed-same n (λ j m. k (from + j) (omega arith))
+-- rows that end before those of a part
+pub rows-kept : {s : Sheet} {part : Part} {b r : ℕ} {was lines : List ℕ} → GatheredPart s part b r was lines → (from n : ℕ) → from + n ≤ b → linesIn lines from n ≡ linesIn was from n
+rows-kept g from n h = listed-same n (λ j m. g .before (from + j) (omega arith))
 
 -- ---- the lines of a part: those gathered so far, and those from line i on
 pub record Gathered (s : Sheet) (part : Part) (from : ℕ) (was : List ℕ) (n i count : ℕ) (lines : List ℕ) : Type 0 where
@@ -54,21 +54,20 @@ module _ (s : Sheet) (part : Part) (from : ℕ) (was : List ℕ) where
       pub gathered-not : belongs part (lineAt s i) ≡ false → Gathered s part from was n (i + 1) count lines
       gathered-not f = record { within = omega arith; room = omega arith; size = g .size; same = turn ∙ rw f; before = g .before }
 
-      pub gathered-more : belongs part (lineAt s i) ≡ true → (after : List ℕ) → (length after ≡ 320) × ((lineIn after (from + count) ≡ lineAt s i) × RowsKept (from + count) lines after)
-          → Gathered s part from was n (i + 1) (count + 1) after
-      gathered-more t after w =
-          let e : linesIn after from (count + 1) ≡ linesIn lines from count ++ (lineAt s i ∷ []) = listed-next count (λ j l. w .1 .1 (from + j) (omega arith)) (w .1 .0) refl in
+      pub gathered-more : belongs part (lineAt s i) ≡ true → {after : List ℕ} → PutLine (from + count) (lineAt s i) lines after → Gathered s part from was n (i + 1) (count + 1) after
+      gathered-more t {after} w =
+          let e : linesIn after from (count + 1) ≡ linesIn lines from count ++ (lineAt s i ∷ []) = listed-next count (λ j l. w .before (from + j) (omega arith)) (w .there) refl in
           record {
             within = omega arith;
             room = omega arith;
-            size = w .0;
+            size = w .size;
             same = turn ∙ rw (t, e) (sym (append-snoc (linesIn lines from count) (lineAt s i) _));
-            before = λ h l. w .1 .1 h (omega arith) ∙ g .before h l;
+            before = λ h l. w .before h (omega arith) ∙ g .before h l;
           }
 
 -- ---- all lines from row 0 on
-pub all-gathered : (s : Sheet) (lines : List ℕ) (r : ℕ) → linesIn lines 0 r ≡ filter (belongs All) (sheetValue s .lines) → (k : ℕ) → k < s .count → lineIn lines k ≡ getD (sheetValue s .lines) k blankLine
-all-gathered s lines r e k h =
-    let w : linesIn lines 0 r ≡ sheetValue s .lines = e ∙ filter-true (sheetValue s .lines) in
+pub all-gathered : {s : Sheet} {r : ℕ} {was lines : List ℕ} → GatheredPart s All 0 r was lines → (k : ℕ) → k < s .count → lineIn lines k ≡ getD (sheetValue s .lines) k blankLine
+all-gathered {s} {r} {was} {lines} g k h =
+    let w : linesIn lines 0 r ≡ sheetValue s .lines = g .lines ∙ filter-true (sheetValue s .lines) in
     let l : r ≡ s .count = sym (length-listed (λ j. lineIn lines (0 + j)) r) ∙ ap length w ∙ length-listed (lineAt s) (s .count) in
     ap (lineIn lines) (sym (zero-add k)) ∙ sym (listed-at (λ j. lineIn lines (0 + j)) blankLine r k (omega arith)) ∙ ap (λ (ls : List Line). getD ls k blankLine) w

@@ -5,7 +5,7 @@ use Prim.Native.Nat.{ℕ, _+_, _*_, _%_, _<_}
 use native.Mathlib.Omega.{arith}
 use lib.ListN.{length, set, length-set}
 use lib.Seq.{getD-set-same, getD-set-other}
-use Rattle.judge.specs.Plan.{lineBy, lineIn}
+use Rattle.judge.specs.Plan.{lineBy, lineIn, LineRow, PutLine}
 use Rattle.judge.proofs.Listing.{Kept}
 
 module _ (l : List ℕ) (j kind a b x y : ℕ) where
@@ -41,14 +41,14 @@ module _ (l : List ℕ) (j kind a b x y : ℕ) where
   kept : Kept 0 (5 * j) l stored
   kept p h = kept₁ p (omega arith) ∙ getD-set-other l (5 * j) p kind 0 (λ e. omega arith)
 
-  pub stored-before : (h : ℕ) → h < j → lineIn stored h ≡ lineIn l h
+  stored-before : (h : ℕ) → h < j → lineIn stored h ≡ lineIn l h
   stored-before h m = rw (kept (5 * h) (omega arith), kept (5 * h + 1) (omega arith), kept (5 * h + 2) (omega arith), kept (5 * h + 3) (omega arith), kept (5 * h + 4) (omega arith))
 
   module _ (e : length l ≡ 320) where
-    pub stored-length : length stored ≡ 320
+    stored-length : length stored ≡ 320
     stored-length = simp length-set e
 
-    pub stored-there : j < 64 → a < 256 → b < 256 → lineIn stored j ≡ lineBy kind a b x y
+    stored-there : j < 64 → a < 256 → b < 256 → lineIn stored j ≡ lineBy kind a b x y
     stored-there m p q =
         let e₁ : length l₁ ≡ 320 = simp length-set e in
         let e₂ : length l₂ ≡ 320 = simp length-set e in
@@ -62,3 +62,6 @@ module _ (l : List ℕ) (j kind a b x y : ℕ) where
         let u : a % 256 ≡ a = omega arith in
         let v : b % 256 ≡ b = omega arith in
         rw (r₀, r₁, r₂, r₃, r₄, u, v)
+
+  pub put-there : LineRow l j → a < 256 → b < 256 → PutLine j (lineBy kind a b x y) l stored
+  put-there r p q = record { size = stored-length (r .size); there = stored-there (r .size) (r .row) p q; before = stored-before }

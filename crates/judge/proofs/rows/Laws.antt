@@ -1,31 +1,107 @@
--- An array filled place by place. Assumes nothing.
-use mathlib.Core.List.{List, map}
-use mathlib.Core.Path.{_≡_, refl, sym, ap, _∙_}
-use Prim.Native.Nat.{ℕ, _+_, _<_, _≤_}
+-- Words stored in a row: what was stored is read there, and every other word stays. Assumes nothing.
+use mathlib.Core.List.{List, [], _∷_, _++_}
+use mathlib.Core.Path.{_≡_, refl, ap, _∙_}
+use Prim.Native.Nat.{ℕ, _+_, _*_, _%_, _<_, _≤_}
 use native.Mathlib.Omega.{arith}
-use lib.ListN.{length, take, set, replicate, length-set, length-replicate}
-use lib.Seq.{take-length}
-use Rattle.records.specs.Lists.{listedFrom, listed}
-use Rattle.records.proofs.Lists.{listed-snoc}
-use Rattle.judge.proofs.Places.{as-is, first-set}
+use lib.IntN.{ℤ}
+use lib.ListN.{length, set, length-set}
+use lib.Seq.{getD-set-same, getD-set-other}
+use Rattle.records.specs.Lists.{listed}
+use Rattle.tesl.specs.Fits.{Obligation}
+use Rattle.judge.specs.Word.{dueOf}
+use Rattle.judge.specs.Rows.{width, words, word, rowCount, rowObligation, rowOwed, Stays, PutObligation}
+use Rattle.judge.proofs.Listing.{listed-same, listed-next}
 
--- of `room` places the first i, seen through g, hold f 0, f 1, .. f (i - 1)
-module _ {A B : Type 0} (g : A → B) (f : ℕ → B) (room : ℕ) where
-  abbrev pub FilledTo : List A → ℕ → Type 0
-  FilledTo xs i = (length xs ≡ room) × (map g (take i xs) ≡ listed f i)
+-- ---- one word
+module _ (a : List ℕ) (i p w : ℕ) where
+  pub stored : width * i + p < length a → word (set a (width * i + p) w) i p ≡ w
+  stored h = getD-set-same a (width * i + p) w 0 h
 
-  pub fill-start : (d : A) → FilledTo (replicate room d) 0
-  unfolding listedFrom
-  fill-start d = (length-replicate room d, refl)
+  pub stored-other : (h q : ℕ) → p < width → q < width → (h ≡ i → q ≡ p → ⊥) → word (set a (width * i + p) w) h q ≡ word a h q
+  stored-other h q l m f = getD-set-other a (width * i + p) (width * h + q) w 0 (λ e. f (omega arith) (omega arith))
 
-  module _ (xs : List A) (i : ℕ) (w : FilledTo xs i) where
-    pub fill-more : i < room → (a : A) → g a ≡ f i → FilledTo (set xs i a) (i + 1)
-    fill-more h a e = (length-set xs i a ∙ w .0, first-set g xs i a (omega arith) ∙ rw (w .1, e) (sym (listed-snoc f i)))
+-- ---- what stays
+pub stays-all : (i lo hi : ℕ) (a : List ℕ) → Stays i lo hi a a
+stays-all i lo hi a = record { size = refl; same = λ h p l f. refl }
 
-    pub fill-end : (n : ℕ) → i ≤ n → n ≤ i → map g (take n xs) ≡ listed f n
-    fill-end n h k = let e : n ≡ i = omega arith in rw e (w .1)
+module _ {i lo hi : ℕ} {a b : List ℕ} (s : Stays i lo hi a b) where
+  pub stays-put : (p w : ℕ) → lo ≤ p → p < hi → hi ≤ width → Stays i lo hi a (set b (width * i + p) w)
+  stays-put p w l h k =
+      record {
+        size = length-set b (width * i + p) w ∙ s .size;
+        same = λ g q m f. stored-other b i p w g q (omega arith) m (λ e d. f e (omega arith) (omega arith)) ∙ s .same g q m f;
+      }
 
--- all places hold them
-pub fill-whole : {A : Type 0} (f : ℕ → A) (room : ℕ) (xs : List A) (i : ℕ) → FilledTo (λ (x : A). x) f room xs i → i ≤ room → room ≤ i → xs ≡ listed f room
-fill-whole f room xs i w h k =
-    sym (as-is xs) ∙ ap (map (λ x. x)) (sym (take-length xs)) ∙ rw (w .0) (fill-end (λ x. x) f room xs i w room h k)
+  -- in more words
+  pub stays-wide : (lo′ hi′ : ℕ) → lo′ ≤ lo → hi ≤ hi′ → Stays i lo′ hi′ a b
+  stays-wide lo′ hi′ l h = record { size = s .size; same = λ g q m f. s .same g q m (λ e x y. f e (omega arith) (omega arith)) }
+
+  pub stays-on : {c : List ℕ} → Stays i lo hi b c → Stays i lo hi a c
+  stays-on t = record { size = t .size ∙ s .size; same = λ g q m f. t .same g q m f ∙ s .same g q m f }
+
+-- ---- an obligation
+pub same-obligation : {c c′ o o′ : ℕ} {t t′ : ℤ} → c ≡ c′ → t ≡ t′ → o ≡ o′ → _≡_ {A = Obligation} (record { clock = c; due = t; on = o }) (record { clock = c′; due = t′; on = o′ })
+same-obligation a b c = rw (a, b, c)
+
+-- obligation k of a row whose words are the same
+pub obligation-stays : {i lo hi : ℕ} {a b : List ℕ} → Stays i lo hi a b → (h k : ℕ) → k < 8 → ((p : ℕ) → 1 ≤ p → p < 25 → h ≡ i → lo ≤ p → p < hi → ⊥) → rowObligation b h k ≡ rowObligation a h k
+obligation-stays s h k l f =
+    same-obligation
+    (ap (λ (w : ℕ). w % 256) (s .same h (1 + k) (omega arith) (f (1 + k) (omega arith) (omega arith))))
+    (ap dueOf (s .same h (17 + k) (omega arith) (f (17 + k) (omega arith) (omega arith))))
+    (ap (λ (w : ℕ). w % 256) (s .same h (9 + k) (omega arith) (f (9 + k) (omega arith) (omega arith))))
+
+module _ (a : List ℕ) (i j c n d : ℕ) (size : length a ≡ words) (row : i < 72) (place : j < 8) where
+  abbrev first : List ℕ
+  first = set a (width * i + (1 + j)) c
+
+  abbrev second : List ℕ
+  second = set first (width * i + (9 + j)) n
+
+  abbrev third : List ℕ
+  third = set second (width * i + (17 + j)) d
+
+  long : length second ≡ words
+  long = length-set first (width * i + (9 + j)) n ∙ length-set a (width * i + (1 + j)) c ∙ size
+
+  other : (p : ℕ) → p < width → (p ≡ 1 + j → ⊥) → (p ≡ 9 + j → ⊥) → (p ≡ 17 + j → ⊥) → word third i p ≡ word a i p
+  other p h f g e =
+      stored-other second i (17 + j) d i p (omega arith) h (λ z. e) ∙ stored-other first i (9 + j) n i p (omega arith) h (λ z. g) ∙ stored-other a i (1 + j) c i p (omega arith) h (λ z. f)
+
+  pub obligation-put : {o : Obligation} → c % 256 ≡ o .clock → n % 256 ≡ o .on → dueOf d ≡ o .due → PutObligation i j o a third
+  obligation-put ec en ed =
+      record {
+        stays = stays-put (stays-put (stays-put (stays-all i 1 25 a) (1 + j) c (omega arith) (omega arith) (omega arith)) (9 + j) n (omega arith) (omega arith) (omega arith)) (17 + j) d (omega arith) (omega arith) (omega arith);
+        here = same-obligation
+            (rw (stored-other second i (17 + j) d i (1 + j) (omega arith) (omega arith) (λ z e. omega arith), stored-other first i (9 + j) n i (1 + j) (omega arith) (omega arith) (λ z e. omega arith), stored a i (1 + j) c (omega arith)) ec)
+            (rw (stored second i (17 + j) d (omega (arith, long))) ed)
+            (rw (stored-other second i (17 + j) d i (9 + j) (omega arith) (omega arith) (λ z e. omega arith), stored first i (9 + j) n (omega (arith, length-set a (width * i + (1 + j)) c))) en);
+        others = λ k l f. same-obligation
+            (ap (λ (w : ℕ). w % 256) (other (1 + k) (omega arith) (λ e. f (omega arith)) (λ e. omega arith) (λ e. omega arith)))
+            (ap dueOf (other (17 + k) (omega arith) (λ e. omega arith) (λ e. omega arith) (λ e. f (omega arith))))
+            (ap (λ (w : ℕ). w % 256) (other (9 + k) (omega arith) (λ e. omega arith) (λ e. f (omega arith)) (λ e. omega arith)));
+      }
+
+-- ---- what a row owes
+
+-- one obligation more
+pub owed-next : {i j : ℕ} {o : Obligation} {a b : List ℕ} → PutObligation i j o a b → j < 8 → listed (rowObligation b i) (j + 1) ≡ listed (rowObligation a i) j ++ (o ∷ [])
+owed-next {i} {j} p h = listed-next j (λ k l. p .others k (omega arith) (λ e. omega arith)) (p .here) refl
+
+-- the count stored, after the obligations
+module _ (a : List ℕ) (i n : ℕ) (size : length a ≡ words) (row : i < 72) where
+  abbrev counted : List ℕ
+  counted = set a (width * i + 0) n
+
+  pub count-put : rowCount counted i ≡ n
+  count-put = stored a i 0 n (omega arith)
+
+  pub owed-put : n ≤ 8 → rowOwed counted i ≡ listed (rowObligation a i) n
+  owed-put h =
+      rw count-put
+      (listed-same n (λ k l. obligation-stays (stays-put (stays-all i 0 1 a) 0 n (omega arith) (omega arith) (omega arith)) i k (omega arith) (λ p x y e l m. omega arith)))
+
+-- what another row owes, or this one where other words are stored
+pub owed-stays : {i lo hi : ℕ} {a b : List ℕ} → Stays i lo hi a b → (h : ℕ) → rowCount a h ≤ 8 → ((p : ℕ) → p < 25 → h ≡ i → lo ≤ p → p < hi → ⊥) → rowOwed b h ≡ rowOwed a h
+owed-stays {a = a} s h few f =
+    rw (s .same h 0 (omega arith) (f 0 (omega arith))) (listed-same (rowCount a h) (λ k l. obligation-stays s h k (omega arith) (λ p x. f p)))

@@ -21,8 +21,7 @@ use Rattle.theory.proofs.Lists.{table-ext}
 use Rattle.judge.specs.View.{inUse, cut}
 use Rattle.judge.specs.Questions.{tickIn, carriedHolds, leadAfter, stoppedAfter}
 use Rattle.judge.specs.Lines.{allStopped, smallLeads}
-use Rattle.judge.specs.Plan.{isRule}
-use Rattle.judge.specs.Rows.{isPrecedes, Leading}
+use Rattle.judge.specs.Plan.{isRule, isPrecedes, Leading}
 use Rattle.judge.specs.Carried.{either, needOf, gainOf, lossOf}
 use Rattle.judge.proofs.Below.{below-front, below-either}
 use Rattle.judge.proofs.lines.Carried.{all-as-many}
@@ -39,7 +38,7 @@ module _ {X : Type 0} (default : X) where
   ok-places ok (l ∷ ls) (x ∷ states) =
       ap (λ (b : Bool). ok l x && b) (ok-places ok ls states) ∙ sym (below-front (λ k. ok (getD (l ∷ ls) k blankLine) (getD (x ∷ states) k default)) (length ls))
 
-  next-places : (after : Line → X → X) (ls : List Line) (states : List X)
+  pub next-places : (after : Line → X → X) (ls : List Line) (states : List X)
       → nextStates default after ls states ≡ table (length ls) (λ k. after (getD ls k blankLine) (getD states k default))
   next-places after [] states = refl
   next-places after (l ∷ ls) [] = ap (λ (xs : List X). after l default ∷ xs) (next-places after ls [])
@@ -155,10 +154,6 @@ take-all-stopped c ticks (l ∷ ls) stopped = take-all-stopped c ticks ls (stopp
 
 -- ---- what a line makes of its lead
 
-one-tick : (b : Bool) (n : ℕ) → n < 65535 → n + bit b < 65536
-one-tick true n h = omega arith
-one-tick false n h = omega arith
-
 module _ (ticks : List Bool) where
   -- a line that doesn't precede needs no lead
   no-need : (l : Line) → isPrecedes l ≡ false → needOf ticks l ≡ 0
@@ -181,15 +176,26 @@ module _ (ticks : List Bool) where
   lead-moves (Delayed A B D d) old new h = refl
   lead-moves (Kills A B) old new h = refl
 
-  gains : (l : Line) (n : ℕ) → inUse l n < 65535 → n < 65536 → n + gainOf ticks l < 65536
-  gains (Weakly A B) n h k = one-tick (tickIn ticks A) n h
-  gains (Strictly A B) n h k = one-tick (tickIn ticks A) n h
-  gains (Sporadic A B t) n h k = omega arith
-  gains (Relation A B p q) n h k = omega arith
-  gains (Implies A B) n h k = omega arith
-  gains (Excludes A B) n h k = omega arith
-  gains (Delayed A B D d) n h k = omega arith
-  gains (Kills A B) n h k = omega arith
+-- a precedes line's lead is in use
+in-use : (l : Line) (n : ℕ) → isPrecedes l ≡ true → inUse l n ≡ n
+in-use (Weakly A B) n e = refl
+in-use (Strictly A B) n e = refl
+in-use (Sporadic A B t) n e = absurd (true≢false (sym e))
+in-use (Relation A B p q) n e = absurd (true≢false (sym e))
+in-use (Implies A B) n e = absurd (true≢false (sym e))
+in-use (Excludes A B) n e = absurd (true≢false (sym e))
+in-use (Delayed A B D d) n e = absurd (true≢false (sym e))
+in-use (Kills A B) n e = absurd (true≢false (sym e))
+
+pub used-by : (l : Line) (n : ℕ) → inUse l n ≡ cond (isPrecedes l) n 0
+used-by (Weakly A B) n = refl
+used-by (Strictly A B) n = refl
+used-by (Sporadic A B t) n = refl
+used-by (Relation A B p q) n = refl
+used-by (Implies A B) n = refl
+used-by (Excludes A B) n = refl
+used-by (Delayed A B D d) n = refl
+used-by (Kills A B) n = refl
 
 abbrev small : ℕ → Bool
 small n = ltb n 65535
@@ -218,9 +224,9 @@ module _ (v : SheetValue) (ticks : List Bool) where
       ap (take (v .clocks)) (all-stop-either ticks (v .lines) stopped (replicate 8 false) (omega (arith, length-replicate 8 false)) ∙ ap (allStopped ticks (v .lines)) (either-none stopped 8))
       ∙ take-all-stopped (v .clocks) ticks (v .lines) stopped
 
-  -- one more tick leaves a lead in 16 bits
-  pub small-gain : (raw : Remainder) → T (smallLeads (cut v raw)) → (k : ℕ) → getD (raw .leads) k 0 < 65536 → getD (raw .leads) k 0 + gainOf ticks (sheetLine v k) < 65536
-  small-gain raw t k h = gains ticks (sheetLine v k) (getD (raw .leads) k 0) (used-small (v .lines) (raw .leads) t k) h
+  -- a lead in use is small
+  pub small-lead : (raw : Remainder) → T (smallLeads (cut v raw)) → (k : ℕ) → isPrecedes (sheetLine v k) ≡ true → getD (raw .leads) k 0 < 65536
+  small-lead raw t k e = let h = in-use (sheetLine v k) (getD (raw .leads) k 0) e in omega (arith, h, used-small (v .lines) (raw .leads) t k)
 
   module _ (reach : ℕ) (precede : List Bool) (leading : Leading v reach precede) (leads : List ℕ) where
     -- the lines hold if each lead is at least what its line needs
@@ -238,10 +244,10 @@ module _ (v : SheetValue) (ticks : List Bool) where
 
     -- leads with their gains and without their losses are those after the instant
     pub carried-leads : (r : List ℕ)
-        → ((k : ℕ) → k < reach → getD r k 0 ≡ getD leads k 0 + gainOf ticks (sheetLine v k) - lossOf ticks (sheetLine v k))
+        → ((k : ℕ) → k < reach → isPrecedes (sheetLine v k) ≡ true → getD r k 0 ≡ getD leads k 0 + gainOf ticks (sheetLine v k) - lossOf ticks (sheetLine v k))
         → nextLeads inUse (v .lines) r ≡ nextLeads (leadAfter ticks) (v .lines) (nextLeads inUse (v .lines) leads)
     carried-leads r h =
         next-places 0 inUse (v .lines) r
         ∙ table-ext (length (v .lines)) (λ k. inUse (sheetLine v k) (getD r k 0)) (λ k. leadAfter ticks (sheetLine v k) (inUse (sheetLine v k) (getD leads k 0)))
-        (λ k b. lead-moves ticks (sheetLine v k) (getD leads k 0) (getD r k 0) (λ e. h k (ltb-true k reach (both (ltb k reach) (sym (leading .1 k) ∙ e) .0))))
+        (λ k b. lead-moves ticks (sheetLine v k) (getD leads k 0) (getD r k 0) (λ e. h k (ltb-true k reach (both (ltb k reach) (sym (leading .1 k) ∙ e) .0)) e))
         ∙ sym (next-next 0 inUse (leadAfter ticks) (v .lines) leads ∙ next-places 0 (λ l n. leadAfter ticks l (inUse l n)) (v .lines) leads)

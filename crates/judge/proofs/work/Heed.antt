@@ -33,7 +33,7 @@ use Rattle.judge.specs.View.{filledOf, cut, live, isNone}
 use Rattle.judge.specs.Questions.{tickIn, ticksHold, carriedHolds, leadAfter, stoppedAfter}
 use Rattle.judge.specs.Lines.{allStopped}
 use Rattle.judge.specs.Owed.{owing, left, kept}
-use Rattle.judge.specs.Rows.{Rows, rowObligation, rowCount, rowOf, rowsOf}
+use Rattle.judge.specs.Rows.{rowObligation, rowCount, rowOf, rowsOf}
 use Rattle.judge.specs.Heed.{namedBy, rowClocks, rowsClocks, flagged, heeds, tickHeeded, heeded}
 use Rattle.judge.specs.Work.{carried, withBegun, withKept, addedAll, advanced, sameCounted, inserted, took, settledAll, filling, fillFrom}
 use Rattle.judge.proofs.Listing.{map-listed}
@@ -332,22 +332,22 @@ unfolding listedFrom
 flat-listed f g at e i zero = refl
 flat-listed f g at e i (suc n) = rw (e i, flat-listed f g at e (i + 1) n)
 
-rows-clocks : (v : SheetValue) (n : ℕ) (r : Rows) → flatMap clocksOf (rowsOf v n r) ≡ rowsClocks (r .marks) n
-rows-clocks v n r =
-    flat-listed clocksOf (rowClocks (r .marks)) (λ i. cut v (rowOf r i))
-    (λ i. map-listed (rowObligation (r .marks) (r .dues) i) (λ (o : Obligation). o .clock) (rowCount (r .marks) i)) 0 n
+rows-clocks : (v : SheetValue) (from n : ℕ) (rows : List ℕ) → flatMap clocksOf (rowsOf v rows from n) ≡ rowsClocks rows from n
+rows-clocks v from n rows =
+    flat-listed clocksOf (λ i. rowClocks rows (from + i)) (λ i. cut v (rowOf rows (from + i)))
+    (λ i. map-listed (rowObligation rows (from + i)) (λ (o : Obligation). o .clock) (rowCount rows (from + i))) 0 n
 
 -- ---- an instant
-pub heeded-enough : (room : ℕ) (v : SheetValue) (tags : List ℤ) (n : ℕ) (r : Rows) (seen : List Tick) (ticks : List Bool) (found : Found)
-    → fillFrom (filling room v tags (rowsOf v n r)) 0 seen ticks found ≡ fillFrom (filling room v tags (rowsOf v n r)) 0 (heeded (heeds (v .lines) (rowsClocks (r .marks) n)) 0 seen) ticks found
-heeded-enough room v tags n r seen ticks found =
-    fill-heeded room (filling room v tags (rowsOf v n r)) (filling-takes room v tags (rowsOf v n r)) (heeds (v .lines) (rowsClocks (r .marks) n)) ignores 0 seen ticks found
+pub heeded-enough : (room : ℕ) (v : SheetValue) (tags : List ℤ) (from n : ℕ) (rows : List ℕ) (seen : List Tick) (ticks : List Bool) (found : Found)
+    → fillFrom (filling room v tags (rowsOf v rows from n)) 0 seen ticks found ≡ fillFrom (filling room v tags (rowsOf v rows from n)) 0 (heeded (heeds (v .lines) (rowsClocks rows from n)) 0 seen) ticks found
+heeded-enough room v tags from n rows seen ticks found =
+    fill-heeded room (filling room v tags (rowsOf v rows from n)) (filling-takes room v tags (rowsOf v rows from n)) (heeds (v .lines) (rowsClocks rows from n)) ignores 0 seen ticks found
   where
-    ignores : (k : ℕ) → heeds (v .lines) (rowsClocks (r .marks) n) k ≡ false → Ignores room (filling room v tags (rowsOf v n r)) (filling-takes room v tags (rowsOf v n r)) k
+    ignores : (k : ℕ) → heeds (v .lines) (rowsClocks rows from n) k ≡ false → Ignores room (filling room v tags (rowsOf v rows from n)) (filling-takes room v tags (rowsOf v rows from n)) k
     ignores k h p q ticks w =
         let named = flagged (flatMap namedBy (v .lines)) (replicate 8 false) in
-        let owed = unflagged (rowsClocks (r .marks) n) named k h in
+        let owed = unflagged (rowsClocks rows from n) named k h in
         let lines = unflagged (flatMap namedBy (v .lines)) (replicate 8 false) k (owed .1) in
         let other : (a : ℕ) → eqb k a ≡ false → tickIn (set ticks k true) a ≡ tickIn ticks a = λ a e. getD-set-other ticks k a true false (λ z. true≢false (sym (eq-eqb k a (sym z)) ∙ e)) in
-        filling-less k ticks (set ticks k true) other v (same-all k ticks (set ticks k true) other (v .lines) (lines .0)) tags (λ stopped. overlap-more ticks stopped k) room (rowsOf v n r) p q
-        (ap (any (eqb k)) (rows-clocks v n r) ∙ owed .0) w
+        filling-less k ticks (set ticks k true) other v (same-all k ticks (set ticks k true) other (v .lines) (lines .0)) tags (λ stopped. overlap-more ticks stopped k) room (rowsOf v rows from n) p q
+        (ap (any (eqb k)) (rows-clocks v from n rows) ∙ owed .0) w

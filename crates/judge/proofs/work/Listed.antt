@@ -6,8 +6,8 @@ use mathlib.Core.Path.{_≡_, refl, sym, ap, _∙_}
 use Prim.Native.Nat.{ℕ, zero, suc, _+_, _<_, _≤_}
 use native.Mathlib.Nat.{zero-add, le-trans}
 use native.Mathlib.Omega.{arith}
-use lib.IntN.{ℤ, pos}
-use lib.ListN.{length, set, replicate, take, length-append, length-map, length-take, length-replicate}
+use lib.IntN.{ℤ}
+use lib.ListN.{length, getD, set, replicate, take, length-append, length-map, length-take}
 use Rattle.records.specs.declared.instant.Tick.{Tick}
 use Rattle.records.specs.declared.instant.Tick.the-variants.{Idle, Ticks, Unseen}
 use Rattle.records.specs.declared.instant.TickSlot.{TickSlot}
@@ -15,7 +15,7 @@ use Rattle.records.specs.declared.line.Line.{Line}
 use Rattle.records.specs.Lists.{listedFrom}
 use Rattle.records.specs.Sheet.{SheetValue}
 use Rattle.records.proofs.Lists.{length-listed}
-use Rattle.tesl.specs.Lists.{all, filter}
+use Rattle.tesl.specs.Lists.{all, filter, flatMap}
 use Rattle.tesl.specs.Fits.{noneFalls}
 use Rattle.tesl.specs.Remainder.{Remainder}
 use Rattle.judge.specs.declared.held.Count.{Count}
@@ -25,8 +25,10 @@ use Rattle.judge.specs.Questions.{tagsHold}
 use Rattle.judge.specs.Plan.{isRelation, isRule}
 use Rattle.judge.specs.Rules.{allowed}
 use Rattle.judge.specs.Fillings.{fillingsFrom, fillingsIn, takenBy, settling}
-use Rattle.judge.specs.Rows.{Rows, rows, Roomy, rowOf, rowsOf, foundIn}
-use Rattle.judge.specs.Heed.{rowsClocks, heeds, heeded}
+use Rattle.judge.specs.Rows.{rowOf, rowsOf}
+use Rattle.judge.specs.Settle.{foundIn}
+use Rattle.judge.specs.Fill.{fillingsLeft}
+use Rattle.judge.specs.Heed.{namedBy, rowsClocks, flagged, heeds, heeded}
 use Rattle.judge.specs.Work.{filling, fillFrom, worked}
 use Rattle.judge.proofs.plan.Parts.{relations-enough, rules-enough}
 use Rattle.judge.proofs.work.Heed.{heeded-enough}
@@ -75,11 +77,17 @@ few (suc n) k (Unseen ∷ left) ticks h =
     let more = few n (k + 1) left (set ticks k true) (omega arith) in
     omega (arith, length-append (fillingsFrom (k + 1) left ticks) (fillingsFrom (k + 1) left (set ticks k true)), idle, more)
 
-pub at-most-256 : (c : ℕ) (seen : List TickSlot) (ticks : List Bool) → c ≤ 8 → 0 + length (fillingsFrom 0 (seenOf c seen) ticks) ≤ 256
-at-most-256 c seen ticks h = rw zero-add (few 8 0 (seenOf c seen) ticks (omega (arith, length-map (take c seen) (λ (t : TickSlot). t .tick), length-take c seen)))
+length-heeded : (p : ℕ → Bool) (k : ℕ) (seen : List Tick) → length (heeded p k seen) ≡ length seen
+length-heeded p k [] = refl
+length-heeded p k (t ∷ seen) = ap suc (length-heeded p (k + 1) seen)
 
-pub few-listed : (c : ℕ) (seen : List TickSlot) (ticks : List Bool) (m : ℕ) → c ≤ 8 → m ≤ 0 + length (fillingsFrom 0 (seenOf c seen) ticks) → m ≤ 256
-few-listed c seen ticks m h l = le-trans l (at-most-256 c seen ticks h)
+pub at-most-256 : (flags : List Bool) (seen : List TickSlot) (c : ℕ) (ticks : List Bool) → c ≤ 8 → 0 + length (fillingsLeft flags seen c 0 ticks) ≤ 256
+at-most-256 flags seen c ticks h =
+    rw zero-add
+    (few 8 0 (heeded (λ j. getD flags j true) 0 (seenOf c seen)) ticks (omega (arith, length-heeded (λ j. getD flags j true) 0 (seenOf c seen), length-map (take c seen) (λ (t : TickSlot). t .tick), length-take c seen)))
+
+pub few-listed : (flags : List Bool) (seen : List TickSlot) (c : ℕ) (ticks : List Bool) {m : ℕ} → c ≤ 8 → m ≤ 0 + length (fillingsLeft flags seen c 0 ticks) → m ≤ 256
+few-listed flags seen c ticks h l = le-trans l (at-most-256 flags seen c ticks h)
 
 -- ---- an instant
 module _ (room : ℕ) (v : SheetValue) (tags : List ℤ) (rs : List Remainder) where
@@ -101,43 +109,39 @@ module _ (room : ℕ) (v : SheetValue) (last : Option (List ℤ)) (ticks : List 
   work-some [] h = absurd (omega arith)
   work-some (r ∷ rs) h = refl
 
-  module _ (count : Count) (r : Rows) where
+  module _ (count : Count) (rows : List ℕ) (from : ℕ) where
     abbrev after : Option (List Remainder)
-    after = worked room v last seen tags (foundIn v count r)
+    after = worked room v last seen tags (foundIn v count rows from)
 
     pub work-exhausted : count ≡ Exhausted → none ≡ after
     unfolding worked
     work-exhausted e = rw e
 
     module _ {n : ℕ} (e : count ≡ Live n) where
-      pub work-broken : n ≡ 0 → (out : Rows) → some (rowsOf v 0 out) ≡ after
+      pub work-broken : n ≡ 0 → (out : List ℕ) (to : ℕ) → some (rowsOf v out to 0) ≡ after
       unfolding worked listedFrom
-      work-broken z out = rw (e, z)
+      work-broken z out to = rw (e, z)
 
       -- the tags by the relations alone
       module _ (z : n ≡ 0 → ⊥) {clocks : ℕ} (c : clocks ≡ v .clocks) {relations : List Line} (d : relations ≡ filter isRelation (v .lines)) {q : Bool}
           (f : q ≡ (noneFalls clocks last tags && all (tagsHold tags) relations)) where
-        by-tags : {b : Bool} → q ≡ b → after ≡ cond b (fillFrom (filling room v tags (rowsOf v n r)) 0 seen (replicate 8 false) (some [])) (some [])
+        by-tags : {b : Bool} → q ≡ b → after ≡ cond b (fillFrom (filling room v tags (rowsOf v rows from n)) 0 seen (replicate 8 false) (some [])) (some [])
         by-tags g =
             let fit : (noneFalls (v .clocks) last tags && all (tagsHold tags) (v .lines)) ≡ q = sym (f ∙ rw (c, d, relations-enough tags (v .lines))) in
-            let many : 0 < length (rowsOf v n r) = omega (arith, z, length-listed (λ i. cut v (rowOf r i)) n) in
-            rw e (work-some (rowsOf v n r) many ∙ rw (fit, g))
+            let many : 0 < length (rowsOf v rows from n) = omega (arith, z, length-listed (λ i. cut v (rowOf rows (from + i))) n) in
+            rw e (work-some (rowsOf v rows from n) many ∙ rw (fit, g))
 
-        pub work-no : q ≡ false → (out : Rows) → some (rowsOf v 0 out) ≡ after
+        pub work-no : q ≡ false → (out : List ℕ) (to : ℕ) → some (rowsOf v out to 0) ≡ after
         unfolding listedFrom
-        work-no g out = sym (by-tags g)
+        work-no g out to = sym (by-tags g)
 
-        pub work-yes : q ≡ true → {left : List Tick} → left ≡ heeded (heeds (v .lines) (rowsClocks (r .marks) n)) 0 (seenOf clocks ticks) → {rules : List Line} → rules ≡ filter isRule (v .lines)
-            → (list : List Bool) {fillings : List (List Bool)} → fillings ≡ fillingsIn list 0 ++ filter (allowed rules) (fillingsFrom 0 left (replicate 8 false))
-            → {found : Option (List Remainder)} → found ≡ takenBy (settling room v tags (rowsOf v n r)) fillings (some []) → found ≡ after
+        pub work-yes : q ≡ true → {flags : List Bool} → flags ≡ flagged (rowsClocks rows from n) (flagged (flatMap namedBy (v .lines)) (replicate 8 false)) → {rules : List Line} → rules ≡ filter isRule (v .lines)
+            → (list : List Bool) {fillings : List (List Bool)} → fillings ≡ fillingsIn list 0 ++ filter (allowed rules) (fillingsLeft flags ticks clocks 0 (replicate 8 false))
+            → {found : Option (List Remainder)} → found ≡ takenBy (settling room v tags (rowsOf v rows from n)) fillings (some []) → found ≡ after
         unfolding listedFrom
         work-yes g s k list l p =
             p
             ∙ rw (l, s, k, c)
             (sym
-            (by-tags g ∙ heeded-enough room v tags n r seen (replicate 8 false) (some [])
-            ∙ filled-listed room v tags (rowsOf v n r) (heeded (heeds (v .lines) (rowsClocks (r .marks) n)) 0 seen) (replicate 8 false) (some [])))
-
--- ---- rows with nothing in them
-pub blank-rows : Roomy (rows (replicate 561 0) (replicate 264 (pos 0)) (replicate 528 0) (replicate 264 false))
-blank-rows = record { marks = length-replicate {A = ℕ} 561 0; dues = length-replicate 264 (pos 0); leads = length-replicate {A = ℕ} 528 0; stopped = length-replicate 264 false }
+            (by-tags g ∙ heeded-enough room v tags from n rows seen (replicate 8 false) (some [])
+            ∙ filled-listed room v tags (rowsOf v rows from n) (heeded (heeds (v .lines) (rowsClocks rows from n)) 0 seen) (replicate 8 false) (some [])))

@@ -1,69 +1,46 @@
--- `is_barred` meets its contract. The invariant: a clock is in both where one was found so far, or one is from place k on. Assumes nothing.
-use mathlib.Core.Bool.{or-true, or-false}
+-- `is_barred` meets its contract. The invariant: a clock is in both where one is from place k on. Assumes nothing.
+use mathlib.Core.Bool.{false}
 use mathlib.Core.Logic.{⊎-elim}
-use mathlib.Core.Path.{_≡_, sym, _∙_}
+use mathlib.Core.Path.{_≡_, refl, sym, ap, _∙_}
 use Prim.Native.Nat.{_≤_, _-_}
-use native.Mathlib.Nat.{sub-zero}
 use native.Mathlib.Omega.{arith}
-use Rattle.records.specs.Lists.{listed}
-use Rattle.theory.specs.Step.{overlap}
-use Rattle.judge.specs.Rows.{rowStop}
-use Rattle.judge.proofs.advance.Effects.{overlapFrom, overlap-end, overlap-more}
+use lib.ListN.{drop, getD}
 use borrow.Author.Needs.{needs}
+use Rattle.records.specs.Lists.{listedFrom, listed}
+use Rattle.theory.specs.Step.{overlap}
+use Rattle.judge.specs.Word.{flagOf}
+use Rattle.judge.specs.Rows.{rowStop}
+use Rattle.judge.proofs.advance.Effects.{overlap-end, overlap-here, overlap-more, not-here, not-barred}
 use Rattle.judge.proofs.advance.is_barred.Statement.{statement}
 use Rattle.judge.proofs.advance.is_barred.Tie as tie
 
 abbrev Inv-loop : tie.InvT-loop
-Inv-loop clocks stopped i ticks found₀ k₀ found k = (k ≤ clocks) × (overlap ticks (listed (rowStop stopped i) clocks) ≡ overlapFrom ticks (rowStop stopped i) clocks k found)
+Inv-loop rows i clocks ticks k₀ k = (k ≤ clocks) × (overlap ticks (listed (rowStop rows i) clocks) ≡ overlap (drop k ticks) (listedFrom (rowStop rows i) k (clocks - k)))
 
 abbrev μ-loop : tie.MeasureT-loop
-μ-loop clocks stopped i ticks found₀ k₀ found k = clocks - k
+μ-loop rows i clocks ticks k₀ k = clocks - k
+
+-- the flag that was read
+read : (c : tie.After-flag-in Inv-loop μ-loop) → let at = c .before .before .before .before in c .flag-in .result ≡ rowStop (at .before .args .rows .now) (at .before .args .i) (at .loop .k)
+read c = c .flag-in .ensures ∙ ap flagOf (c .before .word-at .ensures)
 
 loop-holds : tie.Need-loop-holds Inv-loop μ-loop
-loop-holds c = (omega arith, rw sub-zero)
+loop-holds c = let z : c .args .clocks - 0 ≡ c .args .clocks = omega arith in (omega arith, rw z)
 
-array-read-if1 : tie.Need-array-read-if1 Inv-loop μ-loop
-array-read-if1 c = search needs
-
-mul-if2 : tie.Need-mul-if2 Inv-loop μ-loop
-mul-if2 c = search needs
-
-add-if2 : tie.Need-add-if2 Inv-loop μ-loop
-add-if2 c = search needs
-
-shared-slice-read-if2 : tie.Need-shared-slice-read-if2 Inv-loop μ-loop
-shared-slice-read-if2 c = search needs
-
-add-k : tie.Need-add-k Inv-loop μ-loop
-add-k c = search needs
-
-loop-less : tie.Need-loop-less Inv-loop μ-loop
-loop-less c = search needs
+returns : tie.Need-returns Inv-loop μ-loop
+returns c =
+    let f = c .before in
+    let t = f .before .before in
+    let at = t .before .before in
+    overlap-here (at .before .args .t4) _ (at .before .args .clocks) (at .loop .k) (at .loop .inv .1) (omega arith) (omega arith) (t .if1 .taken) (sym (read f) ∙ c .if2 .taken)
 
 loop-again : tie.Need-loop-again Inv-loop μ-loop
 loop-again c =
     let at = c .before .before in
-    let a = at .before .args in
-    let was = at .loop .found in
-    let l = at .before .good .1 .1 .1 .0 .1 .0 .1 in
-    let more = overlap-more (a .t4) (rowStop (a .stopped .now) (a .i)) (a .clocks) (at .loop .k) was (at .loop .inv .1) (omega arith) (omega arith) (c .if1 .found) in
-    (omega arith, more (⊎-elim (λ w. w .3 ∙ rw (w .0 .taken, w .2 .taken) (sym (or-true was))) (⊎-elim (λ w. w .3 ∙ rw (w .0 .taken, w .2 .left) (sym (or-false was))) (λ w. w .1 ∙ rw (w .0 .left) (sym (or-false was)))) (c .if1 .came)))
-
-returns : tie.Need-returns Inv-loop μ-loop
-returns c = search (needs, overlap-end) depth 8
+    (omega arith, overlap-more (at .before .args .t4) _ (at .before .args .clocks) (at .loop .k) (at .loop .inv .1) (omega arith) (omega arith) (⊎-elim (λ w. not-here (getD (at .before .args .t4) (at .loop .k) false) (sym (w .2 .ensures ∙ ap flagOf (w .1 .ensures)) ∙ w .3 .left)) (λ w. not-barred _ (w .left)) (c .if1 .came)))
 
 pub is-barred-spec : {M : Type 1} → statement M
 is-barred-spec =
-    tie.close
-    (tie.spec
-    Inv-loop
-    μ-loop
-    loop-holds
-    array-read-if1
-    mul-if2
-    add-if2
-    shared-slice-read-if2
-    add-k
-    loop-less
-    loop-again
-    returns)
+    tie.close (tie.spec Inv-loop μ-loop
+    loop-holds (λ c. search needs) (λ c. search needs) (λ c κs. search needs) (λ c κs. search needs)
+    returns (λ c. search needs) (λ c. search needs) loop-again (λ c. search (needs, overlap-end) depth 8))

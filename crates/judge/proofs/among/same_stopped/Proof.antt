@@ -2,74 +2,36 @@
 use mathlib.Core.Bool.{Bool, Bool·beq}
 use mathlib.Core.List.{List}
 use mathlib.Core.Path.{_≡_}
-use Prim.Native.Nat.{ℕ, _≤_}
+use Prim.Native.Nat.{ℕ, _-_, _≤_}
+use native.Mathlib.Omega.{arith}
+use borrow.Author.Needs.{needs}
 use Rattle.tesl.specs.Lists.{below}
 use Rattle.judge.specs.Rows.{rowStop}
-use Rattle.judge.proofs.lines.Laws.{below-end, below-no, below-more}
-use borrow.Author.Needs.{needs}
+use Rattle.judge.proofs.among.Down.{below-end, below-no, below-more}
 use Rattle.judge.proofs.among.same_stopped.Statement.{statement}
 use Rattle.judge.proofs.among.same_stopped.Tie as tie
 
-abbrev sameStop : List Bool → ℕ → ℕ → ℕ → Bool
-sameStop stopped i x k = Bool·beq (rowStop stopped x k) (rowStop stopped i k)
+abbrev sameStop : List ℕ → ℕ → ℕ → ℕ → Bool
+sameStop rows i x k = Bool·beq (rowStop rows x k) (rowStop rows i k)
 
 abbrev Inv-loop : tie.InvT-loop
-Inv-loop clocks stopped i x k₀ k = (k ≤ clocks) × (below clocks (sameStop stopped i x) ≡ below k (sameStop stopped i x))
+Inv-loop rows i x clocks k₀ k = (k ≤ clocks) × (below clocks (sameStop rows i x) ≡ below k (sameStop rows i x))
 
 abbrev μ-loop : tie.MeasureT-loop
-μ-loop clocks stopped i x k₀ k = k
+μ-loop rows i x clocks k₀ k = k
 
-loop-holds : tie.Need-loop-holds Inv-loop μ-loop
-loop-holds c = search needs
-
-sub-k : tie.Need-sub-k Inv-loop μ-loop
-sub-k c = search needs
-
-mul-is-stopped : tie.Need-mul-is-stopped Inv-loop μ-loop
-mul-is-stopped c = search needs
-
-add-is-stopped : tie.Need-add-is-stopped Inv-loop μ-loop
-add-is-stopped c = search needs
-
-shared-slice-read-is-stopped : tie.Need-shared-slice-read-is-stopped Inv-loop μ-loop
-shared-slice-read-is-stopped c = search needs
-
-mul-if1 : tie.Need-mul-if1 Inv-loop μ-loop
-mul-if1 c = search needs
-
-add-if1 : tie.Need-add-if1 Inv-loop μ-loop
-add-if1 c = search needs
-
-shared-slice-read-if1 : tie.Need-shared-slice-read-if1 Inv-loop μ-loop
-shared-slice-read-if1 c = search needs
+-- the test of this turn
+tested : (c : tie.After-flag-in2 Inv-loop μ-loop) → let at = c .before .before .before .before .before in Bool·beq (c .before .before .flag-in .result) (c .flag-in2 .result) ≡ sameStop (at .before .args .rows .now) (at .before .args .i) (at .before .args .x) (at .loop .k - 1)
+tested c = cc
 
 returns : tie.Need-returns Inv-loop μ-loop
-returns c = search (needs, below-no) depth 8
-
-loop-less : tie.Need-loop-less Inv-loop μ-loop
-loop-less c = search needs
+returns c = let at = c .before .before .before .before .before .before in below-no _ (at .loop .k) (at .loop .inv .1) (omega arith) _ (tested (c .before)) (c .if1 .taken)
 
 loop-again : tie.Need-loop-again Inv-loop μ-loop
-loop-again c = search (needs, below-more) depth 8
-
-returns-2 : tie.Need-returns-2 Inv-loop μ-loop
-returns-2 c = search (needs, below-end) depth 8
+loop-again c = let at = c .before .before .before .before .before .before in (omega arith, below-more _ (at .loop .k) (at .loop .inv .1) (omega arith) _ (tested (c .before)) (c .if1 .left))
 
 pub same-stopped-spec : {M : Type 1} → statement M
 same-stopped-spec =
-    tie.close
-    (tie.spec
-    Inv-loop
-    μ-loop
-    loop-holds
-    sub-k
-    mul-is-stopped
-    add-is-stopped
-    shared-slice-read-is-stopped
-    mul-if1
-    add-if1
-    shared-slice-read-if1
-    returns
-    loop-less
-    loop-again
-    returns-2)
+    tie.close (tie.spec Inv-loop μ-loop
+    (λ c. search needs) (λ c. search needs) (λ c. search needs) (λ c κs. search needs) (λ c κs. search needs) (λ c. search needs) (λ c κs. search needs) (λ c κs. search needs)
+    returns (λ c. search needs) loop-again (λ c. search (needs, below-end) depth 8))

@@ -1,72 +1,46 @@
 -- `is_clear_in` meets its contract: the loop has found none so far, or stops at the one that it found. Assumes nothing.
-use mathlib.Core.Bool.{Bool, false}
-use mathlib.Core.List.{List}
-use mathlib.Core.Path.{_≡_, refl, sym}
-use Prim.Native.Nat.{ℕ, _-_, _≤_}
+use mathlib.Core.Bool.{false}
+use mathlib.Core.Path.{_≡_, sym, _∙_}
+use Prim.Native.Nat.{_-_, _≤_}
 use native.Mathlib.Omega.{arith}
-use lib.IntN.{ℤ}
 use borrow.Author.Needs.{needs}
-use denote.Ref.{now}
-use Rattle.records.specs.Lists.{listedFrom}
 use Rattle.records.specs.Sheet.{SheetValue}
 use Rattle.tesl.specs.Lists.{any}
 use Rattle.tesl.specs.Remainder.{isClear}
-use Rattle.judge.specs.Rows.{Rows, rows, rowsOf}
-use Rattle.judge.proofs.answer.Laws.{row-owes, row-clear}
+use Rattle.judge.specs.Rows.{rowsOf}
+use Rattle.judge.proofs.answer.Laws.{none-clear, row-owes, row-clear}
 use Rattle.judge.proofs.answer.is_clear_in.Statement.{statement}
 use Rattle.judge.proofs.answer.is_clear_in.Tie as tie
 
 abbrev Inv-loop : tie.InvT-loop
-Inv-loop n marks i₀ i =
-    (i ≤ n) × ((v : SheetValue) (dues : List ℤ) (leads : List ℕ) (stopped : List Bool) → any isClear (rowsOf v i (rows marks dues leads stopped)) ≡ false)
+Inv-loop rows from n i₀ i = (i ≤ n) × ((v : SheetValue) → any isClear (rowsOf v rows from i) ≡ false)
 
 abbrev μ-loop : tie.MeasureT-loop
-μ-loop n marks i₀ i = n - i
-
-none : (v : SheetValue) (r : Rows) → any isClear (rowsOf v 0 r) ≡ false
-unfolding listedFrom
-none v r = refl
+μ-loop rows from n i₀ i = n - i
 
 loop-holds : tie.Need-loop-holds Inv-loop μ-loop
-loop-holds c = (omega arith, λ v dues leads stopped. none v (rows (now (c .args .marks)) dues leads stopped))
-
-mul-if1 : tie.Need-mul-if1 Inv-loop μ-loop
-mul-if1 c = search needs
-
-shared-slice-read-if1 : tie.Need-shared-slice-read-if1 Inv-loop μ-loop
-shared-slice-read-if1 c = search needs
+loop-holds c = (omega arith, λ v. none-clear v (c .args .rows .now) (c .args .from))
 
 returns : tie.Need-returns Inv-loop μ-loop
-returns c =
-    λ v dues leads stopped. sym (row-clear v (rows (now (c .before .before .before .before .args .marks)) dues leads stopped) (c .before .before .before .before .args .n) (c .before .before .before .loop .i) (omega arith) (c .if1 .taken))
-
-add-i : tie.Need-add-i Inv-loop μ-loop
-add-i c = search needs
-
-loop-less : tie.Need-loop-less Inv-loop μ-loop
-loop-less c = search needs
+returns c v =
+    let r = c .before in
+    let at = r .before .before in
+    let a = at .before .args in
+    sym (row-clear v (a .rows .now) (a .from) (a .n) (at .loop .i) (omega arith) (sym (r .row-count .ensures) ∙ c .if1 .taken))
 
 loop-again : tie.Need-loop-again Inv-loop μ-loop
 loop-again c =
-    (omega arith, λ v dues leads stopped. row-owes v (rows (now (c .before .before .before .before .args .marks)) dues leads stopped) (c .before .before .before .loop .i) (c .before .before .before .loop .inv .1 v dues leads stopped) (c .if1 .left))
+    let r = c .before in
+    let at = r .before .before in
+    let a = at .before .args in
+    (omega arith, λ v. row-owes v (a .rows .now) (a .from) (at .loop .i) (at .loop .inv .1 v) (λ e. c .if1 .left (r .row-count .ensures ∙ e)))
 
 returns-2 : tie.Need-returns-2 Inv-loop μ-loop
-returns-2 c =
-    λ v dues leads stopped.
+returns-2 c v =
     let e : c .before .before .args .n ≡ c .before .loop .i = omega arith in
-    sym (rw e (c .before .loop .inv .1 v dues leads stopped))
+    sym (rw e (c .before .loop .inv .1 v))
 
 pub is-clear-in-spec : {M : Type 1} → statement M
 is-clear-in-spec =
-    tie.close
-    (tie.spec
-    Inv-loop
-    μ-loop
-    loop-holds
-    mul-if1
-    shared-slice-read-if1
-    returns
-    add-i
-    loop-less
-    loop-again
-    returns-2)
+    tie.close (tie.spec Inv-loop μ-loop
+    loop-holds (λ c. search needs) (λ c κs. search needs) returns (λ c. search needs) (λ c. search needs) loop-again returns-2)

@@ -4,17 +4,8 @@ use borrow.Author.Needs.{needs}
 use Rattle.judge.proofs.fill.tags_fit.Statement.{statement}
 use Rattle.judge.proofs.fill.tags_fit.Tie as tie
 
-all-tags-hold-requires : tie.Need-all-tags-hold-requires
-all-tags-hold-requires c κs = search needs
-
 returns : tie.Need-returns
 returns c = rw (c .before .if1 .taken) (c .all-tags-hold .ensures)
-
-none-falls-requires : tie.Need-none-falls-requires
-none-falls-requires c κs = search needs
-
-all-tags-hold-requires-2 : tie.Need-all-tags-hold-requires-2
-all-tags-hold-requires-2 c κs = search needs
 
 returns-2 : tie.Need-returns-2
 returns-2 c = rw (c .before .before .before .if1 .left, sym (c .before .before .none-falls .ensures), c .before .if2 .taken) (c .all-tags-hold2 .ensures)
@@ -24,11 +15,4 @@ returns-3 c = rw (c .before .before .if1 .left, sym (c .before .none-falls .ensu
 
 pub tags-fit-spec : {M : Type 1} → statement M
 tags-fit-spec =
-    tie.close
-    (tie.spec
-    all-tags-hold-requires
-    returns
-    none-falls-requires
-    all-tags-hold-requires-2
-    returns-2
-    returns-3)
+    tie.close (tie.spec (λ c κs. search needs) returns (λ c κs. search needs) (λ c κs. search needs) returns-2 returns-3)

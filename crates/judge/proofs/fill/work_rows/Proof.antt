@@ -1,134 +1,125 @@
 -- `work_rows` meets its contract: the ways to a return are the cases of what is worked. Assumes nothing.
 use mathlib.Core.Bool.{false}
-use Prim.Native.Nat.{_≤_}
+use mathlib.Core.Path.{_≡_, refl, sym, ap, _∙_, subst}
+use Prim.Native.Nat.{ℕ, _+_, _-_, _≤_}
 use native.Mathlib.Omega.{arith}
+use lib.Dec.{T}
 use lib.ListN.{replicate}
-use denote.Ref.{now}
-use borrow.Author.Tests.{not-true, not-false}
 use borrow.Author.Needs.{needs}
-use Rattle.records.specs.Sheet.{sheetValue}
-use Rattle.judge.specs.View.{tagsBefore}
-use Rattle.judge.specs.Rows.{Rows, rows}
-use Rattle.judge.proofs.rows.Stored.{small-live}
+use borrow.Author.Tests.{not-true, not-false}
+use Rattle.records.specs.Sheet.{SheetValue}
+use Rattle.tesl.specs.Lists.{all}
+use Rattle.judge.specs.declared.held.Count.{Count}
+use Rattle.judge.specs.declared.held.Count.the-variants.{Exhausted, Live}
+use Rattle.judge.specs.View.{live, tagsBefore}
+use Rattle.judge.specs.Lines.{smallLeads}
+use Rattle.judge.specs.Heed.{rowsClocks, flagged}
+use Rattle.judge.specs.Rows.{rowsOf, Small}
+use Rattle.judge.specs.Settle.{SmallIn, foundIn}
 use Rattle.judge.proofs.work.Listed.{at-most-256, few-listed, work-exhausted, work-broken, work-no, work-yes}
 use Rattle.judge.proofs.fill.work_rows.Statement.{statement}
 use Rattle.judge.proofs.fill.work_rows.Tie as tie
 
--- the rows held, and those to be written
-abbrev given : tie.Start → Rows
-given e = let a = e .args in rows (now (a .marks)) (now (a .dues)) (now (a .leads)) (now (a .stopped))
+-- the places
+abbrev start : tie.After-known-told → tie.Start
+start k = k .before .before .before
 
-abbrev lent : tie.Start → Rows
-lent e = let a = e .args in rows (now (a .outmarks)) (now (a .outdues)) (now (a .outleads)) (now (a .outstopped))
+abbrev some : tie.After-tags-fit → tie.Else1
+some c = c .before .before .before
 
-enum-told : tie.Need-enum-told
-enum-told c = search needs
+abbrev fits : tie.After-flag-rows → tie.Else2
+fits c = c .before .before .before .before
 
-enum-known-count : tie.Need-enum-known-count
-enum-known-count c = search needs
+-- those held
+module _ (k : tie.After-known-told) where
+  abbrev n : ℕ
+  n = k .before .count .given .0 .0
+
+  counted : start k .args .count ≡ Live (k .before .count .given .0 .0)
+  counted = k .before .count .given .1
+
+  small : (k .before .count .given .0 .0 ≤ 32) × Small (start k .args .rows .now) (start k .args .from) (k .before .count .given .0 .0)
+  small = subst (λ (r : Count). SmallIn r (start k .args .rows .now) (start k .args .from)) counted (start k .pre .small)
+
+  leads : (v : SheetValue) → T (all smallLeads (live (foundIn v (start k .args .count) (start k .args .rows .now) (start k .args .from)))) → T (all smallLeads (rowsOf v (start k .args .rows .now) (start k .args .from) (k .before .count .given .0 .0)))
+  leads v = subst (λ (r : Count). T (all smallLeads (live (foundIn v r (start k .args .rows .now) (start k .args .from))))) counted
 
 returns : tie.Need-returns
 returns c =
-    let e = c .before .before .before .before .before .before .before .before .before .before .before .before in
-    let a = e .args in
-    let p = e .pre .1 .1 .1 .1 .1 .1 .1 in
-    (work-broken (a .room) (sheetValue (a .s)) (tagsBefore (a .first) (a .was)) (a .instant .ticks) (a .instant .tags) (a .count) (given e) (c .before .before .count .given .1) (c .if1 .taken) (lent e), (p .0, (p .1, (omega arith, λ i l. absurd (omega arith)))))
-
-clocks-of-requires : tie.Need-clocks-of-requires
-clocks-of-requires c κs = search needs
+    let k = c .before in
+    let s = start k in
+    let a = s .args in
+    record {
+      size = s .pre .size;
+      small = (omega arith, λ j l. absurd (omega arith));
+      head = λ h p l m. refl;
+      lists = s .pre .lists;
+      works = λ v planned leads. work-broken 32 v _ _ _ (a .count) (a .rows .now) (a .from) (counted k) (c .if1 .taken) (a .rows .now) (45 - a .from);
+    }
 
 tags-fit-requires : tie.Need-tags-fit-requires
-tags-fit-requires c κs =
-    let p = c .before .before .before .before .before .before .before .before .before .before .before .before .before .before .pre .1 .1 in
-    (omega (arith, c .before .clocks-of .ensures, p .0), (p .1 .0 .size, p .1 .0 .few-relations))
+tags-fit-requires c κs = let p = start (c .before .before .before) .pre .plan in (p .clocks, p .few-relations)
 
 returns-2 : tie.Need-returns-2
 returns-2 c =
-    let e = c .before .before .before .before .before .before .before .before .before .before .before .before .before .before .before .before in
-    let a = e .args in
-    let p = e .pre .1 .1 .1 in
-    let q = p .1 .1 .1 .1 in
-    (work-no (a .room) (sheetValue (a .s)) (tagsBefore (a .first) (a .was)) (a .instant .ticks) (a .instant .tags) (a .count) (given e) (c .before .before .before .before .before .before .count .given .1) (c .before .before .before .before .if1 .left) (c .before .before .before .clocks-of .ensures) (p .0 .relations) (c .before .tags-fit .ensures) (not-true _ (c .if2 .taken)) (lent e), (q .0, (q .1, (omega arith, λ i l. absurd (omega arith)))))
+    let t = c .before in
+    let e = some t in
+    let k = e .before in
+    let s = start k in
+    let a = s .args in
+    record {
+      size = s .pre .size;
+      small = (omega arith, λ j l. absurd (omega arith));
+      head = λ h p l m. refl;
+      lists = s .pre .lists;
+      works = λ v planned leads. work-no 32 v _ _ _ (a .count) (a .rows .now) (a .from) (counted k) (e .if1 .left) (planned .as-many) (planned .relations) (t .tags-fit .ensures) (not-true _ (c .if2 .taken)) (a .rows .now) (45 - a .from);
+    }
 
-heed-requires : tie.Need-heed-requires
-heed-requires c κs =
-    let e = c .before .before .before .before .before .before .before .before .before .before .before .before .before .before .before .before .before .before in
-    let k = c .before .before .before .before .before .before .before .before .count .given in
-    let p = e .pre .1 .1 in
-    let small = small-live (e .args .count) (k .0 .0) 32 (now (e .args .marks)) (k .1) (p .1 .1 .1 .0) in
-    (omega (arith, c .before .before .before .before .before .clocks-of .ensures, p .0), (small .0, (p .1 .1 .0 .marks, small .1)))
+flag-rows-requires : tie.Need-flag-rows-requires
+flag-rows-requires c κs =
+    let k = some (c .before .before .before .before) .before in
+    let x = small k in
+    (omega (arith, x .0, start k .pre .side .one), x .1)
 
 fill-requires : tie.Need-fill-requires
 fill-requires c κs =
-    let p = c .before .before .before .before .before .before .before .before .before .before .before .before .before .before .before .before .before .before .before .before .pre .1 .1 in
-    let k = c .before .before .before .before .before .before .before .clocks-of in
-    let l : k .result ≤ 8 = omega (arith, k .ensures, p .0) in
-    (p .1 .0 .size, (p .1 .0 .few-rules, (l, (omega arith, (p .1 .1 .1 .1 .1 .1, at-most-256 (k .result) (c .before .heed .result) (replicate 8 false) l)))))
+    let f = c .before in
+    let s = start (some (fits f .before) .before) in
+    record { size = s .pre .lists; plan = s .pre .plan; clock = omega arith; room = at-most-256 (f .flag-rows .result) (s .args .instant .ticks) (s .args .plan .clocks) (replicate 8 false) (s .pre .plan .clocks) }
 
 settle-all-requires : tie.Need-settle-all-requires
 settle-all-requires c κs =
-    let e = c .before .before .before .before .before .before .before .before .before .before .before .before .before .before .before .before .before .before .before .before .before .before .before .before .before .before .before .before in
-    let f = c .before .before .before .before .before .before .before in
-    let k = f .before .before .before .before .before .before .before .before .before .before .before .count .given in
-    let m = f .before .before .before .before .before .before .before .before .clocks-of in
-    let p = e .pre in
-    let q = p .1 .1 .1 in
-    let small = small-live (e .args .count) (k .0 .0) 32 (now (e .args .marks)) (k .1) (q .1 .1 .0) in
-    let few = few-listed (m .result) (f .before .before .heed .result) (replicate 8 false) (f .fill .result) (omega (arith, m .ensures, p .1 .1 .0)) (f .fill .ensures .1 .0) in
-    (p .0, (p .1 .0, (p .1 .1 .0, (q .0, (few, (f .fill .ensures .0, (small .0, (q .1 .0, (small .1, (rw (k .1) at (q .1 .1 .1 .0), q .1 .1 .1 .1 .0))))))))))
+    let l = c .before .before in
+    let f = l .before .before in
+    let k = some (fits f .before) .before in
+    let s = start k in
+    record { size = s .pre .size; side = s .pre .side; held = small k .0; small = small k .1; plan = s .pre .plan; few = few-listed (f .flag-rows .result) (s .args .instant .ticks) (s .args .plan .clocks) (replicate 8 false) (s .pre .plan .clocks) (l .fill .ensures .fewer) }
 
 returns-3 : tie.Need-returns-3
 returns-3 c =
-    let e = c .before .before .before .before .before .before .before .before .before .before in
-    let a = e .args in
-    let p = e .pre .1 .1 .1 .1 .1 .1 .1 in
-    (work-exhausted (a .room) (sheetValue (a .s)) (tagsBefore (a .first) (a .was)) (a .instant .ticks) (a .instant .tags) (a .count) (given e) (c .enum-told .given .1), (p .0, (p .1, λ i h. absurd (omega arith))))
-
-same-length : tie.Need-same-length
-same-length c = search needs
-
-same-length-2 : tie.Need-same-length-2
-same-length-2 c = search needs
-
-same-length-3 : tie.Need-same-length-3
-same-length-3 c = search needs
-
-same-length-4 : tie.Need-same-length-4
-same-length-4 c = search needs
-
-same-length-5 : tie.Need-same-length-5
-same-length-5 c = search needs
+    let s = c .before .before in
+    let a = s .args in
+    record { size = s .pre .size; small = tt; head = λ h p l m. refl; lists = s .pre .lists; works = λ v planned leads. work-exhausted 32 v _ _ _ (a .count) (a .rows .now) (a .from) (c .enum-told .given .1) }
 
 returns-4 : tie.Need-returns-4
 returns-4 c =
-    let e = c .before .before .before .before .before .before .before .before .before .before .before .before .before .before .before .before .before .before .before .before .before .before .before .before .before .before .before .before .before .before .before .before .before .before .before .before in
-    let a = e .args in
-    let v = sheetValue (a .s) in
-    let plan = e .pre .1 .1 .1 .0 in
-    let s = c .before .before .before .before .before .before .before .settle-all .ensures in
-    let f = c .before .before .before .before .before .before .before .before .before .before .before .before .before .before .before in
-    let k = f .before .before .before .before .before .before .before .before .before .before .before .count .given in
-    let m = f .before .before .before .before .before .before .before .before .clocks-of .ensures in
-    let h = f .before .before .heed .ensures (v .lines) (plan .named) in
-    (work-yes (a .room) v (tagsBefore (a .first) (a .was)) (a .instant .ticks) (a .instant .tags) (a .count) (given e) (k .1) (f .before .before .before .before .before .before .before .before .before .if1 .left) m (plan .relations) (f .before .before .before .before .before .before .tags-fit .ensures) (not-false _ (f .before .before .before .before .before .if2 .left)) h (plan .rules) (now (a .list)) (f .fill .ensures .1 .1) (s .0), (s .1 .0, (f .fill .ensures .0, s .1 .1)))
+    let l = c .before .before .before in
+    let f = l .before .before in
+    let x = fits f in
+    let t = x .before in
+    let e = some t in
+    let k = e .before in
+    let a = start k .args in
+    let r = c .settle-all .ensures in
+    record {
+      size = r .size;
+      small = r .small;
+      head = r .head;
+      lists = l .fill .ensures .size;
+      works = λ v planned long. work-yes 32 v _ _ _ (a .count) (a .rows .now) (a .from) (counted k) (e .if1 .left) (planned .as-many) (planned .relations) (t .tags-fit .ensures) (not-false _ (x .if2 .left))
+          (f .flag-rows .ensures ∙ ap (flagged (rowsClocks (a .rows .now) (a .from) (n k))) (planned .named)) (planned .rules) (a .list .now) (l .fill .ensures .listed) (r .settled v planned (leads k v long));
+    }
 
 pub work-rows-spec : {M : Type 1} → statement M
 work-rows-spec =
-    tie.close
-    (tie.spec
-    enum-told
-    enum-known-count
-    returns
-    clocks-of-requires
-    tags-fit-requires
-    returns-2
-    heed-requires
-    fill-requires
-    settle-all-requires
-    returns-3
-    same-length
-    same-length-2
-    same-length-3
-    same-length-4
-    same-length-5
-    returns-4)
+    tie.close (tie.spec (λ c. search needs) (λ c. search needs) returns tags-fit-requires returns-2 flag-rows-requires fill-requires settle-all-requires returns-3 returns-4)

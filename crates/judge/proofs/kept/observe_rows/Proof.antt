@@ -1,103 +1,120 @@
 -- `observe_rows` meets its contract: the refusals are tried in turn, and an accepted instant is worked on, on the rows, and says the answer. Assumes nothing.
+use mathlib.Core.Bool.{true}
 use mathlib.Core.Path.{refl}
 use native.Mathlib.Omega.{arith}
-use denote.Ref.{now}
+use borrow.Author.Needs.{needs}
 use Rattle.records.specs.Sheet.{sheetValue}
-use Rattle.judge.specs.Rows.{rows}
-use Rattle.judge.specs.Kept.{rowsMonitor}
+use Rattle.records.specs.Types.{IsBytes}
+use Rattle.judge.specs.declared.monitor.Monitor.{Monitor}
+use Rattle.judge.specs.Limits.{Limited}
+use Rattle.judge.specs.Monitor.{Workable}
+use Rattle.judge.specs.Kept.{keptMonitor}
 use Rattle.judge.proofs.monitor.Bytes.{all-bytes}
 use Rattle.judge.proofs.monitor.Called.{called-unread, called-full, can-work, called}
-use Rattle.judge.proofs.kept.Laws.{limited, small-rows, leads-rows, eight-rows, accepts-rows}
-use borrow.Author.Needs.{needs}
+use Rattle.judge.proofs.monitor.InRows.{answered-within}
+use Rattle.judge.proofs.kept.Laws.{limited, small-rows, leads-rows, eight-rows, accepts-rows, other-side}
 use Rattle.judge.proofs.kept.observe_rows.Statement.{statement}
 use Rattle.judge.proofs.kept.observe_rows.Tie as tie
 
-read-instant-requires : tie.Need-read-instant-requires
-read-instant-requires c κs = search needs
+-- ---- the start
+module _ (s : tie.Start) where
+  abbrev start : Monitor
+  start = keptMonitor (s .args .kept) (s .args .rows .now)
 
-enum-known-answer : tie.Need-enum-known-answer
-enum-known-answer c = search needs
+  within : Limited start true
+  within = limited (s .args .kept) (s .args .rows .now) (s .pre .value) (s .pre .limits)
 
-enum-told : tie.Need-enum-told
-enum-told c = search needs
+-- ---- where the instant was read
+module _ (r : tie.After-read-instant) where
+  abbrev known : tie.After-shared-slice-known
+  known = r .before .before
+
+  abbrev first : tie.Start
+  first = known .before
 
 returns : tie.Need-returns
 returns c =
-    let s = c .before .before .before .before .before .before .before .before .before .before .before .before .before in
-    let a = s .args in
-    let r = rows (now (a .marks)) (now (a .dues)) (now (a .leads)) (now (a .stopped)) in
-    let m = rowsMonitor (a .sheet) (a .instants) (a .was) (a .count) r in
-    let l = limited (a .sheet) (a .instants) (a .was) (a .count) r (s .pre .0 .value) (s .pre .1 .0) in
-    (called-full m (now (a .bytes)) l refl (c .before .before .before .read-instant .ensures) (c .before .enum-told .given .1) (c .if1 .taken) refl, (s .pre .1 .1 .1 .0, s .pre .1 .1 .1 .1))
-
-work-rows-requires : tie.Need-work-rows-requires
-work-rows-requires c κs =
-    let s = c .before .before .before .before .before .before .before .before .before .before .before .before .before .before .before .before .before .before .before in
-    let a = s .args in
-    let p = s .pre in
-    let r = rows (now (a .marks)) (now (a .dues)) (now (a .leads)) (now (a .stopped)) in
-    let m = rowsMonitor (a .sheet) (a .instants) (a .was) (a .count) r in
-    let l = limited (a .sheet) (a .instants) (a .was) (a .count) r (p .0 .value) (p .1 .0) in
-    let w = can-work m (now (a .bytes)) l refl (c .before .before .before .before .before .before .before .before .before .read-instant .ensures) (c .before .before .before .before .before .before .before .enum-told .given .1) (omega (arith, c .before .before .before .before .before .before .if1 .left)) in
-    (omega arith, (w .lines, (w .clocks, (p .0 .plan, (p .1 .1 .0, (small-rows (a .count) r (w .fits), (leads-rows (a .sheet) (a .instants) (a .was) (a .count) r w, (p .1 .1 .1 .0, p .1 .1 .1 .1))))))))
-
-say-rows-requires : tie.Need-say-rows-requires
-say-rows-requires c κs = search needs
+    let e = c .before in
+    let r = e .before .before in
+    let s = first r in
+    record {
+      observed = called-full (start s) (s .args .bytes .now) (within s) refl (r .read-instant .ensures) (e .enum-told .given .1) (c .if1 .taken) refl;
+      ready = s .pre;
+    }
 
 returns-2 : tie.Need-returns-2
 returns-2 c =
-    let s = c .before .before .before .before .before .before .before .before .before .before .before .before .before in
-    let a = s .args in
-    let r = rows (now (a .marks)) (now (a .dues)) (now (a .leads)) (now (a .stopped)) in
-    let m = rowsMonitor (a .sheet) (a .instants) (a .was) (a .count) r in
-    let l = limited (a .sheet) (a .instants) (a .was) (a .count) r (s .pre .0 .value) (s .pre .1 .0) in
-    (called-unread m (now (a .bytes)) l refl (c .before .before .before .read-instant .ensures) (c .before .answer .given .1) refl, (s .pre .1 .1 .1 .0, s .pre .1 .1 .1 .1))
+    let a = c .before in
+    let r = a .before .before in
+    let s = first r in
+    record {
+      observed = called-unread (start s) (s .args .bytes .now) (within s) refl (r .read-instant .ensures) (a .answer .given .1) refl;
+      ready = s .pre;
+    }
 
-same-length : tie.Need-same-length
-same-length c = search needs
+-- ---- where there is room for an instant
+module _ (e : tie.Else1) where
+  abbrev read : tie.After-read-instant
+  read = e .before .before .before
 
-same-length-2 : tie.Need-same-length-2
-same-length-2 c = search needs
+  abbrev entry : tie.Start
+  entry = first read
 
-same-length-3 : tie.Need-same-length-3
-same-length-3 c = search needs
+  can : Workable (start entry)
+  can = can-work (start entry) (entry .args .bytes .now) (within entry) refl (read .read-instant .ensures) (e .before .enum-told .given .1) (omega (arith, e .if1 .left))
 
-same-length-4 : tie.Need-same-length-4
-same-length-4 c = search needs
+abbrev room : tie.After-work-rows-arg2 → tie.Else1
+room w = w .before .before .before .before .before
 
-same-length-5 : tie.Need-same-length-5
-same-length-5 c = search needs
+work-rows-requires : tie.Need-work-rows-requires
+work-rows-requires c κs =
+    let s = entry (room c) in
+    let k = s .args .kept in
+    record {
+      size = s .pre .size;
+      side = s .pre .side;
+      small = small-rows (s .args .rows .now) (k .from) (k .count) (can (room c) .fits);
+      plan = s .pre .fits;
+      lists = s .pre .lists;
+    }
+
+-- ---- after the work
+abbrev worked : tie.After-say-rows-arg → tie.After-work-rows
+worked c = c .before
+
+say-rows-requires : tie.Need-say-rows-requires
+say-rows-requires c κs =
+    let w = worked c in
+    let s = entry (room (w .before)) in
+    (s .pre .side .other, w .work-rows .ensures .small)
 
 returns-3 : tie.Need-returns-3
 returns-3 c =
-    let s = c .before .before .before .before .before .before .before .before .before .before .before .before .before .before .before .before .before .before .before .before .before .before .before .before .before .before .before .before .before .before .before .before in
-    let a = s .args in
-    let r = rows (now (a .marks)) (now (a .dues)) (now (a .leads)) (now (a .stopped)) in
-    let m = rowsMonitor (a .sheet) (a .instants) (a .was) (a .count) r in
-    let l = limited (a .sheet) (a .instants) (a .was) (a .count) r (s .pre .0 .value) (s .pre .1 .0) in
-    let i = c .before .before .before .before .before .before .before .before .before .before .before .before .before .before .before .before .before .before .before .before .before .before .read-instant in
-    let w = c .before .before .before .before .before .before .before .before .before .before .before .before .work-rows in
-    let q = c .before .say-rows in
-    let o = w .last .1 .1 .1 .1 .1 .1 .1 .1 .1 .1 .1 .1 in (
-      called m (now (a .bytes)) l refl (i .ensures) (c .before .before .before .before .before .before .before .before .before .before .before .before .before .before .before .before .before .before .before .before .enum-told .given .1) (all-bytes (now (a .bytes)) (λ j. c .before .before .before .before .before .before .before .before .before .before .before .before .before .before .before .before .before .before .before .before .before .before .before .before .before .before .before .before .before .before .shared-slice-known2 .given j .fits)) (eight-rows (a .count) r) (omega (arith, c .before .before .before .before .before .before .before .before .before .before .before .before .before .before .before .before .before .before .before .if1 .left))
-          (accepts-rows (a .sheet) (a .instants) (a .was) (a .count) r (i .result .instant) (w .result) (rows (o .0) (o .1 .0) (o .1 .1 .0) (o .1 .1 .1 .0)) (q .result) (w .ensures .0) (w .ensures .1 .1 .1) (q .ensures (sheetValue (a .sheet)) (o .1 .0) (o .1 .1 .0) (o .1 .1 .1 .0))),
-      (w .ensures .1 .0, w .ensures .1 .1 .0),
-    )
+    let q = c .before in
+    let w = worked (q .before) in
+    let e = room (w .before) in
+    let r = read e in
+    let s = entry e in
+    let k = s .args .kept in
+    let v = sheetValue (k .sheet) in
+    let bytes : IsBytes (s .args .bytes .now) = all-bytes (s .args .bytes .now) (λ i. known r .shared-slice-known .given i .fits) in
+    let o = called (start s) (s .args .bytes .now) (within s) refl (r .read-instant .ensures) (e .before .enum-told .given .1) bytes (eight-rows (s .args .rows .now) (k .from) (k .count)) (omega (arith, e .if1 .left))
+        (accepts-rows k (s .args .rows .now) (r .read-instant .result .instant) (w .work-rows .result) _ _
+        (w .work-rows .ensures .works v (s .pre .planned) (leads-rows k (s .args .rows .now) (can e .leads))) (w .work-rows .ensures .small) (q .say-rows .ensures v)) in
+    record {
+      observed = o;
+      ready = record {
+        value = s .pre .value;
+        planned = s .pre .planned;
+        fits = s .pre .fits;
+        side = other-side (s .pre .side);
+        size = w .work-rows .ensures .size;
+        lists = w .work-rows .ensures .lists;
+        limits = answered-within o refl;
+      };
+    }
 
 pub observe-rows-spec : {M : Type 1} → statement M
 observe-rows-spec =
-    tie.close
-    (tie.spec
-    read-instant-requires
-    enum-known-answer
-    enum-told
-    returns
-    work-rows-requires
-    say-rows-requires
-    returns-2
-    same-length
-    same-length-2
-    same-length-3
-    same-length-4
-    same-length-5
-    returns-3)
+    tie.close (tie.spec (λ c κs. search needs) (λ c. search needs) (λ c. search needs)
+    returns work-rows-requires (λ c. search needs) say-rows-requires (λ c. search needs) returns-2 returns-3)

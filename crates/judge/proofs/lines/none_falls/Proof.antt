@@ -36,29 +36,11 @@ abbrev μ-loop : tie.MeasureT-loop
 loop-holds : tie.Need-loop-holds Inv-loop μ-loop
 loop-holds c = (omega arith, refl)
 
-sub-k : tie.Need-sub-k Inv-loop μ-loop
-sub-k c = search needs
-
-mul-before : tie.Need-mul-before Inv-loop μ-loop
-mul-before c = search needs
-
-array-copy-out-before : tie.Need-array-copy-out-before Inv-loop μ-loop
-array-copy-out-before c = search needs
-
-mul-tag : tie.Need-mul-tag Inv-loop μ-loop
-mul-tag c = search needs
-
-array-copy-out-tag : tie.Need-array-copy-out-tag Inv-loop μ-loop
-array-copy-out-tag c = search needs
-
 returns : tie.Need-returns Inv-loop μ-loop
 returns c =
     let at = c .before .before .before .before in
     let a = at .before .args in
     below-no (keeps (a .t2) (a .t3)) (at .loop .k) (at .loop .inv .1) (omega arith) _ refl (compared (a .t2) (a .t3) (at .loop .k - 1) (c .before .before .before2 .given) (c .before .tag .given) (c .if1 .taken))
-
-loop-less : tie.Need-loop-less Inv-loop μ-loop
-loop-less c = search needs
 
 loop-again : tie.Need-loop-again Inv-loop μ-loop
 loop-again c =
@@ -66,22 +48,7 @@ loop-again c =
     let a = at .before .args in
     (omega arith, below-more (keeps (a .t2) (a .t3)) (at .loop .k) (at .loop .inv .1) (omega arith) _ refl (compared (a .t2) (a .t3) (at .loop .k - 1) (c .before .before .before2 .given) (c .before .tag .given) (c .if1 .left)))
 
-returns-2 : tie.Need-returns-2 Inv-loop μ-loop
-returns-2 c = search (needs, below-end) depth 8
-
 pub none-falls-spec : {M : Type 1} → statement M
 none-falls-spec =
-    tie.close
-    (tie.spec
-    Inv-loop
-    μ-loop
-    loop-holds
-    sub-k
-    mul-before
-    array-copy-out-before
-    mul-tag
-    array-copy-out-tag
-    returns
-    loop-less
-    loop-again
-    returns-2)
+    tie.close (tie.spec Inv-loop μ-loop loop-holds (λ c. search needs) (λ c. search needs) (λ c. search needs) (λ c. search needs) (λ c. search needs)
+    returns (λ c. search needs) loop-again (λ c. search (needs, below-end) depth 8))

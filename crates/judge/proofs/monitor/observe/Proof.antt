@@ -1,178 +1,102 @@
 -- `observe` meets its contract: those held are stored in rows, observed there, and read back. Assumes nothing.
-use mathlib.Core.Bool.{false}
-use mathlib.Core.Path.{refl, sym}
-use native.Mathlib.Omega.{arith}
-use denote.Ref.{now}
+use mathlib.Core.Bool.{true, false}
+use mathlib.Core.Path.{subst, sym}
+use Prim.Native.Nat.{ℕ}
 use lib.ListN.{length-replicate}
-use Rattle.judge.specs.Rows.{rows}
-use Rattle.judge.proofs.kept.Laws.{within-stored, inside, few-lines, has-room}
-use Rattle.judge.proofs.monitor.Limits.{limits-of}
-use Rattle.judge.proofs.monitor.Called.{called-outside}
-use Rattle.judge.proofs.monitor.InRows.{refused-rows, small-after, answered-rows}
-use Rattle.judge.proofs.work.Listed.{blank-rows}
 use borrow.Author.Needs.{needs}
+use Rattle.judge.specs.declared.kept.Kept.{Kept}
+use Rattle.judge.specs.declared.monitor.Monitor.{Monitor}
+use Rattle.judge.specs.Limits.{Limited}
+use Rattle.judge.specs.Kept.{keptOf, Ready, Takes}
+use Rattle.judge.proofs.kept.Laws.{ready-stored, inside, has-room, prepares}
+use Rattle.judge.proofs.monitor.Called.{called-outside}
+use Rattle.judge.proofs.monitor.InRows.{refused-rows, found-next, answered-rows}
 use Rattle.judge.proofs.monitor.observe.Statement.{statement}
 use Rattle.judge.proofs.monitor.observe.Tie as tie
 
-is-within-requires : tie.Need-is-within-requires
-is-within-requires c κs = search needs
-
-refuse-requires : tie.Need-refuse-requires
-refuse-requires c κs = search needs
-
 returns : tie.Need-returns
-returns c = called-outside (c .before .before .before .before .args .monitor) (now (c .before .before .before .before .args .bytes)) (c .refuse .result) (c .before .before .is-within .ensures) (c .before .if1 .taken) (c .refuse .ensures)
+returns c =
+    let t = c .before in
+    let w = t .before in
+    let s = w .before .before in
+    called-outside (s .args .monitor) (s .args .bytes .now) (c .refuse .result) (w .is-within .ensures) (t .if1 .taken) (c .refuse .ensures)
 
-slice-aggregate-plan-of : tie.Need-slice-aggregate-plan-of
-slice-aggregate-plan-of c = search needs
+-- ---- the monitor, within its limits
+module _ (e : tie.Else1) where
+  abbrev start : tie.Start
+  start = e .before .before .before
+
+  abbrev monitor : Monitor
+  monitor = start .args .monitor
+
+  within : Limited monitor true
+  within = inside (e .before .is-within .ensures) (e .if1 .left)
 
 plan-of-requires : tie.Need-plan-of-requires
-plan-of-requires c κs = (few-lines (c .before .before .before .before .before .before .before .before .args .monitor) (inside (c .before .before .before .before .before .before .is-within .ensures) (c .before .before .before .before .before .if1 .left)), refl)
+plan-of-requires c κs = let e = c .before .before in prepares (monitor e) (within e) (length-replicate {A = ℕ} 320 0)
 
-slice-aggregate-keep-held : tie.Need-slice-aggregate-keep-held
-slice-aggregate-keep-held c = search needs
+-- ---- the places: its plan, those held stored, and the monitor as it is kept
+abbrev planned : tie.After-rows → tie.After-plan-of
+planned c = c .before .before .before
 
-slice-aggregate-keep-held-2 : tie.Need-slice-aggregate-keep-held-2
-slice-aggregate-keep-held-2 c = search needs
-
-slice-aggregate-keep-held-3 : tie.Need-slice-aggregate-keep-held-3
-slice-aggregate-keep-held-3 c = search needs
-
-slice-aggregate-keep-held-4 : tie.Need-slice-aggregate-keep-held-4
-slice-aggregate-keep-held-4 c = search needs
+abbrev test : tie.After-plan-of → tie.Else1
+test c = c .before .before .before
 
 keep-held-requires : tie.Need-keep-held-requires
-keep-held-requires c κs = (has-room (c .before .before .before .before .before .before .before .before .before .before .before .before .before .before .args .monitor) (inside (c .before .before .before .before .before .before .before .before .before .before .before .before .is-within .ensures) (c .before .before .before .before .before .before .before .before .before .before .before .if1 .left)), blank-rows)
-
-slice-aggregate-observe-rows : tie.Need-slice-aggregate-observe-rows
-slice-aggregate-observe-rows c = search needs
-
-slice-aggregate-observe-rows-2 : tie.Need-slice-aggregate-observe-rows-2
-slice-aggregate-observe-rows-2 c = search needs
-
-slice-aggregate-observe-rows-3 : tie.Need-slice-aggregate-observe-rows-3
-slice-aggregate-observe-rows-3 c = search needs
-
-slice-aggregate-observe-rows-4 : tie.Need-slice-aggregate-observe-rows-4
-slice-aggregate-observe-rows-4 c = search needs
-
-slice-aggregate-observe-rows-5 : tie.Need-slice-aggregate-observe-rows-5
-slice-aggregate-observe-rows-5 c = search needs
-
-slice-aggregate-observe-rows-6 : tie.Need-slice-aggregate-observe-rows-6
-slice-aggregate-observe-rows-6 c = search needs
-
-slice-aggregate-observe-rows-7 : tie.Need-slice-aggregate-observe-rows-7
-slice-aggregate-observe-rows-7 c = search needs
-
-slice-aggregate-observe-rows-8 : tie.Need-slice-aggregate-observe-rows-8
-slice-aggregate-observe-rows-8 c = search needs
-
-slice-aggregate-observe-rows-9 : tie.Need-slice-aggregate-observe-rows-9
-slice-aggregate-observe-rows-9 c = search needs
-
-slice-aggregate-observe-rows-10 : tie.Need-slice-aggregate-observe-rows-10
-slice-aggregate-observe-rows-10 c = search needs
+keep-held-requires c κs = let e = test (planned c) in has-room (monitor e) (within e) (length-replicate {A = ℕ} 4608 0)
 
 observe-rows-requires : tie.Need-observe-rows-requires
 observe-rows-requires c κs =
-    let m = c .before .before .before .before .before .before .before .before .before .before .before .before .before .before .before .before .before .before .before .before .before .before .before .before .before .before .before .before .before .args .monitor in
-    let l = inside (c .before .before .before .before .before .before .before .before .before .before .before .before .before .before .before .before .before .before .before .before .before .before .before .before .before .before .before .is-within .ensures) (c .before .before .before .before .before .before .before .before .before .before .before .before .before .before .before .before .before .before .before .before .before .before .before .before .before .before .if1 .left) in
-    let k = c .before .before .before .before .before .before .before .before .before .before .before .before .before .before .keep-held in
-    let h = k .last .1 .1 in
-    (record { value = l .value refl; plan = c .before .before .before .before .before .before .before .before .before .before .before .before .before .before .before .before .before .before .before .before .plan-of .ensures }, (within-stored m (rows (h .0) (h .1 .0) (h .1 .1 .0) (h .1 .1 .1 .0)) (k .ensures .1 .0) (k .ensures .1 .1) (sym (l .answer)), (k .ensures .0, (blank-rows, length-replicate 2048 false))))
+    let k = c .before .before .before in
+    let h = k .before in
+    let p = planned (h .before) in
+    let e = test p in
+    subst (λ (x : Kept). Ready x (p .plan-of .last .1 .0) (h .keep-held .last .0) _) (sym (k .kept-of .ensures)) (ready-stored (monitor e) (p .plan-of .result) (h .keep-held .ensures) (within e) (p .plan-of .ensures) (length-replicate 2048 false))
 
-enum-known-reply : tie.Need-enum-known-reply
-enum-known-reply c = search needs
+-- ---- the instant observed
+module _ (o : tie.After-observe-rows) where
+  abbrev kept : tie.After-kept-of
+  kept = o .before .before .before .before
 
-refuse-requires-2 : tie.Need-refuse-requires-2
-refuse-requires-2 c κs = search needs
+  abbrev plan : tie.After-plan-of
+  plan = planned (kept .before .before)
 
-enum-told : tie.Need-enum-told
-enum-told c = search needs
+  abbrev entry : tie.Start
+  entry = start (test plan)
 
-slice-aggregate-from-rows : tie.Need-slice-aggregate-from-rows
-slice-aggregate-from-rows c = search needs
-
-slice-aggregate-from-rows-2 : tie.Need-slice-aggregate-from-rows-2
-slice-aggregate-from-rows-2 c = search needs
-
-slice-aggregate-from-rows-3 : tie.Need-slice-aggregate-from-rows-3
-slice-aggregate-from-rows-3 c = search needs
-
-slice-aggregate-from-rows-4 : tie.Need-slice-aggregate-from-rows-4
-slice-aggregate-from-rows-4 c = search needs
-
-from-rows-requires : tie.Need-from-rows-requires
-from-rows-requires c κs =
-    let m = c .before .before .before .before .before .before .before .before .before .before .before .before .before .before .before .before .before .before .before .before .before .before .before .before .before .before .before .before .before .before .before .before .before .before .before .before .before .before .before .before .before .args .monitor in
-    let l = inside (c .before .before .before .before .before .before .before .before .before .before .before .before .before .before .before .before .before .before .before .before .before .before .before .before .before .before .before .before .before .before .before .before .before .before .before .before .before .before .before .is-within .ensures) (c .before .before .before .before .before .before .before .before .before .before .before .before .before .before .before .before .before .before .before .before .before .before .before .before .before .before .before .before .before .before .before .before .before .before .before .before .before .before .if1 .left) in
-    let k = c .before .before .before .before .before .before .before .before .before .before .before .before .before .before .before .before .before .before .before .before .before .before .before .before .before .before .keep-held in
-    let h = k .last .1 .1 in
-    let o = c .before .before .before .before .before .before .before .before .before .before .before .observe-rows in
-    let q = o .last .1 .1 .1 .1 .1 .1 .1 .1 .1 .1 .1 in
-    (o .ensures .1 .0, small-after m l (rows (h .0) (h .1 .0) (h .1 .1 .0) (h .1 .1 .1 .0)) (k .ensures .1 .0) (k .ensures .1 .1) (now (c .before .before .before .before .before .before .before .before .before .before .before .before .before .before .before .before .before .before .before .before .before .before .before .before .before .before .before .before .before .before .before .before .before .before .before .before .before .before .before .before .before .args .bytes)) (o .result) (rows (q .0) (q .1 .0) (q .1 .1 .0) (q .1 .1 .1 .0)) (o .ensures .0) (c .before .before .before .before .enum-told .given .1))
-
-add-t70 : tie.Need-add-t70
-add-t70 c =
-    let m = c .before .before .before .before .before .before .before .before .before .before .before .before .before .before .before .before .before .before .before .before .before .before .before .before .before .before .before .before .before .before .before .before .before .before .before .before .before .before .before .before .before .before .before .args .monitor in
-    let l = inside (c .before .before .before .before .before .before .before .before .before .before .before .before .before .before .before .before .before .before .before .before .before .before .before .before .before .before .before .before .before .before .before .before .before .before .before .before .before .before .before .before .before .is-within .ensures) (c .before .before .before .before .before .before .before .before .before .before .before .before .before .before .before .before .before .before .before .before .before .before .before .before .before .before .before .before .before .before .before .before .before .before .before .before .before .before .before .before .if1 .left) in
-    omega (arith, limits-of m (l .value refl) (sym (l .answer)) .instants)
+  takes : Takes (keptOf (entry .args .monitor) (plan .plan-of .result)) (entry .args .bytes .now) (plan .plan-of .last .1 .0) (o .observe-rows .result) (kept .before .keep-held .last .0) (o .observe-rows .last .1 .1 .1 .0) (o .observe-rows .last .1 .1 .1 .1 .0)
+  takes =
+      subst (λ (x : Kept). Takes x (entry .args .bytes .now) (plan .plan-of .last .1 .0) (o .observe-rows .result) (kept .before .keep-held .last .0) (o .observe-rows .last .1 .1 .1 .0) (o .observe-rows .last .1 .1 .1 .1 .0)) (kept .kept-of .ensures)
+      (o .observe-rows .ensures)
 
 returns-2 : tie.Need-returns-2
 returns-2 c =
-    let m = c .before .before .before .before .before .before .before .before .before .before .before .before .before .before .before .before .before .before .before .before .before .before .before .before .before .before .before .before .before .before .before .before .before .before .before .before .before .before .before .args .monitor in
-    let l = inside (c .before .before .before .before .before .before .before .before .before .before .before .before .before .before .before .before .before .before .before .before .before .before .before .before .before .before .before .before .before .before .before .before .before .before .before .before .before .is-within .ensures) (c .before .before .before .before .before .before .before .before .before .before .before .before .before .before .before .before .before .before .before .before .before .before .before .before .before .before .before .before .before .before .before .before .before .before .before .before .if1 .left) in
-    let k = c .before .before .before .before .before .before .before .before .before .before .before .before .before .before .before .before .before .before .before .before .before .before .before .before .keep-held in
-    let h = k .last .1 .1 in
-    let o = c .before .before .before .before .before .before .before .before .before .observe-rows in
-    let q = o .last .1 .1 .1 .1 .1 .1 .1 .1 .1 .1 .1 in
-    refused-rows m l (rows (h .0) (h .1 .0) (h .1 .1 .0) (h .1 .1 .1 .0)) (k .ensures .1 .0) (k .ensures .1 .1) (now (c .before .before .before .before .before .before .before .before .before .before .before .before .before .before .before .before .before .before .before .before .before .before .before .before .before .before .before .before .before .before .before .before .before .before .before .before .before .before .before .args .bytes)) (o .result) (rows (q .0) (q .1 .0) (q .1 .1 .0) (q .1 .1 .1 .0)) (o .ensures .0) (c .before .before .reply .given .1) (c .refuse2 .ensures)
+    let r = c .before .before in
+    let o = r .before .before in
+    let p = plan o in
+    let e = test p in
+    refused-rows (monitor e) (within e) (p .plan-of .result) (kept o .before .keep-held .ensures) (takes o) (r .reply .given .1) (c .refuse2 .ensures)
+
+abbrev answered : tie.After-rows3 → tie.After-enum-told
+answered c = c .before .before .before .before
+
+from-rows-requires : tie.Need-from-rows-requires
+from-rows-requires c κs =
+    let o = answered c .before .before in
+    let p = plan o in
+    let e = test p in
+    found-next (monitor e) (within e) (p .plan-of .result) (kept o .before .keep-held .ensures) (takes o)
 
 returns-3 : tie.Need-returns-3
 returns-3 c =
-    let m = c .before .before .before .before .before .before .before .before .before .before .before .before .before .before .before .before .before .before .before .before .before .before .before .before .before .before .before .before .before .before .before .before .before .before .before .before .before .before .before .before .before .before .before .args .monitor in
-    let l = inside (c .before .before .before .before .before .before .before .before .before .before .before .before .before .before .before .before .before .before .before .before .before .before .before .before .before .before .before .before .before .before .before .before .before .before .before .before .before .before .before .before .before .is-within .ensures) (c .before .before .before .before .before .before .before .before .before .before .before .before .before .before .before .before .before .before .before .before .before .before .before .before .before .before .before .before .before .before .before .before .before .before .before .before .before .before .before .before .if1 .left) in
-    let k = c .before .before .before .before .before .before .before .before .before .before .before .before .before .before .before .before .before .before .before .before .before .before .before .before .before .before .before .before .keep-held in
-    let h = k .last .1 .1 in
-    let o = c .before .before .before .before .before .before .before .before .before .before .before .before .before .observe-rows in
-    let q = o .last .1 .1 .1 .1 .1 .1 .1 .1 .1 .1 .1 in
-    let g = c .before .from-rows in
-    answered-rows m l (rows (h .0) (h .1 .0) (h .1 .1 .0) (h .1 .1 .1 .0)) (k .ensures .1 .0) (k .ensures .1 .1) (now (c .before .before .before .before .before .before .before .before .before .before .before .before .before .before .before .before .before .before .before .before .before .before .before .before .before .before .before .before .before .before .before .before .before .before .before .before .before .before .before .before .before .before .before .args .bytes)) (o .result) (rows (q .0) (q .1 .0) (q .1 .1 .0) (q .1 .1 .1 .0)) (o .ensures .0) (c .before .before .before .before .before .before .enum-told .given .1) (g .result) (g .ensures .0) (g .ensures .1)
+    let b = c .before in
+    let a = answered (b .before) in
+    let o = a .before .before in
+    let p = plan o in
+    let e = test p in
+    answered-rows (monitor e) (within e) (p .plan-of .result) (kept o .before .keep-held .ensures) (takes o) (a .enum-told .given .1) (b .from-rows .ensures)
 
 pub observe-spec : {M : Type 1} → statement M
 observe-spec =
-    tie.close
-    (tie.spec
-    is-within-requires
-    refuse-requires
-    returns
-    slice-aggregate-plan-of
-    plan-of-requires
-    slice-aggregate-keep-held
-    slice-aggregate-keep-held-2
-    slice-aggregate-keep-held-3
-    slice-aggregate-keep-held-4
-    keep-held-requires
-    slice-aggregate-observe-rows
-    slice-aggregate-observe-rows-2
-    slice-aggregate-observe-rows-3
-    slice-aggregate-observe-rows-4
-    slice-aggregate-observe-rows-5
-    slice-aggregate-observe-rows-6
-    slice-aggregate-observe-rows-7
-    slice-aggregate-observe-rows-8
-    slice-aggregate-observe-rows-9
-    slice-aggregate-observe-rows-10
-    observe-rows-requires
-    enum-known-reply
-    refuse-requires-2
-    enum-told
-    slice-aggregate-from-rows
-    slice-aggregate-from-rows-2
-    slice-aggregate-from-rows-3
-    slice-aggregate-from-rows-4
-    from-rows-requires
-    add-t70
-    returns-2
-    returns-3)
+    tie.close (tie.spec (λ c κs. search needs) (λ c κs. search needs) returns plan-of-requires keep-held-requires (λ c κs. search needs) observe-rows-requires
+    (λ c. search needs) (λ c κs. search needs) (λ c. search needs) from-rows-requires returns-2 returns-3)

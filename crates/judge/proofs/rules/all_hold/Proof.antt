@@ -22,48 +22,19 @@ abbrev μ-loop : tie.MeasureT-loop
 loop-holds : tie.Need-loop-holds Inv-loop μ-loop
 loop-holds c = (omega arith, rw sub-zero)
 
-add-line-in : tie.Need-add-line-in Inv-loop μ-loop
-add-line-in c = search needs
-
-line-in-requires : tie.Need-line-in-requires Inv-loop μ-loop
-line-in-requires c κs = search needs
-
-ticks-hold-requires : tie.Need-ticks-hold-requires Inv-loop μ-loop
-ticks-hold-requires c κs = search needs
-
 returns : tie.Need-returns Inv-loop μ-loop
 returns c =
     let at = c .before .before .before .before in
-    let a = at .before .before .args in
+    let a = at .before .args in
     all-no (ticksHold (a .ticks)) (ruleIn (a .lines .now)) (a .n) (at .loop .i) (at .loop .inv .1) (omega arith) _ (c .before .before .line-in .ensures) _ (c .before .ticks-hold .ensures) (not-true _ (c .if1 .taken))
-
-add-i : tie.Need-add-i Inv-loop μ-loop
-add-i c = search needs
-
-loop-less : tie.Need-loop-less Inv-loop μ-loop
-loop-less c = search needs
 
 loop-again : tie.Need-loop-again Inv-loop μ-loop
 loop-again c =
     let at = c .before .before .before .before in
-    let a = at .before .before .args in
+    let a = at .before .args in
     (omega arith, all-more (ticksHold (a .ticks)) (ruleIn (a .lines .now)) (a .n) (at .loop .i) (at .loop .inv .1) (omega arith) _ (c .before .before .line-in .ensures) _ (c .before .ticks-hold .ensures) (not-false _ (c .if1 .left)))
-
-returns-2 : tie.Need-returns-2 Inv-loop μ-loop
-returns-2 c = search (needs, all-end) depth 8
 
 pub all-hold-spec : {M : Type 1} → statement M
 all-hold-spec =
-    tie.close
-    (tie.spec
-    Inv-loop
-    μ-loop
-    loop-holds
-    add-line-in
-    line-in-requires
-    ticks-hold-requires
-    returns
-    add-i
-    loop-less
-    loop-again
-    returns-2)
+    tie.close (tie.spec Inv-loop μ-loop loop-holds (λ c. search needs) (λ c κs. search needs) (λ c κs. search needs) returns (λ c. search needs)
+    (λ c. search needs) loop-again (λ c. search (needs, all-end) depth 8))

@@ -24,45 +24,20 @@ abbrev μ-loop : tie.MeasureT-loop
 loop-holds : tie.Need-loop-holds Inv-loop μ-loop
 loop-holds c = (omega arith, rw sub-zero)
 
-add-line-in : tie.Need-add-line-in Inv-loop μ-loop
-add-line-in c = search needs
-
-line-in-requires : tie.Need-line-in-requires Inv-loop μ-loop
-line-in-requires c κs = search needs
-
-stopped-after-requires : tie.Need-stopped-after-requires Inv-loop μ-loop
-stopped-after-requires c κs = search needs
-
-add-i : tie.Need-add-i Inv-loop μ-loop
-add-i c = search needs
-
-loop-less : tie.Need-loop-less Inv-loop μ-loop
-loop-less c = search needs
-
 loop-again : tie.Need-loop-again Inv-loop μ-loop
 loop-again c =
     let l = c .before .line-in in
     let at = c .before .before .before in
-    let a = at .before .before .args in
+    let a = at .before .args in
     (omega arith, fold-more (stoppedAfter (a .ticks)) (allStopped (a .ticks)) (λ x. refl) (λ l ls x. refl) (ruleIn (a .lines .now)) (a .n) (at .loop .i) (at .loop .stops) (at .loop .inv .1) (omega arith) (l .result) (l .ensures) (c .stopped-after .result) (c .stopped-after .ensures))
 
 returns : tie.Need-returns Inv-loop μ-loop
 returns c =
     let at = c .before in
-    let a = at .before .before .args in
+    let a = at .before .args in
     fold-end (stoppedAfter (a .ticks)) (allStopped (a .ticks)) (λ x. refl) (λ l ls x. refl) (ruleIn (a .lines .now)) (a .n) (at .loop .i) (at .loop .stops) (at .loop .inv .1) (omega arith)
 
 pub all-stops-spec : {M : Type 1} → statement M
 all-stops-spec =
-    tie.close
-    (tie.spec
-    Inv-loop
-    μ-loop
-    loop-holds
-    add-line-in
-    line-in-requires
-    stopped-after-requires
-    add-i
-    loop-less
-    loop-again
-    returns)
+    tie.close (tie.spec Inv-loop μ-loop loop-holds (λ c. search needs) (λ c κs. search needs) (λ c κs. search needs) (λ c. search needs)
+    (λ c. search needs) loop-again returns)

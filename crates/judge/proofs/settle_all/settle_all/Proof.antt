@@ -1,0 +1,133 @@
+-- `settle_all` meets its contract. The invariant: what all fillings make of none is what those from i on make of what is found so far; the rows held stay. Assumes nothing.
+use mathlib.Core.Bool.{Bool}
+use mathlib.Core.List.{List, []}
+use mathlib.Core.Option.{some}
+use mathlib.Core.Path.{_≡_, refl, sym, ap, _∙_, subst}
+use Prim.Native.Nat.{ℕ, _+_, _-_, _<_, _≤_}
+use native.Mathlib.Omega.{arith}
+use lib.Dec.{T}
+use lib.IntN.{ℤ}
+use lib.ListN.{length}
+use borrow.Author.Needs.{needs}
+use Rattle.records.specs.Lists.{listedFrom}
+use Rattle.records.specs.Sheet.{SheetValue}
+use Rattle.tesl.specs.Lists.{all}
+use Rattle.tesl.specs.Remainder.{Remainder}
+use Rattle.judge.specs.declared.plan.Plan.{Plan}
+use Rattle.judge.specs.declared.held.Count.{Count}
+use Rattle.judge.specs.declared.held.Count.the-variants.{Exhausted, Live}
+use Rattle.judge.specs.View.{cut}
+use Rattle.judge.specs.Lines.{smallLeads}
+use Rattle.judge.specs.Plan.{Planned}
+use Rattle.judge.specs.Rows.{words, rowOf, rowsOf, Small, HeadStays}
+use Rattle.judge.specs.Settle.{foundIn, SmallIn}
+use Rattle.judge.specs.Fillings.{fillingsIn, takenBy, settling}
+use Rattle.judge.proofs.Listing.{listed-same}
+use Rattle.judge.proofs.settle_all.Laws.{takenFrom, settling-same, taken-start, taken-end, taken-more, taken-over}
+use Rattle.judge.proofs.settle_all.settle_all.Statement.{statement}
+use Rattle.judge.proofs.settle_all.settle_all.Tie as tie
+
+record Taken (lines : List ℕ) (p : Plan) (tags : List ℤ) (m : ℕ) (list : List Bool) (from n : ℕ) (was rows : List ℕ) (live i : ℕ) : Type 0 where
+  turns : i ≤ m
+  fewer : live ≤ 32
+  size : length rows ≡ words
+  small : Small rows (45 - from) live
+  head : HeadStays was rows
+  few : Small rows from n
+  same : (j : ℕ) → j < n → rowOf rows (from + j) ≡ rowOf was (from + j)
+  taken : (v : SheetValue) → Planned v p lines → T (all smallLeads (rowsOf v was from n))
+      → takenBy (settling 32 v tags (rowsOf v was from n)) (fillingsIn list m) (some []) ≡ takenFrom v tags (rowsOf v was from n) list m i (some (rowsOf v rows (45 - from) live))
+
+abbrev Inv-loop : tie.InvT-loop
+Inv-loop was from n plan lines tags m list to live₀ i₀ rows live i = Taken lines plan tags m list from n was rows live i
+
+abbrev μ-loop : tie.MeasureT-loop
+μ-loop was from n plan lines tags m list to live₀ i₀ rows live i = m - i
+
+loop-holds : tie.Need-loop-holds Inv-loop μ-loop
+unfolding listedFrom
+loop-holds c =
+    record {
+      turns = omega arith;
+      fewer = omega arith;
+      size = c .pre .size;
+      small = λ k h. absurd (omega arith);
+      head = λ h p l m. refl;
+      few = c .pre .small;
+      same = λ j h. refl;
+      taken = λ v planned leads. taken-start v (c .args .tags) (rowsOf v (c .args .rows .now) (c .args .from) (c .args .n)) (c .args .list .now) (c .args .m);
+    }
+
+-- after a filling
+module _ (c : tie.After-settle Inv-loop μ-loop) where
+  abbrev g : tie.After-gather Inv-loop μ-loop
+  g = c .before .before
+
+  abbrev at : tie.At-loop Inv-loop μ-loop
+  at = g .before .before .before
+
+  abbrev last : List ℕ
+  last = c .settle .last .0
+
+  same : (j : ℕ) → j < at .before .args .n → rowOf last (at .before .args .from + j) ≡ rowOf (at .before .args .rows .now) (at .before .args .from + j)
+  same j h = c .settle .ensures .same j h ∙ at .loop .inv .same j h
+
+  head : HeadStays (at .before .args .rows .now) last
+  head h p l m = c .settle .ensures .head h p l m ∙ at .loop .inv .head h p l m
+
+  held : (v : SheetValue) → rowsOf v (at .loop .rows) (at .before .args .from) (at .before .args .n) ≡ rowsOf v (at .before .args .rows .now) (at .before .args .from) (at .before .args .n)
+  held v = listed-same (at .before .args .n) (λ j h. ap (cut v) (at .loop .inv .same j h))
+
+  settled : (v : SheetValue) → Planned v (at .before .args .plan) (at .before .args .lines .now) → T (all smallLeads (rowsOf v (at .before .args .rows .now) (at .before .args .from) (at .before .args .n)))
+      → foundIn v (c .settle .result) last (45 - at .before .args .from) ≡ settling 32 v (at .before .args .tags) (rowsOf v (at .before .args .rows .now) (at .before .args .from) (at .before .args .n)) (some (rowsOf v (at .loop .rows) (45 - at .before .args .from) (at .loop .live))) (g .before .flags-at .result)
+  settled v planned leads =
+      let e = g .gather .ensures in
+      c .settle .ensures .settled v (e .asked v planned) (subst (λ (rs : List Remainder). T (all smallLeads rs)) (sym (held v)) leads)
+      ∙ settling-same v _ (e .tagged) (held v) (e .ticked)
+
+settle-requires : tie.Need-settle-requires Inv-loop μ-loop
+settle-requires c κs =
+    let g = c .before in
+    let at = g .before .before .before in
+    let w = at .loop .inv in
+    let p = at .before .pre in
+    record { size = w .size; sides = p .side; held = p .held; fewer = w .fewer; small = w .few; smallFound = w .small; plan = p .plan; begun = g .gather .ensures .few }
+
+returns : tie.Need-returns Inv-loop μ-loop
+returns c =
+    let t = c .before .before in
+    let w = at t .loop .inv in
+    record {
+      size = t .settle .ensures .size;
+      head = head t;
+      small = tt;
+      settled = λ v planned leads. taken-over v (at t .before .args .tags) _ (at t .before .args .list .now) (at t .before .args .m) (at t .loop .i) _ (w .taken v planned leads) (omega arith) (g t .before .flags-at .ensures) (ap (λ (r : Count). foundIn v r (last t) (45 - at t .before .args .from)) (sym (c .enum-told .given .1)) ∙ settled t v planned leads);
+    }
+
+loop-again : tie.Need-loop-again Inv-loop μ-loop
+loop-again c =
+    let k = c .before .more .given in
+    let t = c .before .before .before in
+    let w = at t .loop .inv in
+    let s = subst (λ (r : Count). SmallIn r (last t) (45 - at t .before .args .from)) (k .1) (t .settle .ensures .small) in
+    record {
+      turns = omega arith;
+      fewer = s .0;
+      size = t .settle .ensures .size;
+      head = head t;
+      small = s .1;
+      few = t .settle .ensures .few;
+      same = same t;
+      taken = λ v planned leads. taken-more v (at t .before .args .tags) _ (at t .before .args .list .now) (at t .before .args .m) (at t .loop .i) _ (w .taken v planned leads) (omega arith) (g t .before .flags-at .ensures) (ap (λ (r : Count). foundIn v r (last t) (45 - at t .before .args .from)) (sym (k .1)) ∙ settled t v planned leads);
+    }
+
+returns-2 : tie.Need-returns-2 Inv-loop μ-loop
+returns-2 c =
+    let at = c .before in
+    let w = at .loop .inv in
+    record { size = w .size; small = (w .fewer, w .small); head = w .head; settled = λ v planned leads. taken-end v (at .before .args .tags) _ (at .before .args .list .now) (at .before .args .m) (at .loop .i) _ (w .taken v planned leads) (omega arith) }
+
+pub settle-all-spec : {M : Type 1} → statement M
+settle-all-spec =
+    tie.close (tie.spec Inv-loop μ-loop (λ c. omega (arith, c .pre .side .one)) loop-holds (λ c κs. omega (arith, c .before .before .pre .few)) (λ c. search needs)
+    (λ c κs. c .before .before .before .pre .plan) settle-requires (λ c. search needs) returns (λ c. search needs) (λ c. search needs) loop-again returns-2)

@@ -1,0 +1,143 @@
+-- Remainders stored in rows one by one, and read back: the row that is stored, the rows before it and the head, which stay. Assumes nothing.
+use mathlib.Core.Bool.{Bool, true, false, cond}
+use mathlib.Core.List.{List, [], map}
+use mathlib.Core.Logic.{⊎-elim}
+use mathlib.Core.Option.{some}
+use mathlib.Core.Path.{_≡_, refl, sym, ap, subst, _∙_}
+use Prim.Native.Nat.{ℕ, _+_, _≤_, _<_}
+use native.Mathlib.Nat.{eq-or-lt-of-le}
+use native.Mathlib.Omega.{arith}
+use lib.Dec.{T, leb, ltb, leb→le, le→leb}
+use lib.ListN.{length, getD, take}
+use borrow.Author.Tests.{ltb-true, ltb-false}
+use Rattle.records.specs.Line.{blankLine}
+use Rattle.records.specs.Sheet.{SheetValue}
+use Rattle.tesl.specs.Lists.{all}
+use Rattle.tesl.proofs.Tests.{and-l, and-r, and-i}
+use Rattle.judge.specs.declared.plan.Plan.{Plan}
+use Rattle.judge.specs.declared.remainder.Remainder as arrays
+use Rattle.judge.specs.declared.held.Count.{Count}
+use Rattle.judge.specs.declared.held.Count.the-variants.{Exhausted, Live}
+use Rattle.judge.specs.View.{remainderOf, blankObligation, blankRemainder, cut, viewOf, NothingUnused, sizedIn}
+use Rattle.judge.specs.Lines.{smallLeads}
+use Rattle.judge.specs.Plan.{isPrecedes, Planned}
+use Rattle.judge.specs.Rows.{words, rowCount, rowOf, rowsOf, Small, HeadStays}
+use Rattle.judge.specs.Settle.{SmallIn}
+use Rattle.judge.specs.Stored.{PutRemainder, ToRows, KeptHeld, CopiedRows, FromRows}
+use Rattle.judge.proofs.Places.{as-is, all-at}
+use Rattle.judge.proofs.Listing.{one-of, all-of}
+use Rattle.judge.proofs.rows.Placing.{blank-at, first-listed}
+use Rattle.judge.proofs.work.Carried.{used-by}
+use Rattle.judge.proofs.settle.Laws.{row-stays}
+
+-- what past the end of an array of remainders reads
+abbrev pub pastEnd : arrays.Remainder
+pastEnd = record { owed = 0; obligations = []; leads = []; stopped = [] }
+
+-- ---- stored
+
+-- row k of the first side reads as remainder k does
+pub record Reads (rs : List arrays.Remainder) (rows : List ℕ) (k : ℕ) : Type 0 where
+  pub few : rowCount rows (6 + k) ≤ 8
+  pub row : rowOf rows (6 + k) ≡ remainderOf (getD rs k pastEnd)
+
+-- the first k are stored
+pub record Keeping (rs : List arrays.Remainder) (was rows : List ℕ) (k : ℕ) : Type 0 where
+  pub size : length rows ≡ words
+  pub head : HeadStays was rows
+  pub places : (j : ℕ) → j < k → Reads rs rows j
+
+module _ (rs : List arrays.Remainder) {was : List ℕ} where
+  pub keeping-start : length was ≡ words → Keeping rs was was 0
+  keeping-start h = record { size = h; head = λ g p l m. refl; places = λ j l. absurd (omega arith) }
+
+  module _ {rows : List ℕ} {k : ℕ} (w : Keeping rs was rows k) where
+    pub keeping-more : {after : List ℕ} → PutRemainder (6 + k) (getD rs k pastEnd) rows after → getD rs k pastEnd .owed ≤ 8 → Keeping rs was after (k + 1)
+    keeping-more {after} p few =
+        record {
+          size = p .stays .size ∙ w .size;
+          head = λ g q l m. p .stays .same g q m (λ e x y. omega arith) ∙ w .head g q l m;
+          places = λ j l. ⊎-elim
+              (λ (e : j ≡ k). rw e (record { few = rw (p .count) few; row = p .row }))
+              (λ (g : j < k). let q = w .places j g in
+              record { few = rw (p .stays .same (6 + j) 0 (omega arith) (λ e x y. omega arith)) (q .few); row = row-stays (p .stays) (6 + j) (q .few) (λ e. omega arith) ∙ q .row })
+              (eq-or-lt-of-le (omega arith));
+        }
+
+    pub kept-rows : {n : ℕ} → n ≡ k → n ≤ length rs → ToRows n rs was rows
+    kept-rows {n} e h =
+        record {
+          size = w .size;
+          head = w .head;
+          small = λ j l. w .places j (omega arith) .few;
+          rows = λ v. sym (first-listed (viewOf v) (λ j. cut v (rowOf rows (6 + j))) pastEnd rs n h (λ j l. ap (cut v) (sym (w .places j (omega arith) .row))));
+        }
+
+-- remainder k owes at most eight
+pub owes-few : (rs : List arrays.Remainder) (n k : ℕ) → k < n → n ≤ length rs → T (all (λ (r : arrays.Remainder). leb (r .owed) 8) (take n rs)) → getD rs k pastEnd .owed ≤ 8
+owes-few rs n k h l t =
+    leb→le _ 8 (all-at (λ (r : arrays.Remainder). r) rs n k pastEnd h l (λ (r : arrays.Remainder). leb (r .owed) 8) (rw as-is t))
+
+pub room-for : {count : Count} {n : ℕ} (rs : List arrays.Remainder) → count ≡ Live n → T (sizedIn count rs) → (n ≤ 32) × T (all (λ (r : arrays.Remainder). leb (r .owed) 8) (take n rs))
+room-for {n = n} rs e t =
+    let s : T (sizedIn (Live n) rs) = rw e at t in
+    let few = all (λ (r : arrays.Remainder). leb (r .owed) 8) (take n rs) in
+    (leb→le n 32 (and-l (leb n 32) few s), and-r (leb n 32) few s)
+
+module _ {count : Count} (rs : List arrays.Remainder) {a : List ℕ} where
+  pub kept-none : count ≡ Exhausted → length a ≡ words → KeptHeld count rs a a
+  kept-none e h = rw e (record { size = h; head = λ g p l m. refl; small = tt; held = λ v. refl })
+
+  pub kept-live : {n : ℕ} {b : List ℕ} → count ≡ Live n → n ≤ 32 → ToRows n rs a b → KeptHeld count rs a b
+  kept-live e h w = rw e (record { size = w .size; head = w .head; small = (h, w .small); held = λ v. ap some (w .rows v) })
+
+-- ---- read back
+
+pub blank-unused : (v : SheetValue) → NothingUnused v blankRemainder
+blank-unused v =
+    record {
+      obligations = λ j h. blank-at blankObligation 8 j;
+      leads = λ k. rw (blank-at {A = ℕ} 0 16 k) (sym (used-by (getD (v .lines) k blankLine) 0 ∙ same (isPrecedes (getD (v .lines) k blankLine))));
+      stopped = λ k h. blank-at false 8 k;
+    }
+  where
+    same : (b : Bool) → _≡_ {A = ℕ} (cond b 0 0) 0
+    same true = refl
+    same false = refl
+
+module _ {p : Plan} {from n : ℕ} (rs : List arrays.Remainder) {rows : List ℕ} (w : CopiedRows p from n rs rows) where
+  copied-few : n ≤ 32 → T (all (λ (r : arrays.Remainder). leb (r .owed) 8) (take n rs))
+  copied-few h =
+      rw (sym (as-is (take n rs)), first-listed (λ (r : arrays.Remainder). r) (λ k. getD rs k blankRemainder) blankRemainder rs n (omega (arith, w .size)) (λ k l. refl))
+      (all-of (λ k. getD rs k blankRemainder) (λ (r : arrays.Remainder). leb (r .owed) 8) n (λ k l. le→leb _ 8 (w .first k l .few)))
+
+  module _ {v : SheetValue} {lines : List ℕ} (planned : Planned v p lines) where
+    copied-view : n ≤ 32 → T (all smallLeads (rowsOf v rows from n)) → map (viewOf v) (take n rs) ≡ rowsOf v rows from n
+    copied-view h t =
+        first-listed (viewOf v) (λ k. cut v (rowOf rows (from + k))) blankRemainder rs n (omega (arith, w .size))
+        (λ k l. w .first k l .view v lines planned (one-of (λ j. cut v (rowOf rows (from + j))) smallLeads n t k l))
+
+    copied-unused : (k : ℕ) → NothingUnused v (getD rs k blankRemainder)
+    copied-unused k = by-test (ltb k n) refl
+      where
+        by-test : (b : Bool) → ltb k n ≡ b → NothingUnused v (getD rs k blankRemainder)
+        by-test true e = w .first k (ltb-true k n e) .unused v lines planned
+        by-test false e = rw (w .rest k (ltb-false k n e)) (blank-unused v)
+
+  pub found-none : {count : Count} → count ≡ Exhausted → n ≡ 0 → FromRows p count from rs rows
+  found-none e z =
+      rw e
+      (record { fits = tt; held = λ v lines planned t. refl; unused = λ v lines planned. copied-unused planned; rest = λ k h. w .rest k (omega arith) })
+
+  pub found-live : {count : Count} → count ≡ Live n → n ≤ 32 → FromRows p count from rs rows
+  found-live e h =
+      rw e
+      (record {
+        fits = and-i (leb n 32) _ (le→leb n 32 h) (copied-few h);
+        held = λ v lines planned t. ap some (copied-view planned h t);
+        unused = λ v lines planned. copied-unused planned;
+        rest = w .rest;
+      })
+
+pub small-live : {count : Count} {n : ℕ} (rows : List ℕ) (from : ℕ) → count ≡ Live n → SmallIn count rows from → (n ≤ 32) × Small rows from n
+small-live rows from e h = subst (λ (k : Count). SmallIn k rows from) e h

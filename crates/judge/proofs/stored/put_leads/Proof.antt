@@ -1,0 +1,37 @@
+-- `put_leads` meets its contract: the first k leads are stored. Assumes nothing.
+use mathlib.Core.List.{List}
+use mathlib.Core.Path.{_≡_}
+use Prim.Native.Nat.{ℕ, _-_, _≤_}
+use native.Mathlib.Omega.{arith}
+use lib.ListN.{getD}
+use borrow.Author.Needs.{needs}
+use Rattle.judge.proofs.rows.Storing.{Storing, storing-start, storing-more}
+use Rattle.judge.proofs.stored.Laws.{listed-is}
+use Rattle.judge.proofs.stored.put_leads.Statement.{statement}
+use Rattle.judge.proofs.stored.put_leads.Tie as tie
+
+abbrev Same : List ℕ → ℕ → ℕ → Type 0
+Same leads k w = w ≡ getD leads k 0
+
+abbrev Inv-loop : tie.InvT-loop
+Inv-loop was i leads k₀ rows k = (k ≤ 16) × Storing (Same leads) i 25 41 was rows k
+
+abbrev μ-loop : tie.MeasureT-loop
+μ-loop was i leads k₀ rows k = 16 - k
+
+loop-again : tie.Need-loop-again Inv-loop μ-loop
+loop-again c =
+    let at = c .before .before .before .before in
+    let s = at .before .pre in
+    (omega arith, rw (c .put-word .ensures) (storing-more _ _ _ _ _ (at .loop .inv .1) (s .size) (s .row) (omega arith) (omega arith) _ (c .before .lead-word .ensures)))
+
+returns : tie.Need-returns Inv-loop μ-loop
+returns c =
+    let w = c .before .loop .inv .1 in
+    record { stays = w .stays; leads = listed-is 0 _ 16 _ (c .before .before .good .1 .1 .0 .1 .0 .1) (λ k h. w .places k (omega arith)) }
+
+pub put-leads-spec : {M : Type 1} → statement M
+put-leads-spec =
+    tie.close (tie.spec Inv-loop μ-loop
+    (λ c. (omega arith, storing-start _ _ _ _ _)) (λ c. search needs) (λ c. search needs) (λ c. search needs) (λ c κs. search needs)
+    (λ c κs. search needs) (λ c. search needs) (λ c. search needs) loop-again returns)

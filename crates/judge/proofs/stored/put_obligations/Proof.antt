@@ -1,0 +1,67 @@
+-- `put_obligations` meets its contract. The invariant: the first j obligations are stored. Assumes nothing.
+use mathlib.Core.List.{List}
+use mathlib.Core.Path.{_≡_, refl, sym, _∙_}
+use Prim.Native.Nat.{ℕ, _-_, _≤_}
+use native.Mathlib.Omega.{arith}
+use lib.ListN.{length}
+use borrow.Author.Needs.{needs}
+use Rattle.records.specs.Lists.{listedFrom, listed}
+use Rattle.judge.specs.declared.obligation.Obligation as code
+use Rattle.judge.specs.View.{obligationOf, firstOf, blankObligation}
+use Rattle.judge.specs.Rows.{words, rowObligation, Stays}
+use Rattle.judge.proofs.Places.{first-more}
+use Rattle.judge.proofs.rows.Laws.{stays-all, stays-put, stays-wide, stays-on, owed-next, owed-put, count-put}
+use Rattle.judge.proofs.stored.put_obligations.Statement.{statement}
+use Rattle.judge.proofs.stored.put_obligations.Tie as tie
+
+record Putting (os : List code.Obligation) (i n : ℕ) (was rows : List ℕ) (j : ℕ) : Type 0 where
+  turns : j ≤ n
+  owed : listed (rowObligation rows i) j ≡ firstOf j os
+  stays : Stays i 0 25 was rows
+
+abbrev Inv-loop : tie.InvT-loop
+Inv-loop was i n obligations j₀ rows j = Putting obligations i n was rows j
+
+abbrev μ-loop : tie.MeasureT-loop
+μ-loop was i n obligations j₀ rows j = n - j
+
+long : (at : tie.At-loop Inv-loop μ-loop) → length (at .loop .rows) ≡ words
+long at = at .loop .inv .stays .size ∙ at .before .pre .0 .size
+
+loop-holds : tie.Need-loop-holds Inv-loop μ-loop
+unfolding listedFrom
+loop-holds c = record { turns = omega arith; owed = refl; stays = stays-all _ 0 25 _ }
+
+put-obligation-requires : tie.Need-put-obligation-requires Inv-loop μ-loop
+put-obligation-requires c κs = let l = long (c .before .before .before) in search needs
+
+loop-again : tie.Need-loop-again Inv-loop μ-loop
+loop-again c =
+    let at = c .before .before .before .before in
+    let p = c .put-obligation .ensures in
+    let w = at .loop .inv in
+    record {
+      turns = omega arith;
+      owed = owed-next p (omega arith) ∙ rw (w .owed) (sym (first-more obligationOf _ blankObligation (at .loop .j) (omega (arith, at .before .good .1 .1 .1 .0 .1 .0 .1))));
+      stays = stays-on (w .stays) (stays-wide (p .stays) 0 25 (omega arith) (omega arith));
+    }
+
+returns : tie.Need-returns Inv-loop μ-loop
+returns c =
+    let at = c .before .before .before .before in
+    let s = at .before in
+    let n = s .args .n in
+    let e : at .loop .j ≡ n = omega arith in
+    let h : n ≤ 8 = omega arith in
+    rw (c .put-word .ensures, c .before .count-word .ensures)
+    record {
+      stays = stays-put (at .loop .inv .stays) 0 n (omega arith) (omega arith) (omega arith);
+      count = count-put (at .loop .rows) (s .args .i) n (long at) (s .pre .0 .row);
+      owed = owed-put (at .loop .rows) (s .args .i) n (long at) (s .pre .0 .row) h ∙ rw e at (at .loop .inv .owed);
+    }
+
+pub put-obligations-spec : {M : Type 1} → statement M
+put-obligations-spec =
+    tie.close (tie.spec Inv-loop μ-loop
+    loop-holds (λ c. search needs) (λ c. search needs) put-obligation-requires
+    (λ c. search needs) (λ c. search needs) loop-again (λ c κs. search needs) (λ c κs. search needs) returns)

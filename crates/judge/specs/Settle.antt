@@ -1,0 +1,75 @@
+-- What a filling makes of the rows held: 33 rows to a side, 32 and one to build the next in.
+use mathlib.Core.Bool.{Bool}
+use mathlib.Core.List.{List, []}
+use mathlib.Core.Option.{Option, none, some}
+use mathlib.Core.Path.{_≡_}
+use Prim.Native.Nat.{ℕ, _+_, _-_, _≤_, _<_}
+use lib.Dec.{T}
+use lib.IntN.{ℤ}
+use lib.ListN.{length}
+use Rattle.records.specs.Sheet.{SheetValue}
+use Rattle.tesl.specs.Lists.{all}
+use Rattle.tesl.specs.Remainder.{Remainder}
+use Rattle.tesl.specs.Answer.{mostLive}
+use Rattle.judge.specs.declared.filling.Filling.{Filling}
+use Rattle.judge.specs.declared.plan.Plan.{Plan}
+use Rattle.judge.specs.declared.held.Count.{Count}
+use Rattle.judge.specs.declared.held.Count.the-variants.{Exhausted, Live}
+use Rattle.judge.specs.Lines.{smallLeads}
+use Rattle.judge.specs.Plan.{Fitting, Planned}
+use Rattle.judge.specs.Rows.{words, rowOf, rowsOf, Small, HeadStays}
+use Rattle.judge.specs.Filling.{Asked}
+use Rattle.judge.specs.Fillings.{takenBy, settling}
+
+-- first rows of two sides, behind the head: 6 and 39
+pub record Sides (from to : ℕ) : Type 0 where
+  pub one : from ≤ 39
+  pub other : to ≤ 39
+  pub past : 6 ≤ to
+  pub apart : (k l : ℕ) → k < 33 → l < 33 → from + k ≡ to + l → ⊥
+
+-- those found; `none` once exhausted
+abbrev pub foundIn : SheetValue → Count → List ℕ → ℕ → Option (List Remainder)
+foundIn v Exhausted rows to = none
+foundIn v (Live n) rows to = some (rowsOf v rows to n)
+
+abbrev pub SmallIn : Count → List ℕ → ℕ → Type 0
+SmallIn Exhausted rows to = Unit
+SmallIn (Live n) rows to = (n ≤ 32) × Small rows to n
+
+pub record Settling (rows : List ℕ) (from to n found : ℕ) (p : Plan) (f : Filling) : Type 0 where
+  pub size : length rows ≡ words
+  pub sides : Sides from to
+  pub held : n ≤ 32
+  pub fewer : found ≤ 32
+  pub small : Small rows from n
+  pub smallFound : Small rows to found
+  pub plan : Fitting p
+  pub begun : f .count ≤ 16
+
+pub record Settled (p : Plan) (f : Filling) (from to n found : ℕ) (r : Count) (a b : List ℕ) : Type 0 where
+  pub size : length b ≡ words
+  pub small : SmallIn r b to
+  pub head : HeadStays a b
+  pub few : Small b from n
+  pub same : (j : ℕ) → j < n → rowOf b (from + j) ≡ rowOf a (from + j)
+  pub settled : (v : SheetValue) → Asked v p f → T (all smallLeads (rowsOf v a from n)) → foundIn v r b to ≡ settling mostLive v (f .tags) (rowsOf v a from n) (some (rowsOf v a to found)) (f .ticks)
+
+-- ---- all fillings of an instant, and the instant; what is found goes to the other side
+
+abbrev pub Side : ℕ → Type 0
+Side from = Sides from (45 - from)
+
+pub record SettlingAll (rows : List ℕ) (from n : ℕ) (p : Plan) (m : ℕ) : Type 0 where
+  pub size : length rows ≡ words
+  pub side : Side from
+  pub held : n ≤ 32
+  pub small : Small rows from n
+  pub plan : Fitting p
+  pub few : m ≤ 256
+
+pub record SettledAll (lines : List ℕ) (p : Plan) (tags : List ℤ) (fillings : List (List Bool)) (from n : ℕ) (r : Count) (a b : List ℕ) : Type 0 where
+  pub size : length b ≡ words
+  pub small : SmallIn r b (45 - from)
+  pub head : HeadStays a b
+  pub settled : (v : SheetValue) → Planned v p lines → T (all smallLeads (rowsOf v a from n)) → foundIn v r b (45 - from) ≡ takenBy (settling mostLive v tags (rowsOf v a from n)) fillings (some [])

@@ -1,0 +1,125 @@
+-- Remainders as structs, stored in rows and read back.
+use mathlib.Core.Bool.{Bool, false, cond}
+use mathlib.Core.List.{List, map}
+use mathlib.Core.Path.{_≡_}
+use Prim.Native.Nat.{ℕ, _+_, _%_, _≤_, _<_}
+use lib.Dec.{T, leb}
+use lib.ListN.{length, getD, take}
+use Rattle.records.specs.Sheet.{SheetValue}
+use Rattle.tesl.specs.Lists.{all}
+use Rattle.tesl.specs.Fits.{Obligation}
+use Rattle.judge.specs.declared.obligation.Obligation as code
+use Rattle.judge.specs.declared.plan.Plan.{Plan}
+use Rattle.judge.specs.declared.remainder.Remainder as arrays
+use Rattle.judge.specs.declared.held.Count.{Count}
+use Rattle.judge.specs.declared.held.Count.the-variants.{Exhausted, Live}
+use Rattle.judge.specs.View.{remainderOf, blankRemainder, cut, viewOf, NothingUnused, heldIn, live, sizedIn}
+use Rattle.judge.specs.Lines.{smallLeads}
+use Rattle.judge.specs.Plan.{Fitting, Planned}
+use Rattle.judge.specs.Rows.{words, rowCount, rowOwed, rowLead, rowLeads, rowStop, rowStopped, rowOf, rowsOf, Small, Stays, HeadStays}
+use Rattle.judge.specs.Settle.{foundIn, SmallIn}
+
+-- ---- stored
+
+-- row i of the array
+pub record Place (rows : List ℕ) (i : ℕ) : Type 0 where
+  pub size : length rows ≡ words
+  pub row : i < 72
+
+pub record PutObligations (i n : ℕ) (os : List Obligation) (a b : List ℕ) : Type 0 where
+  pub stays : Stays i 0 25 a b
+  pub count : rowCount b i ≡ n
+  pub owed : rowOwed b i ≡ os
+
+pub record PutLeads (i : ℕ) (xs : List ℕ) (a b : List ℕ) : Type 0 where
+  pub stays : Stays i 25 41 a b
+  pub leads : rowLeads b i ≡ xs
+
+pub record PutStopped (i : ℕ) (xs : List Bool) (a b : List ℕ) : Type 0 where
+  pub stays : Stays i 41 49 a b
+  pub stopped : rowStopped b i ≡ xs
+
+-- the row reads as the struct does, and so of every sheet
+pub record PutRemainder (i : ℕ) (r : arrays.Remainder) (a b : List ℕ) : Type 0 where
+  pub stays : Stays i 0 49 a b
+  pub count : rowCount b i ≡ r .owed
+  pub row : rowOf b i ≡ remainderOf r
+
+-- ---- read back
+
+-- 16 bits of the leads of precedes lines, and nothing else
+pub record LeadsAt (reach : ℕ) (precede : List Bool) (i : ℕ) (xs : List ℕ) (rows : List ℕ) : Type 0 where
+  pub first : (k : ℕ) → k < reach → getD xs k 0 ≡ cond (getD precede k false) (rowLead rows i k % 65536) 0
+  pub rest : (k : ℕ) → reach ≤ k → getD xs k 0 ≡ 0
+
+-- the stopped ones of the sheet's clocks, and no other
+pub record StoppedAt (clocks i : ℕ) (xs : List Bool) (rows : List ℕ) : Type 0 where
+  pub size : length xs ≡ 8
+  pub first : (k : ℕ) → k < clocks → getD xs k false ≡ rowStop rows i k
+  pub rest : (k : ℕ) → clocks ≤ k → getD xs k false ≡ false
+
+-- row i of at most eight obligations, for a plan
+pub record Reading (rows : List ℕ) (i : ℕ) (p : Plan) : Type 0 where
+  pub row : i < 72
+  pub few : rowCount rows i ≤ 8
+  pub plan : Fitting p
+
+-- the struct reads as the row does, for every sheet that the plan is of, and keeps nothing else
+pub record RemainderAt (p : Plan) (i : ℕ) (r : arrays.Remainder) (rows : List ℕ) : Type 0 where
+  pub few : r .owed ≤ 8
+  pub view : (v : SheetValue) (lines : List ℕ) → Planned v p lines → T (smallLeads (cut v (rowOf rows i))) → viewOf v r ≡ cut v (rowOf rows i)
+  pub unused : (v : SheetValue) (lines : List ℕ) → Planned v p lines → NothingUnused v r
+
+-- ---- those held, on the first side
+
+pub record Storing (rows : List ℕ) (n : ℕ) (rs : List arrays.Remainder) : Type 0 where
+  pub size : length rows ≡ words
+  pub held : n ≤ 32
+  pub few : T (all (λ (r : arrays.Remainder). leb (r .owed) 8) (take n rs))
+
+pub record ToRows (n : ℕ) (rs : List arrays.Remainder) (a b : List ℕ) : Type 0 where
+  pub size : length b ≡ words
+  pub head : HeadStays a b
+  pub small : Small b 6 n
+  pub rows : (v : SheetValue) → rowsOf v b 6 n ≡ map (viewOf v) (take n rs)
+
+pub record KeepingHeld (rows : List ℕ) (count : Count) (rs : List arrays.Remainder) : Type 0 where
+  pub size : length rows ≡ words
+  pub fits : T (sizedIn count rs)
+
+pub record KeptHeld (count : Count) (rs : List arrays.Remainder) (a b : List ℕ) : Type 0 where
+  pub size : length b ≡ words
+  pub head : HeadStays a b
+  pub small : SmallIn count b 6
+  pub held : (v : SheetValue) → foundIn v count b 6 ≡ heldIn v count rs
+
+-- ---- those found, as structs
+
+-- none once exhausted
+abbrev pub liveRows : Count → ℕ
+liveRows Exhausted = 0
+liveRows (Live n) = n
+
+-- n rows of a side, for a plan
+pub record Copying (rows : List ℕ) (from n : ℕ) (p : Plan) : Type 0 where
+  pub side : from ≤ 39
+  pub held : n ≤ 32
+  pub small : Small rows from n
+  pub plan : Fitting p
+
+-- each of n rows, and blank remainders past them
+pub record CopiedRows (p : Plan) (from n : ℕ) (rs : List arrays.Remainder) (rows : List ℕ) : Type 0 where
+  pub size : length rs ≡ 32
+  pub first : (k : ℕ) → k < n → RemainderAt p (from + k) (getD rs k blankRemainder) rows
+  pub rest : (k : ℕ) → n ≤ k → getD rs k blankRemainder ≡ blankRemainder
+
+pub record FindingRows (rows : List ℕ) (count : Count) (from : ℕ) (p : Plan) : Type 0 where
+  pub side : from ≤ 39
+  pub small : SmallIn count rows from
+  pub plan : Fitting p
+
+pub record FromRows (p : Plan) (count : Count) (from : ℕ) (rs : List arrays.Remainder) (rows : List ℕ) : Type 0 where
+  pub fits : T (sizedIn count rs)
+  pub held : (v : SheetValue) (lines : List ℕ) → Planned v p lines → T (all smallLeads (live (foundIn v count rows from))) → heldIn v count rs ≡ foundIn v count rows from
+  pub unused : (v : SheetValue) (lines : List ℕ) → Planned v p lines → (k : ℕ) → NothingUnused v (getD rs k blankRemainder)
+  pub rest : (k : ℕ) → liveRows count ≤ k → getD rs k blankRemainder ≡ blankRemainder

@@ -1,0 +1,191 @@
+// A monitor's remainders, structs, stored in rows, and read back from them.
+use crate::held::Count;
+use crate::obligation::Obligation;
+use crate::plan::Plan;
+use crate::remainder::Remainder;
+use crate::remainder::blank_remainder;
+use crate::rows::COUNT;
+use crate::rows::HEAD;
+use crate::rows::LEADS;
+use crate::rows::SIZE;
+use crate::rows::STOPPED;
+use crate::rows::obligations_at;
+use crate::rows::put_obligation;
+use crate::rows::put_word;
+use crate::rows::row_count;
+use crate::rows::word_at;
+use crate::word::count_word;
+use crate::word::flag_in;
+use crate::word::flag_word;
+use crate::word::lead_in;
+use crate::word::lead_word;
+ghost use mathlib.Core.Path.{_≡_};
+ghost use mathlib.Core.Bool.{cond};
+ghost use Prim.Native.Nat.{_%_, _<_, _≤_};
+ghost use Rattle.judge.specs.View.{firstOf};
+ghost use Rattle.judge.specs.Stored.{Place, PutObligations, PutLeads, PutStopped, PutRemainder, LeadsAt, StoppedAt, Reading, RemainderAt, Storing, ToRows, KeepingHeld, KeptHeld, Copying, CopiedRows, FindingRows, FromRows};
+
+// Stores the first n obligations in row i.
+fn put_obligations(rows: &mut [u32; SIZE], i: usize, n: usize, obligations: [Obligation; 8])
+    requires { ⌜ Place (now rows) i × (n ≤ 8) ⌝ }
+    ensures { λ _. ⌜ PutObligations i n (firstOf n obligations) (now (rows .entry)) (now (rows .exit)) ⌝ }
+{
+    let mut j = 0;
+    while j < n {
+        let o = obligations[j];
+        put_obligation(rows, i, j, o);
+        j += 1;
+    }
+    put_word(rows, i, COUNT, count_word(n));
+}
+
+fn put_leads(rows: &mut [u32; SIZE], i: usize, leads: [u16; 16])
+    requires { ⌜ Place (now rows) i ⌝ }
+    ensures { λ _. ⌜ PutLeads i leads (now (rows .entry)) (now (rows .exit)) ⌝ }
+{
+    let mut k = 0;
+    while k < 16 {
+        put_word(rows, i, LEADS + k, lead_word(leads[k]));
+        k += 1;
+    }
+}
+
+fn put_stopped(rows: &mut [u32; SIZE], i: usize, stopped: [bool; 8])
+    requires { ⌜ Place (now rows) i ⌝ }
+    ensures { λ _. ⌜ PutStopped i stopped (now (rows .entry)) (now (rows .exit)) ⌝ }
+{
+    let mut k = 0;
+    while k < 8 {
+        put_word(rows, i, STOPPED + k, flag_word(stopped[k]));
+        k += 1;
+    }
+}
+
+// Stores a remainder in row i.
+fn put_remainder(rows: &mut [u32; SIZE], i: usize, r: Remainder)
+    requires { ⌜ Place (now rows) i × (r .owed ≤ 8) ⌝ }
+    ensures { λ _. ⌜ PutRemainder i r (now (rows .entry)) (now (rows .exit)) ⌝ }
+{
+    let owed = r.owed;
+    let obligations = r.obligations;
+    put_obligations(rows, i, owed, obligations);
+    let leads = r.leads;
+    put_leads(rows, i, leads);
+    let stopped = r.stopped;
+    put_stopped(rows, i, stopped);
+}
+
+// The lead of a word, where it is in use.
+fn lead_used(used: bool, w: u32) -> u16
+    ensures { λ r. ⌜ r ≡ cond used (w % 65536) 0 ⌝ }
+{
+    if used { lead_in(w) } else { 0 }
+}
+
+// The leads of row i that precedes lines have: before `reach`, where there is a flag.
+fn leads_at(rows: &[u32; SIZE], i: usize, reach: usize, precede: [bool; 16]) -> [u16; 16]
+    requires { ⌜ (i < 72) × (reach ≤ 16) ⌝ }
+    ensures { λ r. ⌜ LeadsAt reach precede i r (now (rows .entry)) ⌝ }
+{
+    let mut all = [0u16; 16];
+    let mut k = 0;
+    while k < reach {
+        let lead = lead_used(precede[k], word_at(rows, i, LEADS + k));
+        all[k] = lead;
+        k += 1;
+    }
+    all
+}
+
+// Which of the first clocks are stopped in row i.
+fn stopped_at(rows: &[u32; SIZE], i: usize, clocks: usize) -> [bool; 8]
+    requires { ⌜ (i < 72) × (clocks ≤ 8) ⌝ }
+    ensures { λ r. ⌜ StoppedAt clocks i r (now (rows .entry)) ⌝ }
+{
+    let mut all = [false; 8];
+    let mut k = 0;
+    while k < clocks {
+        let flag = flag_in(word_at(rows, i, STOPPED + k));
+        all[k] = flag;
+        k += 1;
+    }
+    all
+}
+
+// The remainder of row i; places that the plan's sheet doesn't use are blank.
+fn remainder_at(rows: &[u32; SIZE], i: usize, plan: Plan) -> Remainder
+    requires { ⌜ Reading (now rows) i plan ⌝ }
+    ensures { λ r. ⌜ RemainderAt plan i r (now (rows .entry)) ⌝ }
+{
+    let owed = row_count(rows, i);
+    let obligations = obligations_at(rows, i, owed);
+    let reach = plan.reach;
+    let precede = plan.precede;
+    let leads = leads_at(rows, i, reach, precede);
+    let clocks = plan.clocks;
+    let stopped = stopped_at(rows, i, clocks);
+    Remainder {
+        owed,
+        obligations,
+        leads,
+        stopped,
+    }
+}
+
+// Stores the first n remainders in the first rows of the first side.
+fn to_rows(rows: &mut [u32; SIZE], n: usize, remainders: [Remainder; 32])
+    requires { ⌜ Storing (now rows) n remainders ⌝ }
+    ensures { λ _. ⌜ ToRows n remainders (now (rows .entry)) (now (rows .exit)) ⌝ }
+{
+    let mut k = 0;
+    while k < n {
+        let r = remainders[k];
+        put_remainder(rows, HEAD + k, r);
+        k += 1;
+    }
+}
+
+// Stores those held in the first side.
+pub(crate) fn keep_held(rows: &mut [u32; SIZE], count: Count, remainders: [Remainder; 32])
+    requires { ⌜ KeepingHeld (now rows) count remainders ⌝ }
+    ensures { λ _. ⌜ KeptHeld count remainders (now (rows .entry)) (now (rows .exit)) ⌝ }
+{
+    match count {
+        Count::Exhausted => {}
+        Count::Live(n) => {
+            to_rows(rows, n, remainders);
+        }
+    }
+}
+
+// The remainders of n rows from row `from` on, and blank ones past them.
+fn copy_rows(rows: &[u32; SIZE], from: usize, n: usize, plan: Plan) -> [Remainder; 32]
+    requires { ⌜ Copying (now rows) from n plan ⌝ }
+    ensures { λ r. ⌜ CopiedRows plan from n r (now (rows .entry)) ⌝ }
+{
+    let blank = blank_remainder();
+    let mut all = [blank; 32];
+    let mut k = 0;
+    while k < n {
+        let r = remainder_at(rows, from + k, plan);
+        all[k] = r;
+        k += 1;
+    }
+    all
+}
+
+// The remainders of the rows found from row `from` on; none once exhausted.
+pub(crate) fn from_rows(
+    rows: &[u32; SIZE],
+    from: usize,
+    count: Count,
+    plan: Plan,
+) -> [Remainder; 32]
+    requires { ⌜ FindingRows (now rows) count from plan ⌝ }
+    ensures { λ r. ⌜ FromRows plan count from r (now (rows .entry)) ⌝ }
+{
+    match count {
+        Count::Exhausted => copy_rows(rows, from, 0, plan),
+        Count::Live(n) => copy_rows(rows, from, n, plan),
+    }
+}
