@@ -94,11 +94,8 @@ module _ {A : Type 0} (d : A) where
   abbrev placesFrom : ℕ → ℕ → List A → List A
   placesFrom b n l = listed (λ k. getD l (b + k) d) n
 
-  pub kept-set : (b p : ℕ) (a : A) (was l : List A) → b ≤ p → Kept b was l → Kept b was (set l p a)
+  kept-set : (b p : ℕ) (a : A) (was l : List A) → b ≤ p → Kept b was l → Kept b was (set l p a)
   kept-set b p a was l h k q m = getD-set-other l p q a d (λ e. omega arith) ∙ k q m
-
-  pub kept-from : (b p : ℕ) (a : A) (was l : List A) → b ≤ p → Kept b (set was p a) l → Kept b was l
-  kept-from b p a was l h k q m = k q m ∙ getD-set-other was p q a d (λ e. omega arith)
 
   -- places that end before b
   pub places-kept : (b s n : ℕ) (was l : List A) → s + n ≤ b → Kept b was l → placesFrom s n l ≡ placesFrom s n was

@@ -18,9 +18,9 @@ use Rattle.judge.specs.Lines.{smallLeads}
 use Rattle.judge.specs.Rules.{allowed}
 use Rattle.judge.specs.Heed.{heeded}
 use Rattle.judge.specs.Plan.{linesIn, Fitting, Planned}
-use Rattle.judge.specs.Rows.{words, HeadStays}
+use Rattle.judge.specs.Rows.{sides, words, HeadStays}
 use Rattle.judge.specs.Settle.{Side, SmallIn, foundIn}
-use Rattle.judge.specs.Fillings.{fillingsFrom, fillingsIn}
+use Rattle.judge.specs.Fillings.{mostFillings, listSize, fillingsFrom, fillingsIn}
 use Rattle.judge.specs.Work.{worked}
 
 -- of the clocks from k on; an unseen tick of a clock without a flag counts as idle
@@ -28,14 +28,14 @@ abbrev pub fillingsLeft : List Bool → List TickSlot → ℕ → ℕ → List B
 fillingsLeft flags seen clocks k ticks = fillingsFrom k (heeded (λ j. getD flags j true) k (drop k (seenOf clocks seen))) ticks
 
 pub record Listing (list : List Bool) (p : Plan) (flags : List Bool) (k : ℕ) (seen : List TickSlot) (ticks : List Bool) (n : ℕ) : Type 0 where
-  pub size : length list ≡ 2048
+  pub size : length list ≡ listSize
   pub plan : Fitting p
   pub clock : k ≤ p .clocks
-  pub room : n + length (fillingsLeft flags seen (p .clocks) k ticks) ≤ 256
+  pub room : n + length (fillingsLeft flags seen (p .clocks) k ticks) ≤ mostFillings
 
 -- after the first n, those that the rules allow
 pub record Listed (rules : List Bool → Bool) (left : List (List Bool)) (n r : ℕ) (a b : List Bool) : Type 0 where
-  pub size : length b ≡ 2048
+  pub size : length b ≡ listSize
   pub fewer : r ≤ n + length left
   pub listed : fillingsIn b r ≡ fillingsIn a n ++ filter rules left
 
@@ -49,12 +49,12 @@ pub record Working (rows : List ℕ) (from : ℕ) (count : Count) (p : Plan) (li
   pub side : Side from
   pub small : SmallIn count rows from
   pub plan : Fitting p
-  pub lists : length list ≡ 2048
+  pub lists : length list ≡ listSize
 
 pub record Worked (lines : List ℕ) (p : Plan) (before : Before) (instant : Instant) (from : ℕ) (count : Count) (r : Count) (a b : List ℕ) (list : List Bool) : Type 0 where
   pub size : length b ≡ words
-  pub small : SmallIn r b (45 - from)
+  pub small : SmallIn r b (sides - from)
   pub head : HeadStays a b
-  pub lists : length list ≡ 2048
+  pub lists : length list ≡ listSize
   pub works : (v : SheetValue) → Planned v p lines → T (all smallLeads (live (foundIn v count a from)))
-      → foundIn v r b (45 - from) ≡ worked mostLive v (tagsBefore (before .first) (before .tags)) (seenOf (v .clocks) (instant .ticks)) (instant .tags) (foundIn v count a from)
+      → foundIn v r b (sides - from) ≡ worked mostLive v (tagsBefore (before .first) (before .tags)) (seenOf (v .clocks) (instant .ticks)) (instant .tags) (foundIn v count a from)

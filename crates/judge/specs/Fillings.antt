@@ -22,6 +22,13 @@ fillingsFrom k (Idle ∷ left) ticks = fillingsFrom (k + 1) left ticks
 fillingsFrom k (Ticks ∷ left) ticks = fillingsFrom (k + 1) left (set ticks k true)
 fillingsFrom k (Unseen ∷ left) ticks = fillingsFrom (k + 1) left ticks ++ fillingsFrom (k + 1) left (set ticks k true)
 
+-- fillings of eight clocks at most, and their flags
+abbrev pub mostFillings : ℕ
+mostFillings = 256
+
+abbrev pub listSize : ℕ
+listSize = 2048
+
 -- eight flags of a list, those of place i
 abbrev pub flagsIn : List Bool → ℕ → List Bool
 flagsIn flags i = listed (λ k. getD flags (8 * i + k) false) 8

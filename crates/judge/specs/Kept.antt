@@ -20,10 +20,11 @@ use Rattle.judge.specs.declared.monitor.Monitor.{Monitor}
 use Rattle.judge.specs.declared.monitor.Given.{Given}
 use Rattle.judge.specs.Limits.{within}
 use Rattle.judge.specs.Plan.{Fitting, Planned}
-use Rattle.judge.specs.Rows.{words, rowCount, rowObligation, rowLeads, rowStopped}
+use Rattle.judge.specs.Rows.{headRows, words, rowCount, rowObligation, rowLeads, rowStopped}
 use Rattle.judge.specs.Settle.{Side}
 use Rattle.judge.specs.Stored.{liveRows}
 use Rattle.judge.specs.Promises.{Observed}
+use Rattle.judge.specs.Fillings.{listSize}
 
 abbrev pub asStruct : Obligation → code.Obligation
 asStruct o = record { clock = o .clock; on = o .on; due = o .due }
@@ -44,7 +45,7 @@ keptMonitor k rows = record { sheet = k .sheet; instants = k .instants; tags = k
 
 -- a monitor once its remainders are stored behind the head
 abbrev pub keptOf : Monitor → Plan → Kept
-keptOf m p = record { sheet = m .sheet; plan = p; instants = m .instants; tags = m .tags; count = m .held .count; from = 6 }
+keptOf m p = record { sheet = m .sheet; plan = p; instants = m .instants; tags = m .tags; count = m .held .count; from = headRows }
 
 abbrev pub given : Reply → Monitor → Given
 given r m = record { reply = r; monitor = m }
@@ -58,7 +59,7 @@ pub record Ready (k : Kept) (lines rows : List ℕ) (list : List Bool) : Type 0 
   pub fits : Fitting (k .plan)
   pub side : Side (k .from)
   pub size : length rows ≡ words
-  pub lists : length list ≡ 2048
+  pub lists : length list ≡ listSize
   pub limits : within (keptMonitor k rows) ≡ true
 
 -- what a call of the monitor gives, and the monitor to call next is as ready

@@ -48,6 +48,10 @@ belongs Delays l = isDelay l
 
 -- ---- lines in numbers
 
+-- numbers of 64 rows
+abbrev pub numbers : ℕ
+numbers = 320
+
 -- by the kind number; tags as raw words
 abbrev pub lineBy : ℕ → ℕ → ℕ → ℕ → ℕ → Line
 lineBy kind a b x y =
@@ -101,23 +105,23 @@ pub record Reaches (s : Sheet) (r : ℕ) : Type 0 where
 
 -- row j of 64
 pub record LineRow (lines : List ℕ) (j : ℕ) : Type 0 where
-  pub size : length lines ≡ 320
+  pub size : length lines ≡ numbers
   pub row : j < 64
 
 -- a line in row j; the rows before stay
 pub record PutLine (j : ℕ) (l : Line) (a b : List ℕ) : Type 0 where
-  pub size : length b ≡ 320
+  pub size : length b ≡ numbers
   pub there : lineIn b j ≡ l
   pub before : (h : ℕ) → h < j → lineIn b h ≡ lineIn a h
 
 pub record Gathering (s : Sheet) (lines : List ℕ) (from : ℕ) : Type 0 where
   pub few : s .count ≤ 16
-  pub size : length lines ≡ 320
+  pub size : length lines ≡ numbers
   pub room : from ≤ 48
 
 -- the r lines of a part from row `from` on; the rows before stay
 pub record GatheredPart (s : Sheet) (part : Part) (from r : ℕ) (a b : List ℕ) : Type 0 where
-  pub size : length b ≡ 320
+  pub size : length b ≡ numbers
   pub few : r ≤ 16
   pub lines : linesIn b from r ≡ filter (belongs part) (sheetValue s .lines)
   pub before : (h : ℕ) → h < from → lineIn b h ≡ lineIn a h
@@ -125,10 +129,10 @@ pub record GatheredPart (s : Sheet) (part : Part) (from r : ℕ) (a b : List ℕ
 pub record Preparing (s : Sheet) (lines : List ℕ) : Type 0 where
   pub few-lines : s .count ≤ 16
   pub few-clocks : s .clocks ≤ 8
-  pub size : length lines ≡ 320
+  pub size : length lines ≡ numbers
 
 -- a plan of the sheet
 pub record PlanOf (s : Sheet) (p : Plan) (lines : List ℕ) : Type 0 where
-  pub size : length lines ≡ 320
+  pub size : length lines ≡ numbers
   pub fits : Fitting p
   pub planned : Planned (sheetValue s) p lines

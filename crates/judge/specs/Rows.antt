@@ -21,8 +21,21 @@ use Rattle.judge.specs.Work.{addedAll}
 abbrev pub width : ℕ
 width = 64
 
+abbrev pub height : ℕ
+height = 72
+
 abbrev pub words : ℕ
 words = 4608
+
+-- rows of the head; the first side begins after them, and the second here; both first rows together
+abbrev pub headRows : ℕ
+headRows = 6
+
+abbrev pub secondSide : ℕ
+secondSide = 39
+
+abbrev pub sides : ℕ
+sides = 45
 
 -- ---- what a row is read as
 
@@ -74,19 +87,19 @@ pub record Stays (i lo hi : ℕ) (a b : List ℕ) : Type 0 where
 
 -- the rows of the head stay
 abbrev pub HeadStays : List ℕ → List ℕ → Type 0
-HeadStays a b = (h p : ℕ) → h < 6 → p < width → word b h p ≡ word a h p
+HeadStays a b = (h p : ℕ) → h < headRows → p < width → word b h p ≡ word a h p
 
--- ---- contracts: of one row, and of a row that gives another; 72 rows, 6 of the head and 33 of each side, 32 and one to build the next in
+-- ---- contracts: of one row, and of a row that gives another
 
 pub record Row (rows : List ℕ) (i : ℕ) : Type 0 where
   pub size : length rows ≡ words
-  pub row : i < 72
+  pub row : i < height
   pub few : rowCount rows i ≤ 8
 
 pub record Between (rows : List ℕ) (i to : ℕ) : Type 0 where
   pub size : length rows ≡ words
-  pub row : i < 72
-  pub into : to < 72
+  pub row : i < height
+  pub into : to < height
   pub apart : i ≡ to → ⊥
 
 pub record PutObligation (i j : ℕ) (o : Obligation) (a b : List ℕ) : Type 0 where

@@ -17,15 +17,15 @@ use Rattle.judge.specs.declared.held.Count.{Count}
 use Rattle.judge.specs.declared.held.Count.the-variants.{Exhausted, Live}
 use Rattle.judge.specs.Lines.{smallLeads}
 use Rattle.judge.specs.Plan.{Fitting, Planned}
-use Rattle.judge.specs.Rows.{words, rowOf, rowsOf, Small, HeadStays}
+use Rattle.judge.specs.Rows.{sides, secondSide, headRows, words, rowOf, rowsOf, Small, HeadStays}
 use Rattle.judge.specs.Filling.{Asked}
-use Rattle.judge.specs.Fillings.{takenBy, settling}
+use Rattle.judge.specs.Fillings.{mostFillings, takenBy, settling}
 
--- first rows of two sides, behind the head: 6 and 39
+-- first rows of two sides, behind the head
 pub record Sides (from to : ℕ) : Type 0 where
-  pub one : from ≤ 39
-  pub other : to ≤ 39
-  pub past : 6 ≤ to
+  pub one : from ≤ secondSide
+  pub other : to ≤ secondSide
+  pub past : headRows ≤ to
   pub apart : (k l : ℕ) → k < 33 → l < 33 → from + k ≡ to + l → ⊥
 
 -- those found; `none` once exhausted
@@ -58,7 +58,7 @@ pub record Settled (p : Plan) (f : Filling) (from to n found : ℕ) (r : Count) 
 -- ---- all fillings of an instant, and the instant; what is found goes to the other side
 
 abbrev pub Side : ℕ → Type 0
-Side from = Sides from (45 - from)
+Side from = Sides from (sides - from)
 
 pub record SettlingAll (rows : List ℕ) (from n : ℕ) (p : Plan) (m : ℕ) : Type 0 where
   pub size : length rows ≡ words
@@ -66,10 +66,10 @@ pub record SettlingAll (rows : List ℕ) (from n : ℕ) (p : Plan) (m : ℕ) : T
   pub held : n ≤ 32
   pub small : Small rows from n
   pub plan : Fitting p
-  pub few : m ≤ 256
+  pub few : m ≤ mostFillings
 
 pub record SettledAll (lines : List ℕ) (p : Plan) (tags : List ℤ) (fillings : List (List Bool)) (from n : ℕ) (r : Count) (a b : List ℕ) : Type 0 where
   pub size : length b ≡ words
-  pub small : SmallIn r b (45 - from)
+  pub small : SmallIn r b (sides - from)
   pub head : HeadStays a b
-  pub settled : (v : SheetValue) → Planned v p lines → T (all smallLeads (rowsOf v a from n)) → foundIn v r b (45 - from) ≡ takenBy (settling mostLive v tags (rowsOf v a from n)) fillings (some [])
+  pub settled : (v : SheetValue) → Planned v p lines → T (all smallLeads (rowsOf v a from n)) → foundIn v r b (sides - from) ≡ takenBy (settling mostLive v tags (rowsOf v a from n)) fillings (some [])

@@ -16,7 +16,7 @@ use Rattle.judge.specs.declared.held.Count.the-variants.{Exhausted, Live
 use Rattle.judge.specs.View.{remainderOf, blankRemainder, cut, viewOf, NothingUnused, heldIn, live, sizedIn}
 use Rattle.judge.specs.Lines.{smallLeads}
 use Rattle.judge.specs.Plan.{Fitting, Planned}
-use Rattle.judge.specs.Rows.{words, rowCount, rowOwed, rowLead, rowLeads, rowStop, rowStopped, rowOf, rowsOf, Small, Stays, HeadStays}
+use Rattle.judge.specs.Rows.{secondSide, headRows, height, words, rowCount, rowOwed, rowLead, rowLeads, rowStop, rowStopped, rowOf, rowsOf, Small, Stays, HeadStays}
 use Rattle.judge.specs.Settle.{foundIn, SmallIn}
 
 -- ---- stored
@@ -24,7 +24,7 @@ use Rattle.judge.specs.Settle.{foundIn, SmallIn}
 -- row i of the array
 pub record Place (rows : List ℕ) (i : ℕ) : Type 0 where
   pub size : length rows ≡ words
-  pub row : i < 72
+  pub row : i < height
 
 pub record PutObligations (i n : ℕ) (os : List Obligation) (a b : List ℕ) : Type 0 where
   pub stays : Stays i 0 25 a b
@@ -60,7 +60,7 @@ pub record StoppedAt (clocks i : ℕ) (xs : List Bool) (rows : List ℕ) : Type 
 
 -- row i of at most eight obligations, for a plan
 pub record Reading (rows : List ℕ) (i : ℕ) (p : Plan) : Type 0 where
-  pub row : i < 72
+  pub row : i < height
   pub few : rowCount rows i ≤ 8
   pub plan : Fitting p
 
@@ -80,8 +80,8 @@ pub record Storing (rows : List ℕ) (n : ℕ) (rs : List arrays.Remainder) : Ty
 pub record ToRows (n : ℕ) (rs : List arrays.Remainder) (a b : List ℕ) : Type 0 where
   pub size : length b ≡ words
   pub head : HeadStays a b
-  pub small : Small b 6 n
-  pub rows : (v : SheetValue) → rowsOf v b 6 n ≡ map (viewOf v) (take n rs)
+  pub small : Small b headRows n
+  pub rows : (v : SheetValue) → rowsOf v b headRows n ≡ map (viewOf v) (take n rs)
 
 pub record KeepingHeld (rows : List ℕ) (count : Count) (rs : List arrays.Remainder) : Type 0 where
   pub size : length rows ≡ words
@@ -90,8 +90,8 @@ pub record KeepingHeld (rows : List ℕ) (count : Count) (rs : List arrays.Remai
 pub record KeptHeld (count : Count) (rs : List arrays.Remainder) (a b : List ℕ) : Type 0 where
   pub size : length b ≡ words
   pub head : HeadStays a b
-  pub small : SmallIn count b 6
-  pub held : (v : SheetValue) → foundIn v count b 6 ≡ heldIn v count rs
+  pub small : SmallIn count b headRows
+  pub held : (v : SheetValue) → foundIn v count b headRows ≡ heldIn v count rs
 
 -- ---- those found, as structs
 
@@ -102,7 +102,7 @@ liveRows (Live n) = n
 
 -- n rows of a side, for a plan
 pub record Copying (rows : List ℕ) (from n : ℕ) (p : Plan) : Type 0 where
-  pub side : from ≤ 39
+  pub side : from ≤ secondSide
   pub held : n ≤ 32
   pub small : Small rows from n
   pub plan : Fitting p
@@ -114,7 +114,7 @@ pub record CopiedRows (p : Plan) (from n : ℕ) (rs : List arrays.Remainder) (ro
   pub rest : (k : ℕ) → n ≤ k → getD rs k blankRemainder ≡ blankRemainder
 
 pub record FindingRows (rows : List ℕ) (count : Count) (from : ℕ) (p : Plan) : Type 0 where
-  pub side : from ≤ 39
+  pub side : from ≤ secondSide
   pub small : SmallIn count rows from
   pub plan : Fitting p
 

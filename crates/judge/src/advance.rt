@@ -26,7 +26,7 @@ ghost use Rattle.tesl.specs.Lists.{any, below};
 ghost use Rattle.tesl.specs.Remainder.{sameObligation};
 ghost use Rattle.theory.specs.Step.{overlap};
 ghost use Rattle.judge.specs.View.{obligationOf, firstOf, filledOf};
-ghost use Rattle.judge.specs.Rows.{rowCount, rowOwed, rowLead, rowStop, Row, Between, KeptRow, AddedRow, BegunRow, LeadsOn, StoppedOn};
+ghost use Rattle.judge.specs.Rows.{height, rowCount, rowOwed, rowLead, rowStop, Row, Between, KeptRow, AddedRow, BegunRow, LeadsOn, StoppedOn};
 ghost use Rattle.judge.specs.Filling.{Advancing, AdvancedRow};
 
 // What becomes of a row: it doesn't fit, it would owe more than eight, or it goes on.
@@ -38,7 +38,7 @@ pub enum Next {
 
 // A clock of the sheet that is stopped in row i ticks.
 fn is_barred(rows: &[u32; SIZE], i: usize, clocks: usize, ticks: [bool; 8]) -> bool
-    requires { ⌜ (i < 72) × (clocks ≤ 8) ⌝ }
+    requires { ⌜ (i < height) × (clocks ≤ 8) ⌝ }
     ensures { λ r. ⌜ r ≡ overlap ticks (listed (rowStop (now (rows .entry)) i) clocks) ⌝ }
 {
     let mut k = 0;
@@ -61,7 +61,7 @@ fn is_enough(lead: u32, need: u16) -> bool
 
 // Each lead of row i is what is needed, or more.
 fn leads_hold(rows: &[u32; SIZE], i: usize, reach: usize, needs: [u16; 16]) -> bool
-    requires { ⌜ (i < 72) × (reach ≤ 16) ⌝ }
+    requires { ⌜ (i < height) × (reach ≤ 16) ⌝ }
     ensures { λ r. ⌜ r ≡ below reach (λ (k : ℕ). leb (getD needs k 0) (rowLead (now (rows .entry)) i k)) ⌝ }
 {
     let mut k = reach;
@@ -75,13 +75,7 @@ fn leads_hold(rows: &[u32; SIZE], i: usize, reach: usize, needs: [u16; 16]) -> b
 }
 
 // Stores in row `to` what row i owes that a filled instant doesn't meet. False: one of the rest is late.
-fn keep_row(
-    rows: &mut [u32; SIZE],
-    i: usize,
-    to: usize,
-    ticks: [bool; 8],
-    tags: [i16; 8],
-) -> bool
+fn keep_row(rows: &mut [u32; SIZE], i: usize, to: usize, ticks: [bool; 8], tags: [i16; 8]) -> bool
     requires { ⌜ Between (now rows) i to × (rowCount (now rows) i ≤ 8) ⌝ }
     ensures { λ r. ⌜ KeptRow (filledOf ticks tags) i to r (now (rows .entry)) (now (rows .exit)) ⌝ }
 {
@@ -106,7 +100,7 @@ fn keep_row(
 
 // Row i owes o.
 fn row_owes(rows: &[u32; SIZE], i: usize, o: Obligation) -> bool
-    requires { ⌜ (i < 72) × (rowCount (now rows) i ≤ 8) ⌝ }
+    requires { ⌜ (i < height) × (rowCount (now rows) i ≤ 8) ⌝ }
     ensures { λ r. ⌜ r ≡ any (sameObligation (obligationOf o)) (rowOwed (now (rows .entry)) i) ⌝ }
 {
     let n = row_count(rows, i);
@@ -202,7 +196,13 @@ fn stopped_on(rows: &mut [u32; SIZE], i: usize, to: usize, stops: [bool; 8])
 }
 
 // Builds in row `to` what row i becomes by a filling; a row that it doesn't fit is left at once. What is promised holds of every sheet that the plan and the filling are of.
-pub(crate) fn advance_row(rows: &mut [u32; SIZE], i: usize, to: usize, plan: Plan, f: Filling) -> Next
+pub(crate) fn advance_row(
+    rows: &mut [u32; SIZE],
+    i: usize,
+    to: usize,
+    plan: Plan,
+    f: Filling,
+) -> Next
     requires { ⌜ Advancing (now rows) i to plan f ⌝ }
     ensures { λ r. ⌜ AdvancedRow plan f i to r (now (rows .entry)) (now (rows .exit)) ⌝ }
 {

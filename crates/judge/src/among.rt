@@ -17,12 +17,12 @@ ghost use Rattle.records.specs.Sheet.{SheetValue};
 ghost use Rattle.tesl.specs.Lists.{any, below};
 ghost use Rattle.judge.specs.View.{cut};
 ghost use Rattle.judge.specs.Work.{sameCounted};
-ghost use Rattle.judge.specs.Rows.{rowLead, rowStop, rowOf, rowsOf, Small};
+ghost use Rattle.judge.specs.Rows.{height, rowLead, rowStop, rowOf, rowsOf, Small};
 ghost use Rattle.judge.specs.Plan.{Leading};
 
 // Rows i and x lead alike; only the leads of precedes lines are in use.
 fn same_leads(rows: &[u32; SIZE], i: usize, x: usize, reach: usize, precede: [bool; 16]) -> bool
-    requires { ⌜ (i < 72) × ((x < 72) × (reach ≤ 16)) ⌝ }
+    requires { ⌜ (i < height) × ((x < height) × (reach ≤ 16)) ⌝ }
     ensures { λ r. ⌜ r ≡ below reach (λ (k : ℕ). not (getD precede k false) || eqb (rowLead (now (rows .entry)) x k) (rowLead (now (rows .entry)) i k)) ⌝ }
 {
     let mut k = reach;
@@ -40,7 +40,7 @@ fn same_leads(rows: &[u32; SIZE], i: usize, x: usize, reach: usize, precede: [bo
 
 // The same of the sheet's clocks are stopped in rows i and x.
 fn same_stopped(rows: &[u32; SIZE], i: usize, x: usize, clocks: usize) -> bool
-    requires { ⌜ (i < 72) × ((x < 72) × (clocks ≤ 8)) ⌝ }
+    requires { ⌜ (i < height) × ((x < height) × (clocks ≤ 8)) ⌝ }
     ensures { λ r. ⌜ r ≡ below clocks (λ (k : ℕ). Bool·beq (rowStop (now (rows .entry)) x k) (rowStop (now (rows .entry)) i k)) ⌝ }
 {
     let mut k = clocks;
@@ -63,7 +63,7 @@ pub(crate) fn is_among(
     reach: usize,
     precede: [bool; 16],
 ) -> bool
-    requires { ⌜ (clocks ≤ 8) × ((reach ≤ 16) × ((first + n < 72) × Small (now rows) first (n + 1))) ⌝ }
+    requires { ⌜ (clocks ≤ 8) × ((reach ≤ 16) × ((first + n < height) × Small (now rows) first (n + 1))) ⌝ }
     ensures { λ r. ⌜ ((v : SheetValue) → v .clocks ≡ clocks → Leading v reach precede → r ≡ any (sameCounted (cut v (rowOf (now (rows .entry)) (first + n)))) (rowsOf v (now (rows .entry)) first n)) ⌝ }
 {
     if n == 0 {

@@ -13,7 +13,7 @@ ghost use Rattle.tesl.specs.Lists.{any};
 ghost use Rattle.tesl.specs.Remainder.{isClear};
 ghost use Rattle.judge.specs.View.{heldOf, liveOf, sized};
 ghost use Rattle.judge.specs.Answer.{answerOf, saidBy};
-ghost use Rattle.judge.specs.Rows.{rowsOf};
+ghost use Rattle.judge.specs.Rows.{secondSide, height, rowsOf};
 ghost use Rattle.judge.specs.Settle.{foundIn, SmallIn};
 
 // live: how many distinct remainders; clear: one of them has no obligation.
@@ -68,7 +68,7 @@ pub(crate) fn say(h: Held) -> Answer
 
 // One of n rows from row `from` on has no obligation.
 fn is_clear_in(rows: &[u32; SIZE], from: usize, n: usize) -> bool
-    requires { ⌜ from + n ≤ 72 ⌝ }
+    requires { ⌜ from + n ≤ height ⌝ }
     ensures { λ r. ⌜ ((v : SheetValue) → r ≡ any isClear (rowsOf v (now (rows .entry)) from n)) ⌝ }
 {
     let mut i = 0;
@@ -83,7 +83,7 @@ fn is_clear_in(rows: &[u32; SIZE], from: usize, n: usize) -> bool
 
 // What those in rows from row `from` on say.
 pub(crate) fn say_rows(rows: &[u32; SIZE], from: usize, count: Count) -> Answer
-    requires { ⌜ (from ≤ 39) × SmallIn count (now rows) from ⌝ }
+    requires { ⌜ (from ≤ secondSide) × SmallIn count (now rows) from ⌝ }
     ensures { λ r. ⌜ ((v : SheetValue) → answerOf r ≡ saidBy (foundIn v count (now (rows .entry)) from)) ⌝ }
 {
     match count {

@@ -4,6 +4,7 @@ use crate::line::begins;
 use crate::obligation::Obligation;
 use crate::obligation::same_obligation;
 use crate::plan::DELAYS;
+use crate::plan::NUMBERS;
 use crate::plan::line_in;
 ghost use mathlib.Core.Path.{_≡_};
 ghost use Prim.Native.Nat.{_≤_};
@@ -35,7 +36,12 @@ fn has_begun(n: usize, begun: [Obligation; 16], o: Obligation) -> bool
 }
 
 // What n delay lines begin: at most one obligation to a line.
-pub(crate) fn begin_all(lines: &[u16; 320], n: usize, ticks: [bool; 8], tags: [i16; 8]) -> Begins
+pub(crate) fn begin_all(
+    lines: &[u16; NUMBERS],
+    n: usize,
+    ticks: [bool; 8],
+    tags: [i16; 8],
+) -> Begins
     requires { ⌜ n ≤ 16 ⌝ }
     ensures { λ r. ⌜ (r .count ≤ 16) × (firstOf (r .count) (r .begun) ≡ onceEach sameObligation (flatMap (owedFrom (filledOf ticks tags)) (linesIn (now (lines .entry)) 48 n))) ⌝ }
 {

@@ -5,6 +5,7 @@ use crate::lines::all_tags_hold;
 use crate::lines::none_falls;
 use crate::list::LIST;
 use crate::list::put_flags;
+use crate::plan::NUMBERS;
 use crate::plan::Plan;
 use crate::rows::SIZE;
 use crate::rules::all_hold;
@@ -51,7 +52,7 @@ fn with_tick(ticks: [bool; 8], k: usize) -> [bool; 8]
 
 // Lists the fillings of the clocks from k on that the rules allow, after the first n: settles clock k, then those from k + 1; an unseen tick branches into idle and, where its clock has a flag, tick.
 fn fill(
-    lines: &[u16; 320],
+    lines: &[u16; NUMBERS],
     plan: Plan,
     flags: [bool; 8],
     k: usize,
@@ -93,7 +94,7 @@ fn fill(
 // The tags of an instant: none falls below its tag at the instant before, and each of n relations holds.
 fn tags_fit(
     clocks: usize,
-    lines: &[u16; 320],
+    lines: &[u16; NUMBERS],
     n: usize,
     first: bool,
     was: [i16; 8],
@@ -118,7 +119,7 @@ pub(crate) fn work_rows(
     from: usize,
     count: Count,
     plan: Plan,
-    lines: &[u16; 320],
+    lines: &[u16; NUMBERS],
     before: Before,
     instant: Instant,
     list: &mut [bool; LIST],

@@ -2,10 +2,9 @@
 use crate::begun::begin_all;
 use crate::leads::ask_leads;
 use crate::obligation::Obligation;
+use crate::plan::NUMBERS;
 use crate::plan::Plan;
 use crate::rules::all_stops;
-ghost use mathlib.Core.Path.{_≡_};
-ghost use Prim.Native.Nat.{_≤_};
 ghost use Rattle.judge.specs.Plan.{Fitting};
 ghost use Rattle.judge.specs.Filling.{Gathered};
 
@@ -22,7 +21,12 @@ pub struct Filling {
 }
 
 // What a filling that the rules allow asks of every row and makes of it.
-pub(crate) fn gather(lines: &[u16; 320], plan: Plan, ticks: [bool; 8], tags: [i16; 8]) -> Filling
+pub(crate) fn gather(
+    lines: &[u16; NUMBERS],
+    plan: Plan,
+    ticks: [bool; 8],
+    tags: [i16; 8],
+) -> Filling
     requires { ⌜ Fitting plan ⌝ }
     ensures { λ f. ⌜ Gathered (now (lines .entry)) plan ticks tags f ⌝ }
 {

@@ -14,7 +14,7 @@ ghost use Prim.Native.Nat.{_+_, _≤_, _<_};
 ghost use lib.ListN.{replicate};
 ghost use Rattle.records.specs.Sheet.{sheetValue};
 ghost use Rattle.tesl.specs.Lists.{flatMap};
-ghost use Rattle.judge.specs.Rows.{rowCount, Small};
+ghost use Rattle.judge.specs.Rows.{height, rowCount, Small};
 ghost use Rattle.judge.specs.Heed.{namedBy, rowClocks, rowsClocks, flagged};
 
 fn flag_both(flags: [bool; 8], a: u8, b: u8) -> [bool; 8]
@@ -64,7 +64,7 @@ pub(crate) fn flag_lines(s: Sheet) -> [bool; 8]
 
 // The flags of the clocks that row i owes a tick of.
 fn flag_row(rows: &[u32; SIZE], i: usize, flags: [bool; 8]) -> [bool; 8]
-    requires { ⌜ (i < 72) × (rowCount (now rows) i ≤ 8) ⌝ }
+    requires { ⌜ (i < height) × (rowCount (now rows) i ≤ 8) ⌝ }
     ensures { λ r. ⌜ r ≡ flagged (rowClocks (now (rows .entry)) i) flags ⌝ }
 {
     let n = row_count(rows, i);
@@ -80,7 +80,7 @@ fn flag_row(rows: &[u32; SIZE], i: usize, flags: [bool; 8]) -> [bool; 8]
 
 // The flags of the clocks that n rows from row `from` on owe a tick of, besides others.
 pub(crate) fn flag_rows(rows: &[u32; SIZE], from: usize, n: usize, flags: [bool; 8]) -> [bool; 8]
-    requires { ⌜ (from + n ≤ 72) × Small (now rows) from n ⌝ }
+    requires { ⌜ (from + n ≤ height) × Small (now rows) from n ⌝ }
     ensures { λ r. ⌜ r ≡ flagged (rowsClocks (now (rows .entry)) from n) flags ⌝ }
 {
     let mut after = flags;

@@ -6,6 +6,7 @@ use crate::fill::work_rows;
 use crate::held::Count;
 use crate::list::LIST;
 use crate::monitor::Monitor;
+use crate::plan::NUMBERS;
 use crate::plan::Plan;
 use crate::rows::HEAD;
 use crate::rows::SIDES;
@@ -55,7 +56,7 @@ pub(crate) fn kept_of(monitor: Monitor, plan: Plan) -> Kept
 // Takes an instant: refused, the number and the monitor as it came; accepted, the answer, with those held after it on the other side.
 pub(crate) fn observe_rows(
     kept: Kept,
-    lines: &[u16; 320],
+    lines: &[u16; NUMBERS],
     bytes: &[u8],
     rows: &mut [u32; SIZE],
     list: &mut [bool; LIST],

@@ -1,5 +1,6 @@
 // Which lines of a sheet have leads: once per sheet. What a filling asks of the leads and makes of them: once per filling.
 use crate::clock::ticks_at;
+use crate::plan::NUMBERS;
 use crate::plan::line_in;
 use records::line::Line;
 use records::sheet::Sheet;
@@ -128,7 +129,7 @@ pub(crate) struct Asks {
 }
 
 // For each of the first `reach` lines.
-pub(crate) fn ask_leads(lines: &[u16; 320], reach: usize, ticks: [bool; 8]) -> Asks
+pub(crate) fn ask_leads(lines: &[u16; NUMBERS], reach: usize, ticks: [bool; 8]) -> Asks
     requires { ⌜ reach ≤ 16 ⌝ }
     ensures { λ r. ⌜ AskedLeads (now (lines .entry)) reach ticks (r .needs) (r .gains) (r .losses) ⌝ }
 {

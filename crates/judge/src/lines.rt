@@ -1,10 +1,10 @@
 // The questions of a line asked of several lines, and of all clocks.
 use crate::line::tags_hold;
+use crate::plan::NUMBERS;
 use crate::plan::RELATIONS;
 use crate::plan::line_in;
 ghost use mathlib.Core.Path.{_≡_};
 ghost use Prim.Native.Nat.{ℕ, _≤_};
-ghost use lib.ListN.{length};
 ghost use lib.Signed.{leZ};
 ghost use Rattle.tesl.specs.Lists.{all, below};
 ghost use Rattle.tesl.specs.Run.{tagIn};
@@ -12,7 +12,7 @@ ghost use Rattle.judge.specs.Questions.{tagsHold};
 ghost use Rattle.judge.specs.Plan.{linesIn};
 
 // What n relations ask of the tags.
-pub(crate) fn all_tags_hold(lines: &[u16; 320], n: usize, tags: [i16; 8]) -> bool
+pub(crate) fn all_tags_hold(lines: &[u16; NUMBERS], n: usize, tags: [i16; 8]) -> bool
     requires { ⌜ n ≤ 16 ⌝ }
     ensures { λ r. ⌜ r ≡ all (tagsHold tags) (linesIn (now (lines .entry)) 16 n) ⌝ }
 {

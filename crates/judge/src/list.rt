@@ -3,13 +3,13 @@ ghost use mathlib.Core.Path.{_≡_};
 ghost use mathlib.Core.List.{_∷_, [], _++_};
 ghost use Prim.Native.Nat.{_+_, _<_};
 ghost use lib.ListN.{length};
-ghost use Rattle.judge.specs.Fillings.{flagsIn, fillingsIn};
+ghost use Rattle.judge.specs.Fillings.{mostFillings, listSize, flagsIn, fillingsIn};
 
 pub const LIST: usize = 2048;
 
 // Filling i.
 pub(crate) fn flags_at(list: &[bool; LIST], i: usize) -> [bool; 8]
-    requires { ⌜ i < 256 ⌝ }
+    requires { ⌜ i < mostFillings ⌝ }
     ensures { λ r. ⌜ r ≡ flagsIn (now (list .entry)) i ⌝ }
 {
     let mut all = [false; 8];
@@ -24,8 +24,8 @@ pub(crate) fn flags_at(list: &[bool; LIST], i: usize) -> [bool; 8]
 
 // Lists a filling after the first n.
 pub(crate) fn put_flags(list: &mut [bool; LIST], n: usize, ticks: [bool; 8])
-    requires { ⌜ (length (now list) ≡ 2048) × (n < 256) ⌝ }
-    ensures { λ _. ⌜ (length (now (list .exit)) ≡ 2048) × (fillingsIn (now (list .exit)) (n + 1) ≡ fillingsIn (now (list .entry)) n ++ (ticks ∷ [])) ⌝ }
+    requires { ⌜ (length (now list) ≡ listSize) × (n < mostFillings) ⌝ }
+    ensures { λ _. ⌜ (length (now (list .exit)) ≡ listSize) × (fillingsIn (now (list .exit)) (n + 1) ≡ fillingsIn (now (list .entry)) n ++ (ticks ∷ [])) ⌝ }
 {
     let mut k = 0;
     while k < 8 {

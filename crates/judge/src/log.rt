@@ -7,6 +7,7 @@ use crate::limits::is_within;
 use crate::list::LIST;
 use crate::monitor::Given;
 use crate::monitor::open;
+use crate::plan::NUMBERS;
 use crate::plan::plan_of;
 use crate::rows::SIZE;
 use crate::stored::keep_held;
@@ -29,7 +30,7 @@ fn observe_records(
     log: &[u8],
     opening: Reply,
     first: Kept,
-    lines: &[u16; 320],
+    lines: &[u16; NUMBERS],
     rows: &mut [u32; SIZE],
     list: &mut [bool; LIST],
 ) -> Judged
@@ -85,7 +86,7 @@ fn observe_all(opened: Given, log: &[u8]) -> Judged
         };
     }
     let sheet = monitor.sheet;
-    let mut lines = [0u16; 320];
+    let mut lines = [0u16; NUMBERS];
     let plan = plan_of(sheet, &mut lines);
     let held = monitor.held;
     let count = held.count;

@@ -7,6 +7,7 @@ use crate::kept::kept_of;
 use crate::kept::observe_rows;
 use crate::limits::is_within;
 use crate::list::LIST;
+use crate::plan::NUMBERS;
 use crate::plan::plan_of;
 use crate::remainder::blank_remainder;
 use crate::rows::SIZE;
@@ -114,7 +115,7 @@ pub fn observe(monitor: Monitor, bytes: &[u8]) -> Given
         return refuse(number::MONITOR_LIMITS, monitor);
     }
     let sheet = monitor.sheet;
-    let mut lines = [0u16; 320];
+    let mut lines = [0u16; NUMBERS];
     let plan = plan_of(sheet, &mut lines);
     let held = monitor.held;
     let count = held.count;

@@ -12,6 +12,9 @@ ghost use mathlib.Core.Path.{_≡_};
 ghost use Prim.Native.Nat.{_%_, _<_};
 ghost use Rattle.judge.specs.Plan.{isRelation, isRule, isDelay, belongs, lineBy, lineIn, LineRow, PutLine, Gathering, GatheredPart, Preparing, PlanOf};
 
+// Five numbers to each of 64 rows.
+pub(crate) const NUMBERS: usize = 320;
+
 // The rows where relations, rules and delay lines begin.
 pub(crate) const RELATIONS: usize = 16;
 
@@ -128,7 +131,7 @@ fn line_by(kind: u16, a: u8, b: u8, x: u16, y: u16) -> Line
 }
 
 // The line of row j.
-pub(crate) fn line_in(lines: &[u16; 320], j: usize) -> Line
+pub(crate) fn line_in(lines: &[u16; NUMBERS], j: usize) -> Line
     requires { ⌜ j < 64 ⌝ }
     ensures { λ r. ⌜ r ≡ lineIn (now (lines .entry)) j ⌝ }
 {
@@ -141,7 +144,7 @@ pub(crate) fn line_in(lines: &[u16; 320], j: usize) -> Line
 }
 
 // Stores five numbers in row j; the rows before stay.
-fn put_numbers(lines: &mut [u16; 320], j: usize, kind: u16, a: u8, b: u8, x: u16, y: u16)
+fn put_numbers(lines: &mut [u16; NUMBERS], j: usize, kind: u16, a: u8, b: u8, x: u16, y: u16)
     requires { ⌜ LineRow (now lines) j ⌝ }
     ensures { λ _. ⌜ PutLine j (lineBy kind a b x y) (now (lines .entry)) (now (lines .exit)) ⌝ }
 {
@@ -153,7 +156,7 @@ fn put_numbers(lines: &mut [u16; 320], j: usize, kind: u16, a: u8, b: u8, x: u16
 }
 
 // Stores a line in row j; the rows before stay.
-fn put_line(lines: &mut [u16; 320], j: usize, l: Line)
+fn put_line(lines: &mut [u16; NUMBERS], j: usize, l: Line)
     requires { ⌜ LineRow (now lines) j ⌝ }
     ensures { λ _. ⌜ PutLine j l (now (lines .entry)) (now (lines .exit)) ⌝ }
 {
@@ -174,7 +177,7 @@ fn put_line(lines: &mut [u16; 320], j: usize, l: Line)
 }
 
 // Gathers the lines of a part from row `from` on, in the sheet's order; the rows before stay.
-fn gather(s: Sheet, part: Part, lines: &mut [u16; 320], from: usize) -> usize
+fn gather(s: Sheet, part: Part, lines: &mut [u16; NUMBERS], from: usize) -> usize
     requires { ⌜ Gathering s (now lines) from ⌝ }
     ensures { λ r. ⌜ GatheredPart s part from r (now (lines .entry)) (now (lines .exit)) ⌝ }
 {
@@ -195,7 +198,7 @@ fn gather(s: Sheet, part: Part, lines: &mut [u16; 320], from: usize) -> usize
 }
 
 // What is found out about a sheet once.
-pub(crate) fn plan_of(s: Sheet, lines: &mut [u16; 320]) -> Plan
+pub(crate) fn plan_of(s: Sheet, lines: &mut [u16; NUMBERS]) -> Plan
     requires { ⌜ Preparing s (now lines) ⌝ }
     ensures { λ r. ⌜ PlanOf s r (now (lines .exit)) ⌝ }
 {

@@ -9,7 +9,7 @@ ghost use mathlib.Core.Path.{_≡_};
 ghost use Prim.Native.Nat.{_+_, _*_, _<_, _≤_};
 ghost use lib.ListN.{length, set};
 ghost use Rattle.judge.specs.View.{obligationOf};
-ghost use Rattle.judge.specs.Rows.{width, words, word, rowCount, rowObligation, PutObligation, ObligationsAt};
+ghost use Rattle.judge.specs.Rows.{height, width, words, word, rowCount, rowObligation, PutObligation, ObligationsAt};
 
 // All words, those of a row, and where a row's parts begin.
 pub(crate) const SIZE: usize = 4608;
@@ -36,14 +36,14 @@ pub(crate) const STOPPED: usize = 41;
 
 // Word p of row i.
 pub(crate) fn word_at(rows: &[u32; SIZE], i: usize, p: usize) -> u32
-    requires { ⌜ (i < 72) × (p < width) ⌝ }
+    requires { ⌜ (i < height) × (p < width) ⌝ }
     ensures { λ r. ⌜ r ≡ word (now (rows .entry)) i p ⌝ }
 {
     rows[WIDTH * i + p]
 }
 
 pub(crate) fn put_word(rows: &mut [u32; SIZE], i: usize, p: usize, w: u32)
-    requires { ⌜ (i < 72) × (p < width) ⌝ }
+    requires { ⌜ (i < height) × (p < width) ⌝ }
     ensures { λ _. ⌜ now (rows .exit) ≡ set (now (rows .entry)) (width * i + p) w ⌝ }
 {
     rows[WIDTH * i + p] = w;
@@ -51,7 +51,7 @@ pub(crate) fn put_word(rows: &mut [u32; SIZE], i: usize, p: usize, w: u32)
 
 // How many obligations row i has.
 pub(crate) fn row_count(rows: &[u32; SIZE], i: usize) -> usize
-    requires { ⌜ i < 72 ⌝ }
+    requires { ⌜ i < height ⌝ }
     ensures { λ r. ⌜ r ≡ rowCount (now (rows .entry)) i ⌝ }
 {
     count_in(word_at(rows, i, COUNT))
@@ -59,7 +59,7 @@ pub(crate) fn row_count(rows: &[u32; SIZE], i: usize) -> usize
 
 // Obligation j of row i.
 pub(crate) fn obligation_at(rows: &[u32; SIZE], i: usize, j: usize) -> Obligation
-    requires { ⌜ (i < 72) × (j < 8) ⌝ }
+    requires { ⌜ (i < height) × (j < 8) ⌝ }
     ensures { λ r. ⌜ obligationOf r ≡ rowObligation (now (rows .entry)) i j ⌝ }
 {
     let clock = byte_in(word_at(rows, i, CLOCKS + j));
@@ -70,7 +70,7 @@ pub(crate) fn obligation_at(rows: &[u32; SIZE], i: usize, j: usize) -> Obligatio
 
 // Stores an obligation in place j of row i.
 pub(crate) fn put_obligation(rows: &mut [u32; SIZE], i: usize, j: usize, o: Obligation)
-    requires { ⌜ (length (now rows) ≡ words) × ((i < 72) × (j < 8)) ⌝ }
+    requires { ⌜ (length (now rows) ≡ words) × ((i < height) × (j < 8)) ⌝ }
     ensures { λ _. ⌜ PutObligation i j (obligationOf o) (now (rows .entry)) (now (rows .exit)) ⌝ }
 {
     let clock = o.clock;
@@ -83,7 +83,7 @@ pub(crate) fn put_obligation(rows: &mut [u32; SIZE], i: usize, j: usize, o: Obli
 
 // The n obligations of row i, at the front of eight places; blank ones past them.
 pub(crate) fn obligations_at(rows: &[u32; SIZE], i: usize, n: usize) -> [Obligation; 8]
-    requires { ⌜ (i < 72) × ((n ≤ 8) × (n ≡ rowCount (now rows) i)) ⌝ }
+    requires { ⌜ (i < height) × ((n ≤ 8) × (n ≡ rowCount (now rows) i)) ⌝ }
     ensures { λ r. ⌜ ObligationsAt i n r (now (rows .entry)) ⌝ }
 {
     let none = Obligation {

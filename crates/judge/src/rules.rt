@@ -1,8 +1,7 @@
 // What n rules, the implies, excludes and kills lines of a sheet, say of a filling.
-use crate::clock::stop;
-use crate::clock::ticks_at;
 use crate::line::stopped_after;
 use crate::line::ticks_hold;
+use crate::plan::NUMBERS;
 use crate::plan::RULES;
 use crate::plan::line_in;
 use records::line::Line;
@@ -10,14 +9,14 @@ ghost use mathlib.Core.Path.{_≡_};
 ghost use mathlib.Core.Bool.{false, _&&_};
 ghost use Prim.Native.Nat.{_≤_};
 ghost use lib.Dec.{ltb};
-ghost use lib.ListN.{length, replicate};
+ghost use lib.ListN.{replicate};
 ghost use Rattle.tesl.specs.Lists.{any};
 ghost use Rattle.judge.specs.Lines.{allStopped};
 ghost use Rattle.judge.specs.Plan.{linesIn};
 ghost use Rattle.judge.specs.Rules.{allowed, isSettled, cuts};
 
 // What the rules ask of the ticks.
-pub(crate) fn all_hold(lines: &[u16; 320], n: usize, ticks: [bool; 8]) -> bool
+pub(crate) fn all_hold(lines: &[u16; NUMBERS], n: usize, ticks: [bool; 8]) -> bool
     requires { ⌜ n ≤ 16 ⌝ }
     ensures { λ b. ⌜ b ≡ allowed (linesIn (now (lines .entry)) 32 n) ticks ⌝ }
 {
@@ -59,7 +58,7 @@ fn is_settled(l: Line, k: usize) -> bool
 }
 
 // A rule whose clocks are below k forbids these ticks.
-pub(crate) fn is_cut(lines: &[u16; 320], n: usize, k: usize, ticks: [bool; 8]) -> bool
+pub(crate) fn is_cut(lines: &[u16; NUMBERS], n: usize, k: usize, ticks: [bool; 8]) -> bool
     requires { ⌜ n ≤ 16 ⌝ }
     ensures { λ b. ⌜ b ≡ any (cuts k ticks) (linesIn (now (lines .entry)) 32 n) ⌝ }
 {
@@ -78,7 +77,7 @@ pub(crate) fn is_cut(lines: &[u16; 320], n: usize, k: usize, ticks: [bool; 8]) -
 }
 
 // The clocks that the kills lines stop.
-pub(crate) fn all_stops(lines: &[u16; 320], n: usize, ticks: [bool; 8]) -> [bool; 8]
+pub(crate) fn all_stops(lines: &[u16; NUMBERS], n: usize, ticks: [bool; 8]) -> [bool; 8]
     requires { ⌜ n ≤ 16 ⌝ }
     ensures { λ b. ⌜ b ≡ allStopped ticks (linesIn (now (lines .entry)) 32 n) (replicate 8 false) ⌝ }
 {

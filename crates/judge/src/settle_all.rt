@@ -3,6 +3,7 @@ use crate::filling::gather;
 use crate::held::Count;
 use crate::list::LIST;
 use crate::list::flags_at;
+use crate::plan::NUMBERS;
 use crate::plan::Plan;
 use crate::rows::SIDES;
 use crate::rows::SIZE;
@@ -16,7 +17,7 @@ pub(crate) fn settle_all(
     from: usize,
     n: usize,
     plan: Plan,
-    lines: &[u16; 320],
+    lines: &[u16; NUMBERS],
     tags: [i16; 8],
     m: usize,
     list: &[bool; LIST],

@@ -24,6 +24,7 @@ ghost use mathlib.Core.Bool.{cond};
 ghost use Prim.Native.Nat.{_%_, _<_, _≤_};
 ghost use Rattle.judge.specs.View.{firstOf};
 ghost use Rattle.judge.specs.Stored.{Place, PutObligations, PutLeads, PutStopped, PutRemainder, LeadsAt, StoppedAt, Reading, RemainderAt, Storing, ToRows, KeepingHeld, KeptHeld, Copying, CopiedRows, FindingRows, FromRows};
+ghost use Rattle.judge.specs.Rows.{height};
 
 // Stores the first n obligations in row i.
 fn put_obligations(rows: &mut [u32; SIZE], i: usize, n: usize, obligations: [Obligation; 8])
@@ -84,7 +85,7 @@ fn lead_used(used: bool, w: u32) -> u16
 
 // The leads of row i that precedes lines have: before `reach`, where there is a flag.
 fn leads_at(rows: &[u32; SIZE], i: usize, reach: usize, precede: [bool; 16]) -> [u16; 16]
-    requires { ⌜ (i < 72) × (reach ≤ 16) ⌝ }
+    requires { ⌜ (i < height) × (reach ≤ 16) ⌝ }
     ensures { λ r. ⌜ LeadsAt reach precede i r (now (rows .entry)) ⌝ }
 {
     let mut all = [0u16; 16];
@@ -99,7 +100,7 @@ fn leads_at(rows: &[u32; SIZE], i: usize, reach: usize, precede: [bool; 16]) -> 
 
 // Which of the first clocks are stopped in row i.
 fn stopped_at(rows: &[u32; SIZE], i: usize, clocks: usize) -> [bool; 8]
-    requires { ⌜ (i < 72) × (clocks ≤ 8) ⌝ }
+    requires { ⌜ (i < height) × (clocks ≤ 8) ⌝ }
     ensures { λ r. ⌜ StoppedAt clocks i r (now (rows .entry)) ⌝ }
 {
     let mut all = [false; 8];

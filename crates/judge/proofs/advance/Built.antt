@@ -1,5 +1,5 @@
 -- A row built part by part: what it owes, its leads, its stopped clocks. Assumes nothing.
-use mathlib.Core.Bool.{Bool, true}
+use mathlib.Core.Bool.{Bool}
 use mathlib.Core.List.{List}
 use mathlib.Core.Path.{_≡_, ap, _∙_}
 use Prim.Native.Nat.{ℕ, _+_, _-_, _<_, _≤_}
@@ -9,7 +9,7 @@ use Rattle.tesl.specs.Run.{Filled}
 use Rattle.tesl.specs.Fits.{Obligation}
 use Rattle.judge.specs.Word.{flagOf}
 use Rattle.judge.specs.Carried.{either}
-use Rattle.judge.specs.Rows.{width, rowCount, rowOwed, rowLead, rowStop, rowStopped, Stays, KeptRow, BegunRow, LeadsOn, StoppedOn}
+use Rattle.judge.specs.Rows.{width, rowCount, rowOwed, rowLead, rowStopped, Stays, KeptRow, BegunRow, LeadsOn, StoppedOn}
 use Rattle.judge.proofs.Listing.{listed-same}
 use Rattle.judge.proofs.rows.Laws.{stays-wide, stays-on, owed-stays}
 

@@ -12,7 +12,6 @@ use Rattle.records.specs.Instant.{tickAt, tickSlot}
 use Rattle.tesl.specs.Lists.{filter}
 use Rattle.theory.proofs.Lists.{filter-append}
 use Rattle.judge.specs.View.{seenOf}
-use Rattle.judge.specs.Heed.{heeded}
 use Rattle.judge.specs.Fillings.{fillingsIn}
 use Rattle.judge.specs.Fill.{fillingsLeft, Listed}
 use Rattle.judge.proofs.Places.{rest-end, rest-cons}

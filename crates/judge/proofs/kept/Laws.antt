@@ -38,7 +38,7 @@ use Rattle.judge.specs.Lines.{smallLeads}
 use Rattle.judge.specs.Work.{worked}
 use Rattle.judge.specs.Answer.{answerOf, saidBy}
 use Rattle.judge.specs.Limits.{sheetWithin, within, Limited}
-use Rattle.judge.specs.Plan.{Planned, Preparing, PlanOf}
+use Rattle.judge.specs.Plan.{Preparing, PlanOf}
 use Rattle.judge.specs.Rows.{words, rowCount, rowObligation, rowOwed, rowLeads, rowStopped, rowOf}
 use Rattle.judge.specs.Settle.{Side, foundIn, SmallIn}
 use Rattle.judge.specs.Stored.{liveRows, KeepingHeld, KeptHeld}

@@ -1,7 +1,7 @@
 -- A call of `observe`, by what it is taken for: 11; 12 to 15 as reading gives them; 16; or an accepted instant. Assumes nothing.
 use mathlib.Core.Bool.{Bool, true, false, not}
 use mathlib.Core.List.{List}
-use mathlib.Core.Path.{_≡_, refl, sym, ap, _∙_, subst}
+use mathlib.Core.Path.{_≡_, sym, ap, _∙_, subst}
 use Prim.Native.Nat.{ℕ, _≤_, _<_}
 use native.Mathlib.Omega.{arith}
 use lib.Dec.{leb, le→leb, leb→le, not-T}
@@ -9,8 +9,8 @@ use lib.ListN.{length}
 use borrow.Author.Tests.{not-true, not-false}
 use Rattle.records.specs.declared.record.Answer.the-variants.{Done, Refused}
 use Rattle.records.specs.declared.instant.InstantRead.{InstantRead}
-use Rattle.records.specs.Outcome.{Outcome, taken, refused}
-use Rattle.records.specs.Instant.{readInstant, instantOf, instantRead}
+use Rattle.records.specs.Outcome.{taken, refused}
+use Rattle.records.specs.Instant.{readInstant, instantRead}
 use Rattle.records.specs.Types.{All, IsBytes}
 use Rattle.records.proofs.Lists.{both, refused-taken}
 use Rattle.records.proofs.instant.Read.{Read, read-refused, read-done}

@@ -21,7 +21,7 @@ use Rattle.records.specs.Types.{All, IsInstant}
 use Rattle.tesl.specs.Lists.{all}
 use Rattle.tesl.specs.Run.{Instant, ticksOf, tagsOf}
 use Rattle.tesl.specs.Remainder.{Remainder, sameRemainder}
-use Rattle.tesl.specs.Answer.{exhausted, judged, answer, mostLive}
+use Rattle.tesl.specs.Answer.{exhausted, judged, mostLive}
 use Rattle.theory.specs.Sets.{Covers}
 use Rattle.theory.specs.Held.{successors}
 use Rattle.theory.specs.Limits.{SheetLimits, withinLimits}

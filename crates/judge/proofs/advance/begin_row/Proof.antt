@@ -1,16 +1,15 @@
 -- `begin_row` meets its contract. The invariant: all that was begun is added once what stands from place j on is added to what the row owes. Assumes nothing.
 use mathlib.Core.List.{List}
 use mathlib.Core.Path.{_≡_, refl, _∙_}
-use Prim.Native.Nat.{ℕ, _+_, _-_, _≤_}
+use Prim.Native.Nat.{ℕ, _-_, _≤_}
 use native.Mathlib.Omega.{arith}
 use lib.ListN.{drop}
 use borrow.Author.Needs.{needs}
 use Rattle.tesl.specs.Fits.{Obligation}
-use Rattle.judge.specs.View.{obligationOf, firstOf}
+use Rattle.judge.specs.View.{obligationOf, firstOf, blankObligation}
 use Rattle.judge.specs.Work.{addedAll}
 use Rattle.judge.specs.Rows.{rowCount, rowOwed, Stays}
 use Rattle.judge.proofs.Places as places
-use Rattle.judge.proofs.owed.Blank.{blank}
 use Rattle.judge.proofs.advance.Adding.{rest-end, rest-over, rest-more}
 use Rattle.judge.proofs.rows.Laws.{stays-all, stays-on}
 use Rattle.judge.proofs.advance.begin_row.Statement.{statement}
@@ -43,7 +42,7 @@ returns c =
     let w = at .loop .inv in
     record {
       stays = stays-on (w .stays) (r .stays);
-      owed = rest-over _ _ _ (w .added) (places.rest-cons obligationOf (at .before .args .t4) (at .before .args .n) (at .loop .j) blank (omega arith) (omega arith)) r (c .if1 .taken);
+      owed = rest-over _ _ _ (w .added) (places.rest-cons obligationOf (at .before .args .t4) (at .before .args .n) (at .loop .j) blankObligation (omega arith) (omega arith)) r (c .if1 .taken);
       few = r .few;
     }
 
@@ -55,7 +54,7 @@ loop-again c =
     record {
       turns = omega arith;
       few = r .few;
-      added = rest-more _ _ _ (w .added) (places.rest-cons obligationOf (at .before .args .t4) (at .before .args .n) (at .loop .j) blank (omega arith) (omega arith)) r (c .if1 .left);
+      added = rest-more _ _ _ (w .added) (places.rest-cons obligationOf (at .before .args .t4) (at .before .args .n) (at .loop .j) blankObligation (omega arith) (omega arith)) r (c .if1 .left);
       stays = stays-on (w .stays) (r .stays);
     }
 

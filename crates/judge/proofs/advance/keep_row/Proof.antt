@@ -2,9 +2,9 @@
 use mathlib.Core.List.{List, _∷_}
 use mathlib.Core.Option.{some}
 use mathlib.Core.Path.{_≡_, sym, ap, _∙_}
-use Prim.Native.Nat.{ℕ, _+_, _*_, _-_, _<_, _≤_}
+use Prim.Native.Nat.{ℕ, _+_, _-_, _<_, _≤_}
 use native.Mathlib.Omega.{arith}
-use lib.ListN.{length, set}
+use lib.ListN.{length}
 use borrow.Author.Needs.{needs}
 use Rattle.records.specs.Lists.{listedFrom, listed}
 use Rattle.records.proofs.Lists.{listed-cons, listed-end}

@@ -1,7 +1,7 @@
 -- `begin_all` meets its contract. The invariant: what is begun so far, with what the lines from j on begin, is what all lines begin, each once. Assumes nothing.
 use mathlib.Core.List.{List}
 use mathlib.Core.Path.{_≡_, ap, _∙_}
-use Prim.Native.Nat.{ℕ, _+_, _≤_, _<_, _-_}
+use Prim.Native.Nat.{ℕ, _≤_, _-_}
 use native.Mathlib.Omega.{arith}
 use lib.ListN.{length, length-set, length-replicate}
 use borrow.Author.Needs.{needs}
@@ -11,10 +11,9 @@ use Rattle.tesl.specs.Fits.{owedFrom}
 use Rattle.tesl.specs.Remainder.{sameObligation}
 use Rattle.theory.specs.Adding.{insertAll, onceEach}
 use Rattle.judge.specs.declared.obligation.Obligation as code
-use Rattle.judge.specs.View.{obligationOf, filledOf, firstOf}
+use Rattle.judge.specs.View.{obligationOf, filledOf, firstOf, blankObligation}
 use Rattle.judge.specs.Plan.{linesIn}
 use Rattle.judge.proofs.Places.{first-set}
-use Rattle.judge.proofs.owed.Blank.{blank}
 use Rattle.judge.proofs.owed.Laws.{begunFrom, begun-start}
 use Rattle.judge.proofs.begun.Laws.{delayIn, joining-end, joining-nothing, joining-again, joining-more}
 use Rattle.judge.proofs.begun.begin_all.Statement.{statement}
@@ -33,7 +32,7 @@ abbrev μ-loop : tie.MeasureT-loop
 μ-loop lines n ticks tags begun₀ count₀ j₀ begun count j = n - j
 
 loop-holds : tie.Need-loop-holds Inv-loop μ-loop
-loop-holds c = record { turns = omega arith; fewer = omega arith; size = length-replicate 16 blank; joined = ap (onceEach sameObligation) (begun-start _ (delayIn (c .args .lines .now)) (c .args .n)) }
+loop-holds c = record { turns = omega arith; fewer = omega arith; size = length-replicate 16 blankObligation; joined = ap (onceEach sameObligation) (begun-start _ (delayIn (c .args .lines .now)) (c .args .n)) }
 
 loop-again : tie.Need-loop-again Inv-loop μ-loop
 loop-again c =

@@ -6,9 +6,8 @@ use native.Mathlib.Omega.{arith}
 use borrow.Author.Needs.{needs}
 use Rattle.tesl.specs.Lists.{any}
 use Rattle.tesl.specs.Remainder.{sameObligation}
-use Rattle.judge.specs.View.{obligationOf, firstOf}
+use Rattle.judge.specs.View.{obligationOf, firstOf, blankObligation}
 use Rattle.judge.proofs.Places.{any-next, any-hit}
-use Rattle.judge.proofs.owed.Blank.{blank}
 use Rattle.judge.proofs.begun.has_begun.Statement.{statement}
 use Rattle.judge.proofs.begun.has_begun.Tie as tie
 
@@ -22,13 +21,13 @@ returns : tie.Need-returns Inv-loop μ-loop
 returns c =
     let at = c .before .before .before .before in
     let a = at .before .args in
-    sym (any-hit obligationOf (a .t2) (sameObligation (obligationOf (a .o))) blank (a .n) (at .loop .j) (omega arith) (omega arith) (sym (c .before .same-obligation .ensures) ∙ c .if1 .taken))
+    sym (any-hit obligationOf (a .t2) (sameObligation (obligationOf (a .o))) blankObligation (a .n) (at .loop .j) (omega arith) (omega arith) (sym (c .before .same-obligation .ensures) ∙ c .if1 .taken))
 
 loop-again : tie.Need-loop-again Inv-loop μ-loop
 loop-again c =
     let at = c .before .before .before .before in
     let a = at .before .args in
-    (omega arith, any-next obligationOf (a .t2) (sameObligation (obligationOf (a .o))) blank (at .loop .j) (omega arith) (at .loop .inv .1) (sym (c .before .same-obligation .ensures) ∙ c .if1 .left))
+    (omega arith, any-next obligationOf (a .t2) (sameObligation (obligationOf (a .o))) blankObligation (at .loop .j) (omega arith) (at .loop .inv .1) (sym (c .before .same-obligation .ensures) ∙ c .if1 .left))
 
 returns-2 : tie.Need-returns-2 Inv-loop μ-loop
 returns-2 c =

@@ -1,7 +1,7 @@
 -- `work_rows` meets its contract: the ways to a return are the cases of what is worked. Assumes nothing.
 use mathlib.Core.Bool.{false}
-use mathlib.Core.Path.{_≡_, refl, sym, ap, _∙_, subst}
-use Prim.Native.Nat.{ℕ, _+_, _-_, _≤_}
+use mathlib.Core.Path.{_≡_, refl, ap, _∙_, subst}
+use Prim.Native.Nat.{ℕ, _-_, _≤_}
 use native.Mathlib.Omega.{arith}
 use lib.Dec.{T}
 use lib.ListN.{replicate}
@@ -10,8 +10,8 @@ use borrow.Author.Tests.{not-true, not-false}
 use Rattle.records.specs.Sheet.{SheetValue}
 use Rattle.tesl.specs.Lists.{all}
 use Rattle.judge.specs.declared.held.Count.{Count}
-use Rattle.judge.specs.declared.held.Count.the-variants.{Exhausted, Live}
-use Rattle.judge.specs.View.{live, tagsBefore}
+use Rattle.judge.specs.declared.held.Count.the-variants.{Live}
+use Rattle.judge.specs.View.{live}
 use Rattle.judge.specs.Lines.{smallLeads}
 use Rattle.judge.specs.Heed.{rowsClocks, flagged}
 use Rattle.judge.specs.Rows.{rowsOf, Small}

@@ -1,10 +1,8 @@
 -- `flag_row` meets its contract. The invariant: the flags of the row are what its obligations from j on add. Assumes nothing.
 use mathlib.Core.List.{List}
 use mathlib.Core.Path.{_≡_, _∙_}
-use mathlib.Core.Bool.{true}
 use Prim.Native.Nat.{ℕ, _≤_, _+_, _-_, _%_}
 use native.Mathlib.Omega.{arith}
-use lib.ListN.{set}
 use borrow.Author.Needs.{needs}
 use Rattle.records.specs.Lists.{listed}
 use Rattle.judge.specs.Rows.{word}

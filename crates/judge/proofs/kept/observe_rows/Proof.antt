@@ -99,8 +99,8 @@ returns-3 c =
     let v = sheetValue (k .sheet) in
     let bytes : IsBytes (s .args .bytes .now) = all-bytes (s .args .bytes .now) (λ i. known r .shared-slice-known .given i .fits) in
     let o = called (start s) (s .args .bytes .now) (within s) refl (r .read-instant .ensures) (e .before .enum-told .given .1) bytes (eight-rows (s .args .rows .now) (k .from) (k .count)) (omega (arith, e .if1 .left))
-        (accepts-rows k (s .args .rows .now) (r .read-instant .result .instant) (w .work-rows .result) _ _
-        (w .work-rows .ensures .works v (s .pre .planned) (leads-rows k (s .args .rows .now) (can e .leads))) (w .work-rows .ensures .small) (q .say-rows .ensures v)) in
+    (accepts-rows k (s .args .rows .now) (r .read-instant .result .instant) (w .work-rows .result) _ _
+    (w .work-rows .ensures .works v (s .pre .planned) (leads-rows k (s .args .rows .now) (can e .leads))) (w .work-rows .ensures .small) (q .say-rows .ensures v)) in
     record {
       observed = o;
       ready = record {

@@ -1,8 +1,7 @@
 -- `settle` meets its contract. The invariant: what all rows make of those found is what those from k on make of those found so far; the rows held stay. Assumes nothing.
-use mathlib.Core.Bool.{Bool}
 use mathlib.Core.List.{List, _∷_}
 use mathlib.Core.Logic.{⊎-elim}
-use mathlib.Core.Option.{Option, some}
+use mathlib.Core.Option.{some}
 use mathlib.Core.Path.{_≡_, refl, sym, ap, _∙_, subst}
 use Prim.Native.Nat.{ℕ, _+_, _-_, _<_, _≤_}
 use native.Mathlib.Nat.{eq-or-lt-of-le}
@@ -16,13 +15,12 @@ use Rattle.records.proofs.Lists.{listed-cons, listed-end, listed-snoc, length-l
 use Rattle.tesl.specs.Lists.{all}
 use Rattle.tesl.specs.Remainder.{Remainder}
 use Rattle.judge.specs.declared.advance.Next.{Next}
-use Rattle.judge.specs.declared.advance.Next.the-variants.{Fails, Over, Onto}
+use Rattle.judge.specs.declared.advance.Next.the-variants.{Onto}
 use Rattle.judge.specs.declared.filling.Filling.{Filling}
 use Rattle.judge.specs.declared.plan.Plan.{Plan}
-use Rattle.judge.specs.Advanced.{Advanced}
 use Rattle.judge.specs.View.{cut}
 use Rattle.judge.specs.Lines.{smallLeads}
-use Rattle.judge.specs.Rows.{words, rowCount, rowOf, rowsOf, Small, HeadStays}
+use Rattle.judge.specs.Rows.{words, rowOf, rowsOf, Small, HeadStays}
 use Rattle.judge.specs.Filling.{instantOf, begunIn, nextOf, Asked}
 use Rattle.judge.specs.Fillings.{settling}
 use Rattle.judge.specs.Work.{advanced, settledAll}

@@ -15,7 +15,6 @@ use Rattle.tesl.specs.Lists.{all}
 use Rattle.tesl.specs.Remainder.{Remainder}
 use Rattle.judge.specs.declared.plan.Plan.{Plan}
 use Rattle.judge.specs.declared.held.Count.{Count}
-use Rattle.judge.specs.declared.held.Count.the-variants.{Exhausted, Live}
 use Rattle.judge.specs.View.{cut}
 use Rattle.judge.specs.Lines.{smallLeads}
 use Rattle.judge.specs.Plan.{Planned}
