@@ -4,10 +4,12 @@ use mathlib.Core.List.{List}
 use mathlib.Core.Path.{_≡_}
 use Prim.Native.Nat.{ℕ, _+_}
 use lib.ListN.{length}
+use Rattle.records.specs.declared.instant.Instant.{Instant}
 use Rattle.records.specs.Lists.{listed}
 use Rattle.records.specs.Sheet.{sheetValue}
 use Rattle.records.specs.Types.{IsSheet}
 use Rattle.tesl.specs.Fits.{Obligation}
+use Rattle.tesl.specs.Answer.{mostLive}
 use Rattle.judge.specs.declared.obligation.Obligation as code
 use Rattle.judge.specs.declared.remainder.Remainder as arrays
 use Rattle.judge.specs.declared.answer.Reply.{Reply}
@@ -19,6 +21,7 @@ use Rattle.judge.specs.declared.kept.Told.{Told}
 use Rattle.judge.specs.declared.monitor.Monitor.{Monitor}
 use Rattle.judge.specs.declared.monitor.Given.{Given}
 use Rattle.judge.specs.Limits.{within}
+use Rattle.judge.specs.Monitor.{Accepts}
 use Rattle.judge.specs.Plan.{Fitting, Planned}
 use Rattle.judge.specs.Rows.{headRows, words, rowCount, rowObligation, rowLeads, rowStopped}
 use Rattle.judge.specs.Settle.{Side}
@@ -61,6 +64,11 @@ pub record Ready (k : Kept) (lines rows : List ℕ) (list : List Bool) : Type 0 
   pub size : length rows ≡ words
   pub lists : length list ≡ listSize
   pub limits : within (keptMonitor k rows) ≡ true
+
+-- what is answered to an instant that was read, and the monitor after it, which is as ready once it is within its limits
+pub record Works (k : Kept) (i : Instant) (lines : List ℕ) (t : Told) (a b : List ℕ) (list : List Bool) : Type 0 where
+  pub accepts : Accepts mostLive (keptMonitor k a) i (given (t .reply) (keptMonitor (t .kept) b))
+  pub ready : within (keptMonitor (t .kept) b) ≡ true → Ready (t .kept) lines b list
 
 -- what a call of the monitor gives, and the monitor to call next is as ready
 pub record Takes (k : Kept) (bytes lines : List ℕ) (t : Told) (a b : List ℕ) (list : List Bool) : Type 0 where

@@ -83,6 +83,7 @@ fn fill(
             }
             let idle = fill(lines, plan, flags, k + 1, seen, ticks, list, n);
             if !flags[k] {
+                // No line and no obligation held asks about this tick: with it nothing more is found.
                 return idle;
             }
             let set = with_tick(ticks, k);

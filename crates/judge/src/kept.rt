@@ -11,12 +11,14 @@ use crate::plan::Plan;
 use crate::rows::HEAD;
 use crate::rows::SIDES;
 use crate::rows::SIZE;
+use records::instant::Instant;
 use records::instant::read_instant;
 use records::number;
 use records::record::Answer;
 use records::sheet::Sheet;
 ghost use mathlib.Core.Path.{_≡_};
-ghost use Rattle.judge.specs.Kept.{keptOf, Ready, Takes};
+ghost use Prim.Native.Nat.{_<_};
+ghost use Rattle.judge.specs.Kept.{keptOf, Ready, Works, Takes};
 
 // A monitor beside its rows: its sheet and what is found out about it once, the number of instants and the last tags, how many are held and the first of their rows.
 pub struct Kept {
@@ -53,7 +55,46 @@ pub(crate) fn kept_of(monitor: Monitor, plan: Plan) -> Kept
     }
 }
 
-// Takes an instant: refused, the number and the monitor as it came; accepted, the answer, with those held after it on the other side.
+// Works on an instant that was read: the answer, with those held after it on the other side.
+fn work_instant(
+    kept: Kept,
+    lines: &[u16; NUMBERS],
+    instant: Instant,
+    rows: &mut [u32; SIZE],
+    list: &mut [bool; LIST],
+) -> Told
+    requires { ⌜ Ready kept (now lines) (now rows) (now list) × (kept .instants < 4000) ⌝ }
+    ensures { λ t. ⌜ Works kept instant (now (lines .entry)) t (now (rows .entry)) (now (rows .exit)) (now (list .exit)) ⌝ }
+{
+    let plan = kept.plan;
+    let from = kept.from;
+    let instants = kept.instants;
+    let was = kept.tags;
+    let before = Before {
+        first: instants == 0,
+        tags: was,
+    };
+    let count = kept.count;
+    let next = work_rows(rows, from, count, plan, lines, before, instant, list);
+    let to = SIDES - from;
+    let said = say_rows(rows, to, next);
+    let sheet = kept.sheet;
+    let tags = instant.tags;
+    let kept = Kept {
+        sheet,
+        plan,
+        instants: instants + 1,
+        tags,
+        count: next,
+        from: to,
+    };
+    Told {
+        reply: Reply::Answered(said),
+        kept,
+    }
+}
+
+// Takes an instant: refused, the number and the monitor as it came; accepted, the answer and the monitor after it.
 pub(crate) fn observe_rows(
     kept: Kept,
     lines: &[u16; NUMBERS],
@@ -81,31 +122,8 @@ pub(crate) fn observe_rows(
                     kept,
                 };
             }
-            let plan = kept.plan;
-            let from = kept.from;
-            let count = kept.count;
-            let was = kept.tags;
-            let before = Before {
-                first: instants == 0,
-                tags: was,
-            };
             let instant = read.instant;
-            let next = work_rows(rows, from, count, plan, lines, before, instant, list);
-            let to = SIDES - from;
-            let said = say_rows(rows, to, next);
-            let tags = instant.tags;
-            let kept = Kept {
-                sheet,
-                plan,
-                instants: instants + 1,
-                tags,
-                count: next,
-                from: to,
-            };
-            Told {
-                reply: Reply::Answered(said),
-                kept,
-            }
+            work_instant(kept, lines, instant, rows, list)
         }
     }
 }

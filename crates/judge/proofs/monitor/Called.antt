@@ -23,9 +23,9 @@ use Rattle.judge.specs.declared.remainder.Remainder as arrays
 use Rattle.judge.specs.declared.monitor.Monitor.{Monitor}
 use Rattle.judge.specs.declared.monitor.Given.{Given}
 use Rattle.judge.specs.Limits.{sheetWithin, within, Limited}
-use Rattle.judge.specs.Monitor.{sheetBy, refusal, Workable, Accepts}
+use Rattle.judge.specs.Monitor.{sheetBy, refusal, Accepts}
 use Rattle.judge.specs.Promises.{observes, Accepted, Observed}
-use Rattle.judge.proofs.monitor.Limits.{Limits, limits-of, workable, held-shaped}
+use Rattle.judge.proofs.monitor.Limits.{Limits, limits-of, held-shaped}
 use Rattle.judge.proofs.monitor.Observed.{accepted}
 
 -- ---- by the outcome
@@ -75,9 +75,6 @@ module _ (m : Monitor) (bytes : List ℕ) {b : Bool} (l : Limited m b) (e : not 
     pub called-full : {r : Given} → 4000 ≤ m .instants → r ≡ refusal 16 m → Observed m bytes r
     unfolding observes
     called-full {r} k g = called-refused m bytes r (rw (inside, was-read .is, T→≡ (leb 4000 (m .instants)) (le→leb 4000 (m .instants) k))) g
-
-    pub can-work : m .instants < 4000 → Workable m
-    can-work k = workable m kept k
 
     pub called : {r : Given} → IsBytes bytes → All (λ (s : arrays.Remainder). length (s .stopped) ≡ 8) (m .held .remainders) → m .instants < 4000
         → Accepts mostLive m (x .instant) r → Observed m bytes r

@@ -8,6 +8,7 @@ use Rattle.records.specs.Outcome.{Outcome, taken, refused}
 use Rattle.records.specs.Sheet.{sheetValue}
 use Rattle.records.proofs.Lists.{refused-taken}
 use Rattle.tesl.specs.Run.{Instant}
+use Rattle.tesl.specs.Answer.{Answer}
 use Rattle.judge.specs.declared.answer.Answer as code
 use Rattle.judge.specs.declared.answer.Reply.the-variants as reply
 use Rattle.judge.specs.declared.remainder.Remainder as arrays
@@ -32,12 +33,12 @@ answered-refused : {X : Type 0} {a : code.Answer} {n : ℕ} → reply.Answered a
 answered-refused e = let z : _≡_ {A = ℕ} 0 1 = cc in absurd (omega arith)
 
 -- an answer leaves the monitor within its limits
-pub answered-within : {m : Monitor} {bytes : List ℕ} {g : Given} → Observed m bytes g → {a : code.Answer} → g .reply ≡ reply.Answered a → within (g .monitor) ≡ true
+pub answered-within : {m : Monitor} {bytes : List ℕ} {g : Given} → Observed m bytes g → {a : Answer} → replyOf (g .reply) ≡ taken a → within (g .monitor) ≡ true
 answered-within {m} {bytes} {g} o {a} p = by-outcome (observes m bytes) refl
   where
     by-outcome : (x : Outcome Instant) → observes m bytes ≡ x → within (g .monitor) ≡ true
     by-outcome (taken i) e = o .accepts i e .limits
-    by-outcome (refused n) e = answered-refused (sym p ∙ ap (λ (x : Given). x .reply) (o .refuses n e))
+    by-outcome (refused n) e = refused-taken (sym (ap (λ (x : Given). replyOf (x .reply)) (o .refuses n e)) ∙ p)
 
 module _ (m : Monitor) (l : Limited m true) (p : Plan) {blank rows : List ℕ} (kept : KeptHeld (m .held .count) (m .held .remainders) blank rows) where
   abbrev before : Monitor

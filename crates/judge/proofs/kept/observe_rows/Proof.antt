@@ -1,18 +1,15 @@
--- `observe_rows` meets its contract: the refusals are tried in turn, and an accepted instant is worked on, on the rows, and says the answer. Assumes nothing.
+-- `observe_rows` meets its contract: the refusals are tried in turn, and an accepted instant is worked on. Assumes nothing.
 use mathlib.Core.Bool.{true}
 use mathlib.Core.Path.{refl}
 use native.Mathlib.Omega.{arith}
 use borrow.Author.Needs.{needs}
-use Rattle.records.specs.Sheet.{sheetValue}
-use Rattle.records.specs.Types.{IsBytes}
 use Rattle.judge.specs.declared.monitor.Monitor.{Monitor}
 use Rattle.judge.specs.Limits.{Limited}
-use Rattle.judge.specs.Monitor.{Workable}
 use Rattle.judge.specs.Kept.{keptMonitor}
 use Rattle.judge.proofs.monitor.Bytes.{all-bytes}
-use Rattle.judge.proofs.monitor.Called.{called-unread, called-full, can-work, called}
+use Rattle.judge.proofs.monitor.Called.{called-unread, called-full, called}
 use Rattle.judge.proofs.monitor.InRows.{answered-within}
-use Rattle.judge.proofs.kept.Laws.{limited, small-rows, leads-rows, eight-rows, accepts-rows, other-side}
+use Rattle.judge.proofs.kept.Laws.{limited, eight-rows}
 use Rattle.judge.proofs.kept.observe_rows.Statement.{statement}
 use Rattle.judge.proofs.kept.observe_rows.Tie as tie
 
@@ -53,68 +50,27 @@ returns-2 c =
     }
 
 -- ---- where there is room for an instant
-module _ (e : tie.Else1) where
-  abbrev read : tie.After-read-instant
-  read = e .before .before .before
+abbrev room : tie.After-work-instant-arg2 → tie.Else1
+room c = c .before .before .before
 
-  abbrev entry : tie.Start
-  entry = first read
+abbrev read : tie.Else1 → tie.After-read-instant
+read e = e .before .before .before
 
-  can : Workable (start entry)
-  can = can-work (start entry) (entry .args .bytes .now) (within entry) refl (read .read-instant .ensures) (e .before .enum-told .given .1) (omega (arith, e .if1 .left))
-
-abbrev room : tie.After-work-rows-arg2 → tie.Else1
-room w = w .before .before .before .before .before
-
-work-rows-requires : tie.Need-work-rows-requires
-work-rows-requires c κs =
-    let s = entry (room c) in
-    let k = s .args .kept in
-    record {
-      size = s .pre .size;
-      side = s .pre .side;
-      small = small-rows (s .args .rows .now) (k .from) (k .count) (can (room c) .fits);
-      plan = s .pre .fits;
-      lists = s .pre .lists;
-    }
-
--- ---- after the work
-abbrev worked : tie.After-say-rows-arg → tie.After-work-rows
-worked c = c .before
-
-say-rows-requires : tie.Need-say-rows-requires
-say-rows-requires c κs =
-    let w = worked c in
-    let s = entry (room (w .before)) in
-    (s .pre .side .other, w .work-rows .ensures .small)
+work-instant-requires : tie.Need-work-instant-requires
+work-instant-requires c κs = let e = room c in (first (read e) .pre, omega (arith, e .if1 .left))
 
 returns-3 : tie.Need-returns-3
 returns-3 c =
-    let q = c .before in
-    let w = worked (q .before) in
-    let e = room (w .before) in
+    let e = room (c .before) in
     let r = read e in
-    let s = entry e in
+    let s = first r in
     let k = s .args .kept in
-    let v = sheetValue (k .sheet) in
-    let bytes : IsBytes (s .args .bytes .now) = all-bytes (s .args .bytes .now) (λ i. known r .shared-slice-known .given i .fits) in
-    let o = called (start s) (s .args .bytes .now) (within s) refl (r .read-instant .ensures) (e .before .enum-told .given .1) bytes (eight-rows (s .args .rows .now) (k .from) (k .count)) (omega (arith, e .if1 .left))
-    (accepts-rows k (s .args .rows .now) (r .read-instant .result .instant) (w .work-rows .result) _ _
-    (w .work-rows .ensures .works v (s .pre .planned) (leads-rows k (s .args .rows .now) (can e .leads))) (w .work-rows .ensures .small) (q .say-rows .ensures v)) in
-    record {
-      observed = o;
-      ready = record {
-        value = s .pre .value;
-        planned = s .pre .planned;
-        fits = s .pre .fits;
-        side = other-side (s .pre .side);
-        size = w .work-rows .ensures .size;
-        lists = w .work-rows .ensures .lists;
-        limits = answered-within o refl;
-      };
-    }
+    let w = c .work-instant .ensures in
+    let o = called (start s) (s .args .bytes .now) (within s) refl (r .read-instant .ensures) (e .before .enum-told .given .1)
+    (all-bytes (s .args .bytes .now) (λ i. known r .shared-slice-known .given i .fits)) (eight-rows (s .args .rows .now) (k .from) (k .count)) (omega (arith, e .if1 .left)) (w .accepts) in
+    record { observed = o; ready = w .ready (answered-within o (w .accepts .said)) }
 
 pub observe-rows-spec : {M : Type 1} → statement M
 observe-rows-spec =
     tie.close (tie.spec (λ c κs. search needs) (λ c. search needs) (λ c. search needs)
-    returns work-rows-requires (λ c. search needs) say-rows-requires (λ c. search needs) returns-2 returns-3)
+    returns work-instant-requires returns-2 returns-3)

@@ -2,7 +2,7 @@
 use mathlib.Core.Bool.{true, false}
 use mathlib.Core.Path.{subst, sym}
 use Prim.Native.Nat.{ℕ}
-use lib.ListN.{length-replicate}
+use lib.ListN.{replicate, length-replicate}
 use borrow.Author.Needs.{needs}
 use Rattle.judge.specs.declared.kept.Kept.{Kept}
 use Rattle.judge.specs.declared.monitor.Monitor.{Monitor}
@@ -51,7 +51,7 @@ observe-rows-requires c κs =
     let h = k .before in
     let p = planned (h .before) in
     let e = test p in
-    subst (λ (x : Kept). Ready x (p .plan-of .last .1 .0) (h .keep-held .last .0) _) (sym (k .kept-of .ensures)) (ready-stored (monitor e) (p .plan-of .result) (h .keep-held .ensures) (within e) (p .plan-of .ensures) (length-replicate 2048 false))
+    subst (λ (x : Kept). Ready x (p .plan-of .last .1 .0) (h .keep-held .last .0) (replicate 2048 false)) (sym (k .kept-of .ensures)) (ready-stored (monitor e) (p .plan-of .result) (h .keep-held .ensures) (within e) (p .plan-of .ensures) (length-replicate 2048 false))
 
 -- ---- the instant observed
 module _ (o : tie.After-observe-rows) where
