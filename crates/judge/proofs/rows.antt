@@ -1,4 +1,3 @@
 pub mod Laws
 pub mod Storing
-pub mod Fill
 pub mod Placing

@@ -27,6 +27,7 @@ use Rattle.judge.specs.Work.{worked}
 abbrev pub fillingsLeft : List Bool → List TickSlot → ℕ → ℕ → List Bool → List (List Bool)
 fillingsLeft flags seen clocks k ticks = fillingsFrom k (heeded (λ j. getD flags j true) k (drop k (seenOf clocks seen))) ticks
 
+-- room for the fillings left, after the first n
 pub record Listing (list : List Bool) (p : Plan) (flags : List Bool) (k : ℕ) (seen : List TickSlot) (ticks : List Bool) (n : ℕ) : Type 0 where
   pub size : length list ≡ listSize
   pub plan : Fitting p
@@ -39,11 +40,13 @@ pub record Listed (rules : List Bool → Bool) (left : List (List Bool)) (n r : 
   pub fewer : r ≤ n + length left
   pub listed : fillingsIn b r ≡ fillingsIn a n ++ filter rules left
 
+-- what the rules of a plan allow
 abbrev pub ruled : List ℕ → Plan → List Bool → Bool
 ruled lines p = allowed (linesIn lines 32 (p .rules))
 
 -- ---- an instant
 
+-- those held on a side, and a list to work in
 pub record Working (rows : List ℕ) (from : ℕ) (count : Count) (p : Plan) (list : List Bool) : Type 0 where
   pub size : length rows ≡ words
   pub side : Side from
@@ -51,6 +54,7 @@ pub record Working (rows : List ℕ) (from : ℕ) (count : Count) (p : Plan) (li
   pub plan : Fitting p
   pub lists : length list ≡ listSize
 
+-- those held after an instant, on the other side; the head stays
 pub record Worked (lines : List ℕ) (p : Plan) (before : Before) (instant : Instant) (from : ℕ) (count : Count) (r : Count) (a b : List ℕ) (list : List Bool) : Type 0 where
   pub size : length b ≡ words
   pub small : SmallIn r b (sides - from)

@@ -49,6 +49,7 @@ pub record AskedLeads (lines : List ℕ) (reach : ℕ) (ticks : List Bool) (need
   pub gained : (k : ℕ) → k < reach → getD gains k 0 ≡ gainOf ticks (lineIn lines k)
   pub lost : (k : ℕ) → k < reach → getD losses k 0 ≡ lossOf ticks (lineIn lines k)
 
+-- what was gathered of a filling, in every sheet that the plan is of
 pub record Gathered (lines : List ℕ) (p : Plan) (ticks : List Bool) (tags : List ℤ) (f : Filling) : Type 0 where
   pub ticked : f .ticks ≡ ticks
   pub tagged : f .tags ≡ tags
@@ -57,17 +58,20 @@ pub record Gathered (lines : List ℕ) (p : Plan) (ticks : List Bool) (tags : Li
 
 -- ---- a row that goes on, in every sheet that the plan and the filling are of
 
+-- what became of a row, built in row `to`
 abbrev pub nextOf : SheetValue → Next → List ℕ → ℕ → Advanced
 nextOf v Fails rows to = fails
 nextOf v Over rows to = over
 nextOf v Onto rows to = onto (cut v (rowOf rows to))
 
+-- row i, and another to build in
 pub record Advancing (rows : List ℕ) (i to : ℕ) (p : Plan) (f : Filling) : Type 0 where
   pub between : Between rows i to
   pub few : rowCount rows i ≤ 8
   pub plan : Fitting p
   pub begun : f .count ≤ 16
 
+-- the row that it becomes; the other rows stay
 pub record AdvancedRow (p : Plan) (f : Filling) (i to : ℕ) (r : Next) (a b : List ℕ) : Type 0 where
   pub stays : Stays to 0 width a b
   pub few : r ≡ Onto → rowCount b to ≤ 8

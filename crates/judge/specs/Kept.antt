@@ -32,6 +32,7 @@ use Rattle.judge.specs.Fillings.{listSize}
 abbrev pub asStruct : Obligation → code.Obligation
 asStruct o = record { clock = o .clock; on = o .on; due = o .due }
 
+-- row i as a struct
 abbrev pub rowRemainder : List ℕ → ℕ → arrays.Remainder
 rowRemainder rows i = record {
   owed = rowCount rows i;
@@ -43,6 +44,7 @@ rowRemainder rows i = record {
 abbrev pub rowsHeld : Count → List ℕ → ℕ → Held
 rowsHeld count rows from = record { count = count; remainders = listed (λ k. rowRemainder rows (from + k)) (liveRows count) }
 
+-- a monitor kept, with its rows
 abbrev pub keptMonitor : Kept → List ℕ → Monitor
 keptMonitor k rows = record { sheet = k .sheet; instants = k .instants; tags = k .tags; held = rowsHeld (k .count) rows (k .from) }
 

@@ -97,8 +97,9 @@ pub record Planned (v : SheetValue) (p : Plan) (lines : List ℕ) : Type 0 where
   pub leading : Leading v (p .reach) (p .precede)
   pub named : p .named ≡ flagged (flatMap namedBy (v .lines)) (replicate 8 false)
 
--- ---- gathered from a sheet, with the precedes lines before place r
+-- ---- gathered from a sheet
 
+-- no precedes line stands past place r
 pub record Reaches (s : Sheet) (r : ℕ) : Type 0 where
   pub within : r ≤ s .count
   pub past : (i : ℕ) → r ≤ i → isPrecedes (getD (sheetValue s .lines) i blankLine) ≡ false
@@ -114,6 +115,7 @@ pub record PutLine (j : ℕ) (l : Line) (a b : List ℕ) : Type 0 where
   pub there : lineIn b j ≡ l
   pub before : (h : ℕ) → h < j → lineIn b h ≡ lineIn a h
 
+-- lines that have room from row `from` on
 pub record Gathering (s : Sheet) (lines : List ℕ) (from : ℕ) : Type 0 where
   pub few : s .count ≤ 16
   pub size : length lines ≡ numbers
@@ -126,6 +128,7 @@ pub record GatheredPart (s : Sheet) (part : Part) (from r : ℕ) (a b : List ℕ
   pub lines : linesIn b from r ≡ filter (belongs part) (sheetValue s .lines)
   pub before : (h : ℕ) → h < from → lineIn b h ≡ lineIn a h
 
+-- a sheet within its limits, and room for its lines
 pub record Preparing (s : Sheet) (lines : List ℕ) : Type 0 where
   pub few-lines : s .count ≤ 16
   pub few-clocks : s .clocks ≤ 8

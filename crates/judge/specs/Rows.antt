@@ -43,6 +43,7 @@ sides = 45
 abbrev pub word : List ℕ → ℕ → ℕ → ℕ
 word rows i p = getD rows (width * i + p) 0
 
+-- how many obligations row i has; obligation j of them, and all
 abbrev pub rowCount : List ℕ → ℕ → ℕ
 rowCount rows i = word rows i 0
 
@@ -52,6 +53,7 @@ rowObligation rows i j = record { clock = word rows i (1 + j) % 256; due = dueOf
 abbrev pub rowOwed : List ℕ → ℕ → List Obligation
 rowOwed rows i = listed (rowObligation rows i) (rowCount rows i)
 
+-- the lead of line k, whether clock k is stopped, and all
 abbrev pub rowLead : List ℕ → ℕ → ℕ → ℕ
 rowLead rows i k = word rows i (25 + k)
 
@@ -64,7 +66,7 @@ rowLeads rows i = listed (rowLead rows i) 16
 abbrev pub rowStopped : List ℕ → ℕ → List Bool
 rowStopped rows i = listed (rowStop rows i) 8
 
--- with the leads of sixteen lines and the stopped ones of eight clocks
+-- row i, with the leads of sixteen lines and the stopped ones of eight clocks
 abbrev pub rowOf : List ℕ → ℕ → Remainder
 rowOf rows i = record { owed = rowOwed rows i; leads = rowLeads rows i; stopped = rowStopped rows i }
 
@@ -89,19 +91,22 @@ pub record Stays (i lo hi : ℕ) (a b : List ℕ) : Type 0 where
 abbrev pub HeadStays : List ℕ → List ℕ → Type 0
 HeadStays a b = (h p : ℕ) → h < headRows → p < width → word b h p ≡ word a h p
 
--- ---- contracts: of one row, and of a row that gives another
+-- ---- contracts: of one row, and of a row that gives another; r tells whether there is one
 
+-- row i, of at most eight obligations
 pub record Row (rows : List ℕ) (i : ℕ) : Type 0 where
   pub size : length rows ≡ words
   pub row : i < height
   pub few : rowCount rows i ≤ 8
 
+-- row i, and another
 pub record Between (rows : List ℕ) (i to : ℕ) : Type 0 where
   pub size : length rows ≡ words
   pub row : i < height
   pub into : to < height
   pub apart : i ≡ to → ⊥
 
+-- an obligation in place j of row i; the others stay
 pub record PutObligation (i j : ℕ) (o : Obligation) (a b : List ℕ) : Type 0 where
   pub stays : Stays i 1 25 a b
   pub here : rowObligation b i j ≡ o
@@ -112,17 +117,19 @@ pub record ObligationsAt (i n : ℕ) (os : List code.Obligation) (rows : List �
   pub owed : firstOf n os ≡ rowOwed rows i
   pub rest : (j : ℕ) → n ≤ j → getD os j blankObligation ≡ blankObligation
 
+-- row `to` owes what an instant leaves of what row i owes, unless one of it is late
 pub record KeptRow (f : Filled) (i to : ℕ) (r : Bool) (a b : List ℕ) : Type 0 where
   pub stays : Stays to 0 25 a b
   pub owed : provided r (rowOwed b to) ≡ kept f (rowOwed a i)
   pub few : r ≡ true → rowCount b to ≤ 8
 
+-- row i with one obligation more, unless a ninth has no room
 pub record AddedRow (i : ℕ) (o : Obligation) (r : Bool) (a b : List ℕ) : Type 0 where
   pub stays : Stays i 0 25 a b
   pub owed : provided r (rowOwed b i) ≡ added (rowOwed a i) o
   pub few : rowCount b i ≤ 8
 
--- with obligations that were begun
+-- row i with the obligations that were begun
 pub record BegunRow (i : ℕ) (os : List Obligation) (r : Bool) (a b : List ℕ) : Type 0 where
   pub stays : Stays i 0 25 a b
   pub owed : provided r (rowOwed b i) ≡ addedAll os (rowOwed a i)
@@ -133,6 +140,7 @@ pub record LeadsOn (reach : ℕ) (gains losses : List ℕ) (i to : ℕ) (a b : L
   pub stays : Stays to 25 41 a b
   pub leads : (k : ℕ) → k < reach → rowLead a i k < 65536 → rowLead b to k ≡ rowLead a i k + getD gains k 0 - getD losses k 0
 
+-- the stopped clocks of row i, with more
 pub record StoppedOn (stops : List Bool) (i to : ℕ) (a b : List ℕ) : Type 0 where
   pub stays : Stays to 41 49 a b
   pub stopped : rowStopped b to ≡ either (rowStopped a i) stops

@@ -33,20 +33,23 @@ abbrev pub foundIn : SheetValue → Count → List ℕ → ℕ → Option (List 
 foundIn v Exhausted rows to = none
 foundIn v (Live n) rows to = some (rowsOf v rows to n)
 
+-- counts that a side has room for
 abbrev pub SmallIn : Count → List ℕ → ℕ → Type 0
 SmallIn Exhausted rows to = Unit
-SmallIn (Live n) rows to = (n ≤ 32) × Small rows to n
+SmallIn (Live n) rows to = (n ≤ mostLive) × Small rows to n
 
+-- what a filling works on: n rows held, and those found so far
 pub record Settling (rows : List ℕ) (from to n found : ℕ) (p : Plan) (f : Filling) : Type 0 where
   pub size : length rows ≡ words
   pub sides : Sides from to
-  pub held : n ≤ 32
-  pub fewer : found ≤ 32
+  pub held : n ≤ mostLive
+  pub fewer : found ≤ mostLive
   pub small : Small rows from n
   pub smallFound : Small rows to found
   pub plan : Fitting p
   pub begun : f .count ≤ 16
 
+-- those found with what the rows held become by a filling; these and the head stay
 pub record Settled (p : Plan) (f : Filling) (from to n found : ℕ) (r : Count) (a b : List ℕ) : Type 0 where
   pub size : length b ≡ words
   pub small : SmallIn r b to
@@ -57,17 +60,20 @@ pub record Settled (p : Plan) (f : Filling) (from to n found : ℕ) (r : Count) 
 
 -- ---- all fillings of an instant, and the instant; what is found goes to the other side
 
+-- the first row of a side; the other side is the rest
 abbrev pub Side : ℕ → Type 0
 Side from = Sides from (sides - from)
 
+-- n rows held, and m fillings
 pub record SettlingAll (rows : List ℕ) (from n : ℕ) (p : Plan) (m : ℕ) : Type 0 where
   pub size : length rows ≡ words
   pub side : Side from
-  pub held : n ≤ 32
+  pub held : n ≤ mostLive
   pub small : Small rows from n
   pub plan : Fitting p
   pub few : m ≤ mostFillings
 
+-- those found by all fillings, on the other side; the head stays
 pub record SettledAll (lines : List ℕ) (p : Plan) (tags : List ℤ) (fillings : List (List Bool)) (from n : ℕ) (r : Count) (a b : List ℕ) : Type 0 where
   pub size : length b ≡ words
   pub small : SmallIn r b (sides - from)

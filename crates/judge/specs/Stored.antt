@@ -26,6 +26,7 @@ pub record Place (rows : List ℕ) (i : ℕ) : Type 0 where
   pub size : length rows ≡ words
   pub row : i < height
 
+-- what a remainder owes, its leads and its stopped clocks, in row i
 pub record PutObligations (i n : ℕ) (os : List Obligation) (a b : List ℕ) : Type 0 where
   pub stays : Stays i 0 25 a b
   pub count : rowCount b i ≡ n
@@ -72,21 +73,25 @@ pub record RemainderAt (p : Plan) (i : ℕ) (r : arrays.Remainder) (rows : List 
 
 -- ---- those held, on the first side
 
+-- n remainders that a side has room for
 pub record Storing (rows : List ℕ) (n : ℕ) (rs : List arrays.Remainder) : Type 0 where
   pub size : length rows ≡ words
   pub held : n ≤ 32
   pub few : T (all (λ (r : arrays.Remainder). leb (r .owed) 8) (take n rs))
 
+-- each in its row; the head stays
 pub record ToRows (n : ℕ) (rs : List arrays.Remainder) (a b : List ℕ) : Type 0 where
   pub size : length b ≡ words
   pub head : HeadStays a b
   pub small : Small b headRows n
   pub rows : (v : SheetValue) → rowsOf v b headRows n ≡ map (viewOf v) (take n rs)
 
+-- a count that the arrays have room for
 pub record KeepingHeld (rows : List ℕ) (count : Count) (rs : List arrays.Remainder) : Type 0 where
   pub size : length rows ≡ words
   pub fits : T (sizedIn count rs)
 
+-- those held, in rows; the head stays
 pub record KeptHeld (count : Count) (rs : List arrays.Remainder) (a b : List ℕ) : Type 0 where
   pub size : length b ≡ words
   pub head : HeadStays a b
@@ -113,11 +118,13 @@ pub record CopiedRows (p : Plan) (from n : ℕ) (rs : List arrays.Remainder) (ro
   pub first : (k : ℕ) → k < n → RemainderAt p (from + k) (getD rs k blankRemainder) rows
   pub rest : (k : ℕ) → n ≤ k → getD rs k blankRemainder ≡ blankRemainder
 
+-- a count of rows of a side, for a plan
 pub record FindingRows (rows : List ℕ) (count : Count) (from : ℕ) (p : Plan) : Type 0 where
   pub side : from ≤ secondSide
   pub small : SmallIn count rows from
   pub plan : Fitting p
 
+-- those found, for every sheet that the plan is of, and blank remainders past them
 pub record FromRows (p : Plan) (count : Count) (from : ℕ) (rs : List arrays.Remainder) (rows : List ℕ) : Type 0 where
   pub fits : T (sizedIn count rs)
   pub held : (v : SheetValue) (lines : List ℕ) → Planned v p lines → T (all smallLeads (live (foundIn v count rows from))) → heldIn v count rs ≡ foundIn v count rows from

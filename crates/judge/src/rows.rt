@@ -11,8 +11,10 @@ ghost use lib.ListN.{length, set};
 ghost use Rattle.judge.specs.View.{obligationOf};
 ghost use Rattle.judge.specs.Rows.{height, width, words, word, rowCount, rowObligation, PutObligation, ObligationsAt};
 
-// All words, those of a row, and where a row's parts begin.
+// All words, and those of a row.
 pub(crate) const SIZE: usize = 4608;
+
+pub(crate) const WIDTH: usize = 64;
 
 // The rows of the head: the first side begins after them.
 pub(crate) const HEAD: usize = 6;
@@ -20,8 +22,7 @@ pub(crate) const HEAD: usize = 6;
 // The first rows of the two sides, 6 and 39, together.
 pub(crate) const SIDES: usize = 45;
 
-pub(crate) const WIDTH: usize = 64;
-
+// Where a row's parts begin: its count of obligations, their clocks, their on-clocks and their dues; the leads; the stopped clocks.
 pub(crate) const COUNT: usize = 0;
 
 pub(crate) const CLOCKS: usize = 1;

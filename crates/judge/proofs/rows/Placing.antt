@@ -7,10 +7,11 @@ use native.Mathlib.Nat.{eq-or-lt-of-le}
 use native.Mathlib.Numerals.{add-one}
 use native.Mathlib.Omega.{arith}
 use lib.ListN.{length, getD, set, take, replicate, length-set, length-replicate}
-use lib.Seq.{getD-set-same, getD-set-other}
+use lib.Seq.{getD-set-same, getD-set-other, ext-getD}
 use Rattle.records.specs.Lists.{listedFrom, listed}
+use Rattle.records.proofs.Lists.{length-listed}
 use Rattle.judge.proofs.Places.{first-more}
-use Rattle.judge.proofs.Listing.{listed-next}
+use Rattle.judge.proofs.Listing.{listed-at, listed-next}
 
 pub blank-at : {A : Type 0} (d : A) (n k : ℕ) → getD (replicate n d) k d ≡ d
 blank-at d zero k = refl
@@ -45,3 +46,8 @@ first-listed g f d xs zero h p = refl
 first-listed g f d xs (suc n) h p =
     ap (λ (m : ℕ). map g (take m xs)) (sym (add-one n)) ∙ first-more g xs d n h
     ∙ sym (listed-next n (λ j l. refl) (sym (p n (omega arith))) (sym (first-listed g f d xs n (omega arith) (λ k l. p k (omega arith))))) ∙ ap (listed f) (add-one n)
+
+-- what is listed is an array, if each place is
+pub listed-is : {A : Type 0} (d : A) (f : ℕ → A) (n : ℕ) (xs : List A) → length xs ≡ n → ((k : ℕ) → k < n → f k ≡ getD xs k d) → listed f n ≡ xs
+listed-is d f n xs l h =
+    ext-getD d (listed f n) xs (length-listed f n ∙ sym l) (λ k m. let e : k < n = omega (arith, length-listed f n) in listed-at f d n k e ∙ h k e)

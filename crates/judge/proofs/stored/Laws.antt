@@ -8,7 +8,6 @@ use lib.Dec.{T, ltb}
 use lib.ListN.{length, getD, take}
 use lib.Seq.{ext-getD, getD-take, length-take-le}
 use borrow.Author.Tests.{ltb-true, ltb-false}
-use Rattle.records.specs.Lists.{listed}
 use Rattle.records.specs.Sheet.{SheetValue}
 use Rattle.records.proofs.Lists.{both, length-listed}
 use Rattle.theory.specs.Step.{nextLeads}
@@ -24,11 +23,6 @@ use Rattle.judge.proofs.Listing.{listed-at, listed-same}
 use Rattle.judge.proofs.rows.Laws.{stays-wide, stays-on, owed-stays}
 use Rattle.judge.proofs.work.Carried.{sheetLine, next-places, used-by, small-lead}
 use Rattle.judge.proofs.advance.Row.{same-remainder}
-
--- what is listed is an array, if each place is
-pub listed-is : {A : Type 0} (d : A) (f : ℕ → A) (n : ℕ) (xs : List A) → length xs ≡ n → ((k : ℕ) → k < n → f k ≡ getD xs k d) → listed f n ≡ xs
-listed-is d f n xs l h =
-    ext-getD d (listed f n) xs (length-listed f n ∙ sym l) (λ k m. let e : k < n = omega (arith, length-listed f n) in listed-at f d n k e ∙ h k e)
 
 module _ {i : ℕ} (r : arrays.Remainder) (few : r .owed ≤ 8) {a b c d : List ℕ}
     (owed : PutObligations i (r .owed) (owedOf r) a b) (led : PutLeads i (r .leads) b c) (stopped : PutStopped i (r .stopped) c d) where

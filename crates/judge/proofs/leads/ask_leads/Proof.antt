@@ -1,21 +1,21 @@
 -- `ask_leads` meets its contract. The invariant: the first i places hold what the first i lines ask. Assumes nothing.
 use mathlib.Core.Bool.{Bool}
 use mathlib.Core.List.{List}
-use mathlib.Core.Path.{ap, _∙_}
+use mathlib.Core.Path.{_≡_, ap, _∙_}
 use Prim.Native.Nat.{ℕ, _-_, _≤_}
 use native.Mathlib.Omega.{arith}
 use borrow.Author.Needs.{needs}
 use Rattle.judge.specs.Carried.{needOf, gainOf, lossOf}
 use Rattle.judge.specs.Plan.{lineIn}
-use Rattle.judge.proofs.leads.Laws.{Places, places-start, places-more}
+use Rattle.judge.proofs.rows.Placing.{Placing, placing-start, placing-more}
 use Rattle.judge.proofs.leads.ask_leads.Statement.{statement}
 use Rattle.judge.proofs.leads.ask_leads.Tie as tie
 
 record Asking (lines : List ℕ) (reach : ℕ) (ticks : List Bool) (needs gains losses : List ℕ) (i : ℕ) : Type 0 where
   turns : i ≤ reach
-  needed : Places (λ k. needOf ticks (lineIn lines k)) needs i
-  gained : Places (λ k. gainOf ticks (lineIn lines k)) gains i
-  lost : Places (λ k. lossOf ticks (lineIn lines k)) losses i
+  needed : Placing (λ k (x : ℕ). x ≡ needOf ticks (lineIn lines k)) 0 16 needs i
+  gained : Placing (λ k (x : ℕ). x ≡ gainOf ticks (lineIn lines k)) 0 16 gains i
+  lost : Placing (λ k (x : ℕ). x ≡ lossOf ticks (lineIn lines k)) 0 16 losses i
 
 abbrev Inv-loop : tie.InvT-loop
 Inv-loop lines reach ticks needs₀ gains₀ losses₀ i₀ needs gains losses i = Asking lines reach ticks needs gains losses i
@@ -24,7 +24,7 @@ abbrev μ-loop : tie.MeasureT-loop
 μ-loop lines reach ticks needs₀ gains₀ losses₀ i₀ needs gains losses i = reach - i
 
 loop-holds : tie.Need-loop-holds Inv-loop μ-loop
-loop-holds c = record { turns = omega arith; needed = places-start _; gained = places-start _; lost = places-start _ }
+loop-holds c = record { turns = omega arith; needed = placing-start _ _ 16; gained = placing-start _ _ 16; lost = placing-start _ _ 16 }
 
 loop-again : tie.Need-loop-again Inv-loop μ-loop
 loop-again c =
@@ -34,15 +34,15 @@ loop-again c =
     let m = at .loop in
     record {
       turns = omega arith;
-      needed = places-more _ (m .needs) (m .inv .needed) (omega arith) (c .before .before .need-of .ensures ∙ ap (needOf ticks) l);
-      gained = places-more _ (m .gains) (m .inv .gained) (omega arith) (c .before .gain-of .ensures ∙ ap (gainOf ticks) l);
-      lost = places-more _ (m .losses) (m .inv .lost) (omega arith) (c .loss-of .ensures ∙ ap (lossOf ticks) l);
+      needed = placing-more _ _ 16 (m .inv .needed) (omega arith) _ (c .before .before .need-of .ensures ∙ ap (needOf ticks) l);
+      gained = placing-more _ _ 16 (m .inv .gained) (omega arith) _ (c .before .gain-of .ensures ∙ ap (gainOf ticks) l);
+      lost = placing-more _ _ 16 (m .inv .lost) (omega arith) _ (c .loss-of .ensures ∙ ap (lossOf ticks) l);
     }
 
 returns : tie.Need-returns Inv-loop μ-loop
 returns c =
     let w = c .before .loop .inv in
-    record { needed = λ k h. w .needed .1 k (omega arith); gained = λ k h. w .gained .1 k (omega arith); lost = λ k h. w .lost .1 k (omega arith) }
+    record { needed = λ k h. w .needed .places k (omega arith); gained = λ k h. w .gained .places k (omega arith); lost = λ k h. w .lost .places k (omega arith) }
 
 pub ask-leads-spec : {M : Type 1} → statement M
 ask-leads-spec =

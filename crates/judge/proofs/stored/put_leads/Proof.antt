@@ -6,7 +6,7 @@ use native.Mathlib.Omega.{arith}
 use lib.ListN.{getD}
 use borrow.Author.Needs.{needs}
 use Rattle.judge.proofs.rows.Storing.{Storing, storing-start, storing-more}
-use Rattle.judge.proofs.stored.Laws.{listed-is}
+use Rattle.judge.proofs.rows.Placing.{listed-is}
 use Rattle.judge.proofs.stored.put_leads.Statement.{statement}
 use Rattle.judge.proofs.stored.put_leads.Tie as tie
 

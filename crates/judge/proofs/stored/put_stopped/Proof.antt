@@ -8,7 +8,7 @@ use lib.ListN.{getD}
 use borrow.Author.Needs.{needs}
 use Rattle.judge.specs.Word.{flagOf}
 use Rattle.judge.proofs.rows.Storing.{Storing, storing-start, storing-more}
-use Rattle.judge.proofs.stored.Laws.{listed-is}
+use Rattle.judge.proofs.rows.Placing.{listed-is}
 use Rattle.judge.proofs.stored.put_stopped.Statement.{statement}
 use Rattle.judge.proofs.stored.put_stopped.Tie as tie
 
