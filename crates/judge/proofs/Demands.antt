@@ -18,7 +18,7 @@ use Rattle.theory.proofs.Seen.{seen-judged}
 use Rattle.judge.specs.declared.monitor.Monitor.{Monitor}
 use Rattle.judge.specs.declared.monitor.Given.{Given}
 use Rattle.judge.specs.Answer.{replyOf}
-use Rattle.judge.specs.Promises.{Follows, observes}
+use Rattle.judge.specs.Promises.{Follows, observes, Called}
 use Rattle.judge.specs.Demands.{openedOf, Opens, Observes, Demand3, Demand3Said, Demand2}
 
 -- ---- opening
@@ -37,20 +37,26 @@ same-call : (s : SheetValue) (run : List Instant) (m : Monitor) (bytes : List �
 unfolding observes accepts
 same-call s run m bytes f = rw (f .limits, f .instants, ap (λ (v : SheetValue). v .clocks) (f .sheet))
 
-pub observing-follows : (s : SheetValue) (run : List Instant) (m after : Monitor) (bytes : List ℕ) (given : Outcome Answer)
-    → Follows s run m → Observes m bytes given after → Observing Follows s run bytes given after
-observing-follows s run m after bytes given f (r, h, e, k) = by-outcome (accepts s run bytes) refl
+pub called-follows : (s : SheetValue) (run : List Instant) (m : Monitor) (bytes : List ℕ) (r : Given)
+    → Follows s run m → Called m bytes r → Observing Follows s run bytes (replyOf (r .reply)) (r .monitor)
+called-follows s run m bytes r f h = by-outcome (accepts s run bytes) refl
   where
-    by-outcome : (o : Outcome Instant) → accepts s run bytes ≡ o → Observing Follows s run bytes given after
+    by-outcome : (o : Outcome Instant) → accepts s run bytes ≡ o → Observing Follows s run bytes (replyOf (r .reply)) (r .monitor)
     by-outcome (refused n) q =
         let g = h .refuses n (same-call s run m bytes f ∙ q) in
         record {
-          same = rw q (sym e ∙ ap (λ (x : Given). replyOf (x .reply)) g);
-          follows = rw q (subst (Follows s run) (sym (ap (λ (x : Given). x .monitor) g) ∙ k) f);
+          same = rw q (ap (λ (x : Given). replyOf (x .reply)) g);
+          follows = rw q (subst (Follows s run) (sym (ap (λ (x : Given). x .monitor) g)) f);
         }
     by-outcome (taken i) q =
         let g = h .accepts i (same-call s run m bytes f ∙ q) .follows s run f in
-        record { same = rw q (sym e ∙ g .0); follows = rw q (subst (Follows s _) k (g .1)) }
+        record { same = rw q (g .0); follows = rw q (g .1) }
+
+pub observing-follows : (s : SheetValue) (run : List Instant) (m after : Monitor) (bytes : List ℕ) (given : Outcome Answer)
+    → Follows s run m → Observes m bytes given after → Observing Follows s run bytes given after
+observing-follows s run m after bytes given f (r, h, e, k) =
+    subst (λ (o : Outcome Answer). Observing Follows s run bytes o after) e
+    (subst (Observing Follows s run bytes (replyOf (r .reply))) k (called-follows s run m bytes r f (h .called)))
 
 laws : (read : Reader) → FollowsMachine read (Opens read) Observes Follows
 laws read = record { opening = opening-follows read; observing = observing-follows }

@@ -3,6 +3,7 @@ use mathlib.Core.Bool.{Bool, true}
 use mathlib.Core.List.{List}
 use mathlib.Core.Path.{_≡_}
 use Prim.Native.Nat.{ℕ, _+_}
+use lib.IntN.{pos}
 use lib.ListN.{length}
 use Rattle.records.specs.declared.instant.Instant.{Instant}
 use Rattle.records.specs.Lists.{listed}
@@ -12,7 +13,9 @@ use Rattle.tesl.specs.Fits.{Obligation}
 use Rattle.tesl.specs.Answer.{mostLive}
 use Rattle.judge.specs.declared.obligation.Obligation as code
 use Rattle.judge.specs.declared.remainder.Remainder as arrays
+use Rattle.judge.specs.declared.answer.Answer.{Answer}
 use Rattle.judge.specs.declared.answer.Reply.{Reply}
+use Rattle.judge.specs.declared.answer.Reply.the-variants.{Answered}
 use Rattle.judge.specs.declared.held.Count.{Count}
 use Rattle.judge.specs.declared.held.Held.{Held}
 use Rattle.judge.specs.declared.plan.Plan.{Plan}
@@ -20,13 +23,14 @@ use Rattle.judge.specs.declared.kept.Kept.{Kept}
 use Rattle.judge.specs.declared.kept.Told.{Told}
 use Rattle.judge.specs.declared.monitor.Monitor.{Monitor}
 use Rattle.judge.specs.declared.monitor.Given.{Given}
+use Rattle.judge.specs.View.{liveCount}
+use Rattle.judge.specs.Unused.{BlankFrom}
 use Rattle.judge.specs.Limits.{within}
 use Rattle.judge.specs.Monitor.{Accepts}
 use Rattle.judge.specs.Plan.{Fitting, Planned}
 use Rattle.judge.specs.Rows.{headRows, words, rowCount, rowObligation, rowLeads, rowStopped}
 use Rattle.judge.specs.Settle.{Side}
-use Rattle.judge.specs.Stored.{liveRows}
-use Rattle.judge.specs.Promises.{Observed}
+use Rattle.judge.specs.Promises.{Called}
 use Rattle.judge.specs.Fillings.{listSize}
 
 abbrev pub asStruct : Obligation → code.Obligation
@@ -42,7 +46,7 @@ rowRemainder rows i = record {
 }
 
 abbrev pub rowsHeld : Count → List ℕ → ℕ → Held
-rowsHeld count rows from = record { count = count; remainders = listed (λ k. rowRemainder rows (from + k)) (liveRows count) }
+rowsHeld count rows from = record { count = count; remainders = listed (λ k. rowRemainder rows (from + k)) (liveCount count) }
 
 -- a monitor kept, with its rows
 abbrev pub keptMonitor : Kept → List ℕ → Monitor
@@ -72,7 +76,8 @@ pub record Works (k : Kept) (i : Instant) (lines : List ℕ) (t : Told) (a b : L
   pub accepts : Accepts mostLive (keptMonitor k a) i (given (t .reply) (keptMonitor (t .kept) b))
   pub ready : within (keptMonitor (t .kept) b) ≡ true → Ready (t .kept) lines b list
 
--- what a call of the monitor gives, and the monitor to call next is as ready
+-- what a call of the monitor gives; answered, the last tags of clocks from C on are 0; and the monitor to call next is as ready
 pub record Takes (k : Kept) (bytes lines : List ℕ) (t : Told) (a b : List ℕ) (list : List Bool) : Type 0 where
-  pub observed : Observed (keptMonitor k a) bytes (given (t .reply) (keptMonitor (t .kept) b))
+  pub called : Called (keptMonitor k a) bytes (given (t .reply) (keptMonitor (t .kept) b))
+  pub tags : (a : Answer) → t .reply ≡ Answered a → BlankFrom (t .kept .sheet .clocks) (pos 0) (t .kept .tags)
   pub ready : Ready (t .kept) lines b list

@@ -7,6 +7,8 @@ pub mod View
 pub mod Answer
 -- the limits of a monitor: `within`, the promise of `within_limits`
 pub mod Limits
+-- unused places: `KeepsNothing`
+pub mod Unused
 -- what a monitor keeps: `sheetBy`, `heldBy`, `lastBy`, `refusal`; the records after them are inner promises
 pub mod Monitor
 -- the promises of `open` and `observe`

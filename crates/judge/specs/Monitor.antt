@@ -19,6 +19,7 @@ use Rattle.judge.specs.declared.answer.Reply.the-variants as reply
 use Rattle.judge.specs.declared.monitor.Monitor.{Monitor}
 use Rattle.judge.specs.declared.monitor.Given.{Given}
 use Rattle.judge.specs.View.{blankRemainder, cut, heldOf, liveOf, seenOf, tagsBefore, sized}
+use Rattle.judge.specs.Unused.{KeepsNothing}
 use Rattle.judge.specs.Lines.{smallLeads}
 use Rattle.judge.specs.Work.{addedAll, worked}
 use Rattle.judge.specs.Start.{firstOwing}
@@ -63,6 +64,7 @@ pub record Begins (s : Sheet) (m : Monitor) : Type 0 where
   pub held : (os : List Obligation) → addedAll (flatMap owedAtStart (sheetValue s .lines)) [] ≡ some os
       → heldBy m ≡ some (cut (sheetValue s) (firstOwing os) ∷ [])
   pub fits : T (sized (m .held))
+  pub unused : KeepsNothing m
 
 -- a monitor after an accepted instant, with room for so many remainders, and its answer
 pub record Accepts (room : ℕ) (m : Monitor) (i : Instant) (r : Given) : Type 0 where

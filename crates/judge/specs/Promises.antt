@@ -21,6 +21,7 @@ use Rattle.judge.specs.declared.monitor.Given.{Given}
 use Rattle.judge.specs.View.{live}
 use Rattle.judge.specs.Answer.{replyOf, saidBy}
 use Rattle.judge.specs.Limits.{within}
+use Rattle.judge.specs.Unused.{KeepsNothing}
 use Rattle.judge.specs.Monitor.{sheetBy, heldBy, lastBy, noMonitor, refusal}
 
 -- m is a monitor of the sheet s after the accepted instants run: of the instants it has their number, the last tags and the last answer;
@@ -36,10 +37,11 @@ pub record Follows (s : SheetValue) (run : List Instant) (m : Monitor) : Type 0 
 
 -- ---- opening
 
--- by what the sheet's bytes are read as: refused, the number and no monitor; else the answer for no instant, and a monitor that follows the sheet
+-- by what the sheet's bytes are read as: refused, the number and no monitor; else the answer for no instant, and a monitor that follows the sheet and keeps nothing in unused places
 pub record Opened (read : Reader) (bytes : List ℕ) (r : Given) : Type 0 where
   pub refuses : (n : ℕ) → read bytes ≡ refused n → r ≡ refusal n noMonitor
   pub opens : (s : SheetValue) → read bytes ≡ taken s → (replyOf (r .reply) ≡ taken (answer s [])) × Follows s [] (r .monitor)
+  pub unused : (s : SheetValue) → read bytes ≡ taken s → KeepsNothing (r .monitor)
 
 -- ---- observing
 
@@ -56,6 +58,11 @@ pub record Accepted (m : Monitor) (i : Instant) (r : Given) : Type 0 where
       → (replyOf (r .reply) ≡ taken (answer s (run ++ (i ∷ [])))) × Follows s (run ++ (i ∷ [])) (r .monitor)
 
 -- refused: the number, and the monitor as it came
-pub record Observed (m : Monitor) (bytes : List ℕ) (r : Given) : Type 0 where
+pub record Called (m : Monitor) (bytes : List ℕ) (r : Given) : Type 0 where
   pub refuses : (n : ℕ) → observes m bytes ≡ refused n → r ≡ refusal n m
   pub accepts : (i : Instant) → observes m bytes ≡ taken i → Accepted m i r
+
+-- and whatever the monitor was, after an accepted instant it keeps nothing in unused places
+pub record Observed (m : Monitor) (bytes : List ℕ) (r : Given) : Type 0 where
+  pub called : Called m bytes r
+  pub unused : (i : Instant) → observes m bytes ≡ taken i → KeepsNothing (r .monitor)

@@ -13,6 +13,7 @@ use Rattle.tesl.specs.Remainder.{Remainder}
 use Rattle.judge.specs.declared.obligation.Obligation as code
 use Rattle.judge.specs.Word.{dueOf, flagOf}
 use Rattle.judge.specs.View.{firstOf, blankObligation, cut}
+use Rattle.judge.specs.Unused.{BlankFrom}
 use Rattle.judge.specs.Owed.{added, kept}
 use Rattle.judge.specs.Carried.{either}
 use Rattle.judge.specs.Work.{addedAll}
@@ -115,7 +116,7 @@ pub record PutObligation (i j : ℕ) (o : Obligation) (a b : List ℕ) : Type 0 
 -- those owed, and nothing past them
 pub record ObligationsAt (i n : ℕ) (os : List code.Obligation) (rows : List ℕ) : Type 0 where
   pub owed : firstOf n os ≡ rowOwed rows i
-  pub rest : (j : ℕ) → n ≤ j → getD os j blankObligation ≡ blankObligation
+  pub rest : BlankFrom n blankObligation os
 
 -- row `to` owes what an instant leaves of what row i owes, unless one of it is late
 pub record KeptRow (f : Filled) (i to : ℕ) (r : Bool) (a b : List ℕ) : Type 0 where

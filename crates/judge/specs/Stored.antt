@@ -8,12 +8,11 @@ use lib.ListN.{length, getD, take}
 use Rattle.records.specs.Sheet.{SheetValue}
 use Rattle.tesl.specs.Lists.{all}
 use Rattle.tesl.specs.Fits.{Obligation}
-use Rattle.judge.specs.declared.obligation.Obligation as code
 use Rattle.judge.specs.declared.plan.Plan.{Plan}
 use Rattle.judge.specs.declared.remainder.Remainder as arrays
 use Rattle.judge.specs.declared.held.Count.{Count}
-use Rattle.judge.specs.declared.held.Count.the-variants.{Exhausted, Live}
-use Rattle.judge.specs.View.{remainderOf, blankRemainder, cut, viewOf, NothingUnused, heldIn, live, sizedIn}
+use Rattle.judge.specs.View.{remainderOf, blankRemainder, cut, viewOf, liveCount, heldIn, live, sizedIn}
+use Rattle.judge.specs.Unused.{BlankFrom, NothingUnused}
 use Rattle.judge.specs.Lines.{smallLeads}
 use Rattle.judge.specs.Plan.{Fitting, Planned}
 use Rattle.judge.specs.Rows.{secondSide, headRows, height, words, rowCount, rowOwed, rowLead, rowLeads, rowStop, rowStopped, rowOf, rowsOf, Small, Stays, HeadStays}
@@ -51,13 +50,13 @@ pub record PutRemainder (i : ℕ) (r : arrays.Remainder) (a b : List ℕ) : Type
 -- 16 bits of the leads of precedes lines, and nothing else
 pub record LeadsAt (reach : ℕ) (precede : List Bool) (i : ℕ) (xs : List ℕ) (rows : List ℕ) : Type 0 where
   pub first : (k : ℕ) → k < reach → getD xs k 0 ≡ cond (getD precede k false) (rowLead rows i k % 65536) 0
-  pub rest : (k : ℕ) → reach ≤ k → getD xs k 0 ≡ 0
+  pub rest : BlankFrom reach 0 xs
 
 -- the stopped ones of the sheet's clocks, and no other
 pub record StoppedAt (clocks i : ℕ) (xs : List Bool) (rows : List ℕ) : Type 0 where
   pub size : length xs ≡ 8
   pub first : (k : ℕ) → k < clocks → getD xs k false ≡ rowStop rows i k
-  pub rest : (k : ℕ) → clocks ≤ k → getD xs k false ≡ false
+  pub rest : BlankFrom clocks false xs
 
 -- row i of at most eight obligations, for a plan
 pub record Reading (rows : List ℕ) (i : ℕ) (p : Plan) : Type 0 where
@@ -100,11 +99,6 @@ pub record KeptHeld (count : Count) (rs : List arrays.Remainder) (a b : List ℕ
 
 -- ---- those found, as structs
 
--- none once exhausted
-abbrev pub liveRows : Count → ℕ
-liveRows Exhausted = 0
-liveRows (Live n) = n
-
 -- n rows of a side, for a plan
 pub record Copying (rows : List ℕ) (from n : ℕ) (p : Plan) : Type 0 where
   pub side : from ≤ secondSide
@@ -116,7 +110,7 @@ pub record Copying (rows : List ℕ) (from n : ℕ) (p : Plan) : Type 0 where
 pub record CopiedRows (p : Plan) (from n : ℕ) (rs : List arrays.Remainder) (rows : List ℕ) : Type 0 where
   pub size : length rs ≡ 32
   pub first : (k : ℕ) → k < n → RemainderAt p (from + k) (getD rs k blankRemainder) rows
-  pub rest : (k : ℕ) → n ≤ k → getD rs k blankRemainder ≡ blankRemainder
+  pub rest : BlankFrom n blankRemainder rs
 
 -- a count of rows of a side, for a plan
 pub record FindingRows (rows : List ℕ) (count : Count) (from : ℕ) (p : Plan) : Type 0 where
@@ -129,4 +123,4 @@ pub record FromRows (p : Plan) (count : Count) (from : ℕ) (rs : List arrays.Re
   pub fits : T (sizedIn count rs)
   pub held : (v : SheetValue) (lines : List ℕ) → Planned v p lines → T (all smallLeads (live (foundIn v count rows from))) → heldIn v count rs ≡ foundIn v count rows from
   pub unused : (v : SheetValue) (lines : List ℕ) → Planned v p lines → (k : ℕ) → NothingUnused v (getD rs k blankRemainder)
-  pub rest : (k : ℕ) → liveRows count ≤ k → getD rs k blankRemainder ≡ blankRemainder
+  pub rest : BlankFrom (liveCount count) blankRemainder rs

@@ -2,13 +2,12 @@
 use mathlib.Core.Bool.{Bool, true, false, cond, _&&_}
 use mathlib.Core.List.{List, [], _∷_, map}
 use mathlib.Core.Option.{Option, none, some}
-use mathlib.Core.Path.{_≡_}
-use Prim.Native.Nat.{ℕ, _≤_}
+use Prim.Native.Nat.{ℕ}
 use lib.Dec.{leb}
 use lib.IntN.{ℤ, pos}
-use lib.ListN.{getD, replicate, take}
+use lib.ListN.{replicate, take}
 use Rattle.records.specs.declared.line.Line.{Line}
-use Rattle.records.specs.Line.{blankLine, ofPrecedes}
+use Rattle.records.specs.Line.{ofPrecedes}
 use Rattle.records.specs.declared.instant.Tick.{Tick}
 use Rattle.records.specs.declared.instant.TickSlot.{TickSlot}
 use Rattle.records.specs.Sheet.{SheetValue}
@@ -80,13 +79,12 @@ cut v r = record { owed = r .owed; leads = nextLeads inUse (v .lines) (r .leads)
 abbrev pub viewOf : SheetValue → arrays.Remainder → Remainder
 viewOf v r = cut v (remainderOf r)
 
--- unused places are as in the blank remainder: obligations past those owed, leads of lines that have none, clocks past the sheet's
-pub record NothingUnused (v : SheetValue) (r : arrays.Remainder) : Type 0 where
-  pub obligations : (j : ℕ) → r .owed ≤ j → getD (r .obligations) j blankObligation ≡ blankObligation
-  pub leads : (k : ℕ) → getD (r .leads) k 0 ≡ inUse (getD (v .lines) k blankLine) (getD (r .leads) k 0)
-  pub stopped : (k : ℕ) → v .clocks ≤ k → getD (r .stopped) k false ≡ false
-
 -- ---- what is worked on
+
+-- how many are held; none once exhausted, nor when broken
+abbrev pub liveCount : Count → ℕ
+liveCount Exhausted = 0
+liveCount (Live n) = n
 
 -- those held; `none` once exhausted, when none is held
 abbrev pub heldIn : SheetValue → Count → List arrays.Remainder → Option (List Remainder)

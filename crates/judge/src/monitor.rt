@@ -44,8 +44,9 @@ fn begin(sheet: Sheet) -> Monitor
     requires { ⌜ sheet .count ≤ 16 ⌝ }
     ensures { λ m. ⌜ Begins sheet m ⌝ }
 {
-    let first = first_remainder(sheet);
-    let remainders = [first; 32];
+    let blank = blank_remainder();
+    let mut remainders = [blank; 32];
+    remainders[0] = first_remainder(sheet);
     let held = Held {
         count: Count::Live(1),
         remainders,

@@ -7,7 +7,7 @@ ghost use Prim.Native.Nat.{_+_, _≤_, _<_};
 ghost use Rattle.tesl.specs.Lists.{any};
 ghost use Rattle.tesl.specs.Remainder.{sameObligation};
 ghost use Rattle.judge.specs.View.{obligationOf, firstOf, owedIn, addedOf};
-ghost use Rattle.judge.specs.Owed.{added};
+ghost use Rattle.judge.specs.Owed.{added, NothingPast};
 
 pub struct Owed {
     pub count: usize,
@@ -37,7 +37,7 @@ pub(crate) fn owes(n: usize, obligations: [Obligation; 8], o: Obligation) -> boo
 
 pub(crate) fn push(r: Owed, o: Obligation) -> Owed
     requires { ⌜ r .count < 8 ⌝ }
-    ensures { λ s. ⌜ (s .count ≡ r .count + 1) × (owedIn s ≡ owedIn r ++ (obligationOf o ∷ [])) ⌝ }
+    ensures { λ s. ⌜ (s .count ≡ r .count + 1) × ((owedIn s ≡ owedIn r ++ (obligationOf o ∷ [])) × (NothingPast r → NothingPast s)) ⌝ }
 {
     let at = r.count;
     let mut next = r;
@@ -49,7 +49,7 @@ pub(crate) fn push(r: Owed, o: Obligation) -> Owed
 // An obligation counts once.
 pub(crate) fn add(r: Owed, o: Obligation) -> Added
     requires { ⌜ r .count ≤ 8 ⌝ }
-    ensures { λ s. ⌜ (addedOf s ≡ added (owedIn r) (obligationOf o)) × (s .owed .count ≤ 8) ⌝ }
+    ensures { λ s. ⌜ (addedOf s ≡ added (owedIn r) (obligationOf o)) × ((s .owed .count ≤ 8) × (NothingPast r → NothingPast (s .owed))) ⌝ }
 {
     let n = r.count;
     let obligations = r.obligations;

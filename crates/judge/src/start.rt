@@ -18,6 +18,8 @@ ghost use Rattle.tesl.specs.Lists.{flatMap};
 ghost use Rattle.tesl.specs.Fits as tesl;
 ghost use Rattle.tesl.specs.Fits.{owedAtStart};
 ghost use Rattle.judge.specs.View.{begunOf, owedIn, addedOf, remainderOf};
+ghost use Rattle.judge.specs.Unused.{NothingUnused};
+ghost use Rattle.judge.specs.Owed.{NothingPast};
 ghost use Rattle.judge.specs.Work.{addedAll};
 ghost use Rattle.judge.specs.Start.{firstOwing};
 
@@ -42,7 +44,7 @@ fn owed_at_start(l: Line) -> Begun
 }
 
 fn nothing() -> Owed
-    ensures { λ r. ⌜ (owedIn r ≡ []) × (r .count ≡ 0) ⌝ }
+    ensures { λ r. ⌜ (owedIn r ≡ []) × ((r .count ≡ 0) × NothingPast r) ⌝ }
 {
     let none = Obligation {
         clock: 0,
@@ -59,7 +61,7 @@ fn nothing() -> Owed
 // What all lines owe from the start.
 fn first_owed(s: Sheet) -> Added
     requires { ⌜ s .count ≤ 16 ⌝ }
-    ensures { λ r. ⌜ (addedOf r ≡ addedAll (flatMap owedAtStart (sheetValue s .lines)) []) × (r .owed .count ≤ 8) ⌝ }
+    ensures { λ r. ⌜ (addedOf r ≡ addedAll (flatMap owedAtStart (sheetValue s .lines)) []) × ((r .owed .count ≤ 8) × NothingPast (r .owed)) ⌝ }
 {
     let n = s.count;
     let mut owed = nothing();
@@ -86,7 +88,7 @@ fn first_owed(s: Sheet) -> Added
 // The remainder of no instant: no clock leads, none is stopped.
 pub(crate) fn first_remainder(s: Sheet) -> Remainder
     requires { ⌜ s .count ≤ 16 ⌝ }
-    ensures { λ r. ⌜ ((os : List tesl.Obligation) → addedAll (flatMap owedAtStart (sheetValue s .lines)) [] ≡ some os → remainderOf r ≡ firstOwing os) × (r .owed ≤ 8) ⌝ }
+    ensures { λ r. ⌜ ((os : List tesl.Obligation) → addedAll (flatMap owedAtStart (sheetValue s .lines)) [] ≡ some os → remainderOf r ≡ firstOwing os) × ((r .owed ≤ 8) × NothingUnused (sheetValue s) r) ⌝ }
 {
     let first = first_owed(s);
     let all = first.owed;

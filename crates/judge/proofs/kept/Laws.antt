@@ -33,7 +33,7 @@ use Rattle.judge.specs.declared.held.Held.{Held}
 use Rattle.judge.specs.declared.plan.Plan.{Plan}
 use Rattle.judge.specs.declared.kept.Kept.{Kept}
 use Rattle.judge.specs.declared.monitor.Monitor.{Monitor}
-use Rattle.judge.specs.View.{obligationOf, owedOf, viewOf, cut, heldOf, live, seenOf, tagsBefore, sized}
+use Rattle.judge.specs.View.{obligationOf, owedOf, viewOf, cut, heldOf, liveCount, live, seenOf, tagsBefore, sized}
 use Rattle.judge.specs.Lines.{smallLeads}
 use Rattle.judge.specs.Work.{worked}
 use Rattle.judge.specs.Answer.{answerOf, saidBy}
@@ -41,7 +41,7 @@ use Rattle.judge.specs.Limits.{sheetWithin, within, Limited}
 use Rattle.judge.specs.Plan.{Preparing, PlanOf}
 use Rattle.judge.specs.Rows.{words, rowCount, rowObligation, rowOwed, rowLeads, rowStopped, rowOf}
 use Rattle.judge.specs.Settle.{Side, foundIn, SmallIn}
-use Rattle.judge.specs.Stored.{liveRows, KeepingHeld, KeptHeld}
+use Rattle.judge.specs.Stored.{KeepingHeld, KeptHeld}
 use Rattle.judge.specs.Monitor.{sheetBy, heldBy, Accepts}
 use Rattle.judge.specs.Kept.{asStruct, rowRemainder, rowsHeld, keptMonitor, keptOf, given, Ready}
 use Rattle.judge.specs.Promises.{Follows}
@@ -94,7 +94,7 @@ module _ (rows : List ℕ) (from : ℕ) where
       (rw (take-all one n) (all-of one few n (λ k l. le→leb (rowCount rows (from + k)) 8 (h .1 k l))))
 
   pub eight-rows : (count : Count) → All (λ (q : arrays.Remainder). length (q .stopped) ≡ 8) (rowsHeld count rows from .remainders)
-  eight-rows count = each-from one (λ (q : arrays.Remainder). length (q .stopped) ≡ 8) (λ k. length-listed _ 8) 0 (liveRows count)
+  eight-rows count = each-from one (λ (q : arrays.Remainder). length (q .stopped) ≡ 8) (λ k. length-listed _ 8) 0 (liveCount count)
 
 -- ---- a monitor in rows
 module _ (k : Kept) (rows : List ℕ) where

@@ -29,9 +29,9 @@ use Rattle.judge.specs.declared.log.Judged.{Judged}
 use Rattle.judge.specs.Answer.{replyOf}
 use Rattle.judge.specs.Limits.{isTaken, sheetWithin, within}
 use Rattle.judge.specs.Monitor.{sheetBy}
-use Rattle.judge.specs.Promises.{Follows, Opened, Observed}
+use Rattle.judge.specs.Promises.{Follows, Opened, Called}
 use Rattle.judge.specs.Log.{judgedOf, Concludes}
-use Rattle.judge.proofs.Demands.{observing-follows}
+use Rattle.judge.proofs.Demands.{called-follows}
 
 -- ---- a call's bytes
 
@@ -95,7 +95,7 @@ module _ {log : List ℕ} {m₀ m : Monitor} {r₀ last : Reply} {n at : ℕ} (w
       pub going-fits : at + 4 + j ≤ length log
       going-fits = whole-at log at (sym e ∙ q) .fits
 
-      module _ (u : IsBytes log) {g : Given} (o : Observed m (take (at + 4 + j - at) (drop at log)) g) where
+      module _ (u : IsBytes log) {g : Given} (o : Called m (take (at + 4 + j - at) (drop at log)) g) where
         abbrev bytes : List ℕ
         bytes = take (at + 4 + j - at) (drop at log)
 
@@ -104,7 +104,7 @@ module _ {log : List ℕ} {m₀ m : Monitor} {r₀ last : Reply} {n at : ℕ} (w
             → machine s run (map callOf (pieces (drop at log))) ≡ replyOf (g .reply) ∷ machine s (listAfter run (accepts s run bytes)) (map callOf (pieces (drop (at + 4 + j) log)))
         unfolding machine
         turn s run f =
-            let k = observing-follows s run m (g .monitor) bytes (replyOf (g .reply)) f (g, o, refl, refl) in
+            let k = called-follows s run m bytes g f o in
             rw (pieces-at log at (sym e ∙ q), bytes-at log u at (sym e ∙ q), k .same)
 
         pub going-refused : {a : ℕ} → g .reply ≡ reply.Refused a → Concludes (record { reply = r₀; monitor = m₀ }) log (record { reply = g .reply; instants = n })
@@ -120,7 +120,7 @@ module _ {log : List ℕ} {m₀ m : Monitor} {r₀ last : Reply} {n at : ℕ} (w
               let l = w .same s run f in
               record {
                 run = listAfter (l .run) (accepts s (l .run) bytes);
-                follows = observing-follows s (l .run) m (g .monitor) bytes (replyOf (g .reply)) (l .follows) (g, o, refl, refl) .follows;
+                follows = called-follows s (l .run) m bytes g (l .follows) o .follows;
                 left = l .left ∙ rw (turn s (l .run) (l .follows), p, add-one);
               };
         }

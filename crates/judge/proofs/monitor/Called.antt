@@ -1,16 +1,18 @@
 -- A call of `observe`, by what it is taken for: 11; 12 to 15 as reading gives them; 16; or an accepted instant. Assumes nothing.
 use mathlib.Core.Bool.{Bool, true, false, not}
-use mathlib.Core.List.{List}
+use mathlib.Core.List.{List, map}
 use mathlib.Core.Path.{_≡_, sym, ap, _∙_, subst}
 use Prim.Native.Nat.{ℕ, _≤_, _<_}
 use native.Mathlib.Omega.{arith}
 use lib.Dec.{leb, le→leb, leb→le, not-T}
-use lib.ListN.{length}
+use lib.IntN.{pos}
+use lib.ListN.{length, length-map}
 use borrow.Author.Tests.{not-true, not-false}
 use Rattle.records.specs.declared.record.Answer.the-variants.{Done, Refused}
+use Rattle.records.specs.declared.instant.Instant as code
 use Rattle.records.specs.declared.instant.InstantRead.{InstantRead}
 use Rattle.records.specs.Outcome.{taken, refused}
-use Rattle.records.specs.Instant.{readInstant, instantRead}
+use Rattle.records.specs.Instant.{Cell, readInstant, instantRead}
 use Rattle.records.specs.Types.{All, IsBytes}
 use Rattle.records.proofs.Lists.{both, refused-taken}
 use Rattle.records.proofs.instant.Read.{Read, read-refused, read-done}
@@ -22,22 +24,24 @@ use Rattle.tesl.specs.Answer.{mostLive}
 use Rattle.judge.specs.declared.remainder.Remainder as arrays
 use Rattle.judge.specs.declared.monitor.Monitor.{Monitor}
 use Rattle.judge.specs.declared.monitor.Given.{Given}
+use Rattle.judge.specs.Unused.{BlankFrom}
 use Rattle.judge.specs.Limits.{sheetWithin, within, Limited}
 use Rattle.judge.specs.Monitor.{sheetBy, refusal, Accepts}
-use Rattle.judge.specs.Promises.{observes, Accepted, Observed}
+use Rattle.judge.specs.Promises.{observes, Accepted, Called, Observed}
+use Rattle.judge.proofs.rows.Placing.{filled-past}
 use Rattle.judge.proofs.monitor.Limits.{Limits, limits-of, held-shaped}
 use Rattle.judge.proofs.monitor.Observed.{accepted}
 
 -- ---- by the outcome
 
 module _ (m : Monitor) (bytes : List ℕ) (r : Given) where
-  called-refused : {n : ℕ} → observes m bytes ≡ refused n → r ≡ refusal n m → Observed m bytes r
+  called-refused : {n : ℕ} → observes m bytes ≡ refused n → r ≡ refusal n m → Called m bytes r
   called-refused {n} e q = record {
     refuses = λ k f. let z : n ≡ k = cc in rw (← z) q;
     accepts = λ i f. refused-taken (sym e ∙ f);
   }
 
-  called-taken : {i : Instant} → observes m bytes ≡ taken i → Accepted m i r → Observed m bytes r
+  called-taken : {i : Instant} → observes m bytes ≡ taken i → Accepted m i r → Called m bytes r
   called-taken {i} e a = record {
     refuses = λ k f. refused-taken (sym f ∙ e);
     accepts = λ j f. let z : i ≡ j = cc in subst (λ (x : Instant). Accepted m x r) z a;
@@ -46,11 +50,12 @@ module _ (m : Monitor) (bytes : List ℕ) (r : Given) where
   -- ---- by the tests
 
   -- 11
-  pub called-outside : {b : Bool} → Limited m b → not b ≡ true → r ≡ refusal 11 m → Observed m bytes r
+  pub observed-outside : {b : Bool} → Limited m b → not b ≡ true → r ≡ refusal 11 m → Observed m bytes r
   unfolding observes
-  called-outside {b} l e q =
+  observed-outside {b} l e q =
       let w : within m ≡ false = sym (l .answer) ∙ not-true b e in
-      called-refused (rw w) q
+      let f : observes m bytes ≡ refused 11 = rw w in
+      record { called = called-refused f q; unused = λ i g. refused-taken (sym f ∙ g) }
 
 module _ (m : Monitor) (bytes : List ℕ) {b : Bool} (l : Limited m b) (e : not b ≡ false)
     {x : InstantRead} (h : x ≡ instantRead (readInstant (m .sheet .clocks) bytes)) where
@@ -61,7 +66,7 @@ module _ (m : Monitor) (bytes : List ℕ) {b : Bool} (l : Limited m b) (e : not 
   kept = limits-of m (l .value (not-false b e)) inside
 
   -- 12 to 15
-  pub called-unread : {r : Given} {n : ℕ} → x .answer ≡ Refused n → r ≡ refusal n m → Observed m bytes r
+  pub called-unread : {r : Given} {n : ℕ} → x .answer ≡ Refused n → r ≡ refusal n m → Called m bytes r
   unfolding observes
   called-unread {r} q g =
       let k = read-refused (readInstant (m .sheet .clocks) bytes) (sym (ap (λ (y : InstantRead). y .answer) h) ∙ q) in
@@ -72,12 +77,20 @@ module _ (m : Monitor) (bytes : List ℕ) {b : Bool} (l : Limited m b) (e : not 
     was-read = read-done (readInstant (m .sheet .clocks) bytes) (sym (ap (λ (y : InstantRead). y .answer) h) ∙ q)
 
     -- 16
-    pub called-full : {r : Given} → 4000 ≤ m .instants → r ≡ refusal 16 m → Observed m bytes r
+    pub called-full : {r : Given} → 4000 ≤ m .instants → r ≡ refusal 16 m → Called m bytes r
     unfolding observes
     called-full {r} k g = called-refused m bytes r (rw (inside, was-read .is, T→≡ (leb 4000 (m .instants)) (le→leb 4000 (m .instants) k))) g
 
+    -- tags past those read
+    pub blank-tags : IsBytes bytes → BlankFrom (m .sheet .clocks) (pos 0) (x .instant .tags)
+    blank-tags u k l =
+        let w = read-writes (m .sheet .clocks) bytes u (was-read .is) in
+        let tags = map (λ (c : Cell). c .tag) (was-read .cells) in
+        rw (ap (λ (y : InstantRead). y .instant .tags) h ∙ ap (λ (i : code.Instant). i .tags) (was-read .struct))
+        (filled-past (pos 0) 8 tags k (omega (arith, w .size, length-map (was-read .cells) (λ (c : Cell). c .tag))))
+
     pub called : {r : Given} → IsBytes bytes → All (λ (s : arrays.Remainder). length (s .stopped) ≡ 8) (m .held .remainders) → m .instants < 4000
-        → Accepts mostLive m (x .instant) r → Observed m bytes r
+        → Accepts mostLive m (x .instant) r → Called m bytes r
     unfolding observes within
     called {r} u stops k a =
         let w = read-writes (m .sheet .clocks) bytes u (was-read .is) in

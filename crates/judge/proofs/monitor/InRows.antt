@@ -24,16 +24,16 @@ use Rattle.judge.specs.Limits.{within, Limited}
 use Rattle.judge.specs.Stored.{KeptHeld, FindingRows, FromRows}
 use Rattle.judge.specs.Monitor.{refusal}
 use Rattle.judge.specs.Kept.{keptMonitor, keptOf, rowsHeld, given, Takes}
-use Rattle.judge.specs.Promises.{observes, Observed}
+use Rattle.judge.specs.Promises.{observes, Called, Observed}
 use Rattle.judge.proofs.kept.Laws.{held-rows, small-rows, leads-rows, within-same, follows-same, within-stored, follows-stored}
 use Rattle.judge.proofs.monitor.Limits.{Limits, limits-of, leads-small}
 
 -- an answer is no refusal
-answered-refused : {X : Type 0} {a : code.Answer} {n : ℕ} → reply.Answered a ≡ reply.Refused n → X
+pub answered-refused : {X : Type 0} {a : code.Answer} {n : ℕ} → reply.Answered a ≡ reply.Refused n → X
 answered-refused e = let z : _≡_ {A = ℕ} 0 1 = cc in absurd (omega arith)
 
 -- an answer leaves the monitor within its limits
-pub answered-within : {m : Monitor} {bytes : List ℕ} {g : Given} → Observed m bytes g → {a : Answer} → replyOf (g .reply) ≡ taken a → within (g .monitor) ≡ true
+pub answered-within : {m : Monitor} {bytes : List ℕ} {g : Given} → Called m bytes g → {a : Answer} → replyOf (g .reply) ≡ taken a → within (g .monitor) ≡ true
 answered-within {m} {bytes} {g} o {a} p = by-outcome (observes m bytes) refl
   where
     by-outcome : (x : Outcome Instant) → observes m bytes ≡ x → within (g .monitor) ≡ true
@@ -53,12 +53,18 @@ module _ (m : Monitor) (l : Limited m true) (p : Plan) {blank rows : List ℕ} (
     next = t .kept
 
     replied : {n : ℕ} → observes m bytes ≡ refused n → t .reply ≡ reply.Refused n
-    replied {n} f = ap (λ (g : Given). g .reply) (o .observed .refuses n (sym (same-call bytes) ∙ f))
+    replied {n} f = ap (λ (g : Given). g .reply) (o .called .refuses n (sym (same-call bytes) ∙ f))
+
+    none-taken : {n : ℕ} → t .reply ≡ reply.Refused n → {X : Type 0} {i : Instant} → observes m bytes ≡ taken i → X
+    none-taken p {i = i} f = refused-taken (ap replyOf (sym p) ∙ o .called .accepts i (sym (same-call bytes) ∙ f) .answers .1)
 
     pub refused-rows : {g : Given} {n : ℕ} → t .reply ≡ reply.Refused n → g ≡ refusal n m → Observed m bytes g
     refused-rows {g} {n} p q = record {
-      refuses = λ k f. let y : reply.Refused n ≡ reply.Refused k = sym p ∙ replied f in let z : n ≡ k = cc in rw (← z) q;
-      accepts = λ i f. refused-taken (ap replyOf (sym p) ∙ o .observed .accepts i (sym (same-call bytes) ∙ f) .answers .1);
+      called = record {
+        refuses = λ k f. let y : reply.Refused n ≡ reply.Refused k = sym p ∙ replied f in let z : n ≡ k = cc in rw (← z) q;
+        accepts = λ i f. none-taken p f;
+      };
+      unused = λ i f. none-taken p f;
     }
 
     -- the monitor to call next is within its limits
@@ -80,14 +86,17 @@ module _ (m : Monitor) (l : Limited m true) (p : Plan) {blank rows : List ℕ} (
 
       pub answered-rows : Observed m bytes (given (t .reply) (record { sheet = next .sheet; instants = next .instants; tags = next .tags; held = held }))
       answered-rows = record {
-        refuses = λ n f. answered-refused (sym q ∙ replied f);
-        accepts = λ i f.
-            let w = o .observed .accepts i (sym (same-call bytes) ∙ f) in
-            record {
-              answers = w .answers;
-              limits = within-same (next .sheet) (next .instants) (next .tags) (rowsHeld (next .count) out (next .from)) held same-back (back .fits) (o .ready .limits);
-              follows = λ s run g.
-                  let k = w .follows s run (follows-stored m p kept g) in
-                  (k .0, follows-same (next .sheet) (next .instants) (next .tags) (rowsHeld (next .count) out (next .from)) held same-back (back .fits) (k .1));
-            };
+        called = record {
+          refuses = λ n f. answered-refused (sym q ∙ replied f);
+          accepts = λ i f.
+              let w = o .called .accepts i (sym (same-call bytes) ∙ f) in
+              record {
+                answers = w .answers;
+                limits = within-same (next .sheet) (next .instants) (next .tags) (rowsHeld (next .count) out (next .from)) held same-back (back .fits) (o .ready .limits);
+                follows = λ s run g.
+                    let k = w .follows s run (follows-stored m p kept g) in
+                    (k .0, follows-same (next .sheet) (next .instants) (next .tags) (rowsHeld (next .count) out (next .from)) held same-back (back .fits) (k .1));
+              };
+        };
+        unused = λ i f. record { rest = back .rest; each = back .unused (sheetValue (next .sheet)) lines (o .ready .planned); tags = o .tags a q };
       }

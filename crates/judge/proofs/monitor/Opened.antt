@@ -184,7 +184,7 @@ module _ (b : List ℕ) (x : SheetRead) (e : x ≡ sheetRead (readSheet b)) wher
     where
       by-outcome : (o : Outcome SheetValue) → readSheet b ≡ o → sheetRead o .answer ≡ told.Refused n → r ≡ refusal n (blankMonitor (sheetRead o .sheet)) → Opened readSheet b r
       by-outcome (taken s) h a g = refused-done (sym a)
-      by-outcome (refused k) h a g = record { refuses = λ j f. let z : n ≡ j = cc in rw (← z) g; opens = λ s f. refused-taken (sym h ∙ f) }
+      by-outcome (refused k) h a g = record { refuses = λ j f. let z : n ≡ j = cc in rw (← z) g; opens = λ s f. refused-taken (sym h ∙ f); unused = λ s f. refused-taken (sym h ∙ f) }
 
   module _ (m : Monitor) (begins : Begins (x .sheet) m) where
     pub opened-done : IsBytes b → x .answer ≡ told.Done → (y : code.Answer) → answerOf y ≡ saidBy (heldBy m) → Opened readSheet b (record { reply = reply.Answered y; monitor = m })
@@ -195,4 +195,5 @@ module _ (b : List ℕ) (x : SheetRead) (e : x ≡ sheetRead (readSheet b)) wher
         by-outcome (taken s) h a g = record {
           refuses = λ n f. refused-taken (sym f ∙ h);
           opens = λ v f. let z : s ≡ v = cc in let k = subst (λ (v : SheetValue). Begins (sheetOf v) m) z g in (ap taken (w ∙ said b bytes v f m k), follows b bytes v f m k);
+          unused = λ v f. begins .unused;
         }

@@ -1,14 +1,17 @@
 -- A loop that sets one place after the other of an array of blank places, for any elements. Assumes nothing.
+use mathlib.Core.Bool.{Bool, true, false}
 use mathlib.Core.List.{List, map}
 use mathlib.Core.Logic.{⊎-elim}
 use mathlib.Core.Path.{_≡_, refl, sym, ap, _∙_}
-use Prim.Native.Nat.{ℕ, zero, suc, _+_, _<_, _≤_}
+use Prim.Native.Nat.{ℕ, zero, suc, _+_, _-_, _<_, _≤_}
 use native.Mathlib.Nat.{eq-or-lt-of-le}
 use native.Mathlib.Numerals.{add-one}
 use native.Mathlib.Omega.{arith}
+use lib.Dec.{ltb}
 use lib.ListN.{length, getD, set, take, replicate, length-set, length-replicate}
-use lib.Seq.{getD-set-same, getD-set-other, ext-getD}
-use Rattle.records.specs.Lists.{listedFrom, listed}
+use lib.Seq.{getD-append-add, getD-set-same, getD-set-other, ext-getD}
+use borrow.Author.Tests.{ltb-true, ltb-false}
+use Rattle.records.specs.Lists.{listedFrom, listed, filled}
 use Rattle.records.proofs.Lists.{length-listed}
 use Rattle.judge.proofs.Places.{first-more}
 use Rattle.judge.proofs.Listing.{listed-at, listed-next}
@@ -17,6 +20,12 @@ pub blank-at : {A : Type 0} (d : A) (n k : ℕ) → getD (replicate n d) k d ≡
 blank-at d zero k = refl
 blank-at d (suc n) zero = refl
 blank-at d (suc n) (suc k) = blank-at d n k
+
+-- past what fills the front
+pub filled-past : {A : Type 0} (d : A) (n : ℕ) (xs : List A) (k : ℕ) → length xs ≤ k → getD (filled n d xs) k d ≡ d
+filled-past d n xs k h =
+    let e : k ≡ length xs + (k - length xs) = omega arith in
+    ap (λ j. getD (filled n d xs) j d) e ∙ getD-append-add xs (replicate (n - length xs) d) (k - length xs) d ∙ blank-at d (n - length xs) (k - length xs)
 
 -- the first i places are what P asks of each, the others are blank
 pub record Placing {A : Type 0} (P : ℕ → A → Type 0) (d : A) (room : ℕ) (xs : List A) (i : ℕ) : Type 0 where
@@ -38,6 +47,14 @@ module _ {A : Type 0} (P : ℕ → A → Type 0) (d : A) (room : ℕ) where
             (eq-or-lt-of-le (omega arith));
         rest = λ k l. getD-set-other xs i k a d (λ e. omega arith) ∙ w .rest k (omega arith);
       }
+
+-- what holds of the first n places and of the blank, which the others hold, holds of each
+pub each-place : {A : Type 0} (P : A → Type 0) (d : A) (xs : List A) (n : ℕ) → ((k : ℕ) → k < n → P (getD xs k d)) → ((k : ℕ) → n ≤ k → getD xs k d ≡ d) → P d → (k : ℕ) → P (getD xs k d)
+each-place P d xs n first rest p k = by-test (ltb k n) refl
+  where
+    by-test : (b : Bool) → ltb k n ≡ b → P (getD xs k d)
+    by-test true e = first k (ltb-true k n e)
+    by-test false e = rw (rest k (ltb-false k n e)) p
 
 -- the first n elements of an array, seen through g, are listed, if each place is
 pub first-listed : {A B : Type 0} (g : A → B) (f : ℕ → B) (d : A) (xs : List A) (n : ℕ) → n ≤ length xs → ((k : ℕ) → k < n → g (getD xs k d) ≡ f k) → map g (take n xs) ≡ listed f n

@@ -7,9 +7,8 @@ use mathlib.Core.Path.{_≡_, refl, sym, ap, subst, _∙_}
 use Prim.Native.Nat.{ℕ, _+_, _≤_, _<_}
 use native.Mathlib.Nat.{eq-or-lt-of-le}
 use native.Mathlib.Omega.{arith}
-use lib.Dec.{T, leb, ltb, leb→le, le→leb}
+use lib.Dec.{T, leb, leb→le, le→leb}
 use lib.ListN.{length, getD, take}
-use borrow.Author.Tests.{ltb-true, ltb-false}
 use Rattle.records.specs.Line.{blankLine}
 use Rattle.records.specs.Sheet.{SheetValue}
 use Rattle.tesl.specs.Lists.{all}
@@ -18,7 +17,8 @@ use Rattle.judge.specs.declared.plan.Plan.{Plan}
 use Rattle.judge.specs.declared.remainder.Remainder as arrays
 use Rattle.judge.specs.declared.held.Count.{Count}
 use Rattle.judge.specs.declared.held.Count.the-variants.{Exhausted, Live}
-use Rattle.judge.specs.View.{remainderOf, blankObligation, blankRemainder, cut, viewOf, NothingUnused, sizedIn}
+use Rattle.judge.specs.View.{remainderOf, blankObligation, blankRemainder, cut, viewOf, sizedIn}
+use Rattle.judge.specs.Unused.{NothingUnused}
 use Rattle.judge.specs.Lines.{smallLeads}
 use Rattle.judge.specs.Plan.{isPrecedes, Planned}
 use Rattle.judge.specs.Rows.{words, rowCount, rowOf, rowsOf, Small, HeadStays}
@@ -26,7 +26,7 @@ use Rattle.judge.specs.Settle.{SmallIn}
 use Rattle.judge.specs.Stored.{PutRemainder, ToRows, KeptHeld, CopiedRows, FromRows}
 use Rattle.judge.proofs.Places.{as-is, all-at}
 use Rattle.judge.proofs.Listing.{one-of, all-of}
-use Rattle.judge.proofs.rows.Placing.{blank-at, first-listed}
+use Rattle.judge.proofs.rows.Placing.{blank-at, each-place, first-listed}
 use Rattle.judge.proofs.work.Carried.{used-by}
 use Rattle.judge.proofs.settle.Laws.{row-stays}
 
@@ -118,11 +118,7 @@ module _ {p : Plan} {from n : ℕ} (rs : List arrays.Remainder) {rows : List ℕ
         (λ k l. w .first k l .view v lines planned (one-of (λ j. cut v (rowOf rows (from + j))) smallLeads n t k l))
 
     copied-unused : (k : ℕ) → NothingUnused v (getD rs k blankRemainder)
-    copied-unused k = by-test (ltb k n) refl
-      where
-        by-test : (b : Bool) → ltb k n ≡ b → NothingUnused v (getD rs k blankRemainder)
-        by-test true e = w .first k (ltb-true k n e) .unused v lines planned
-        by-test false e = rw (w .rest k (ltb-false k n e)) (blank-unused v)
+    copied-unused = each-place (NothingUnused v) blankRemainder rs n (λ k h. w .first k h .unused v lines planned) (w .rest) (blank-unused v)
 
   pub found-none : {count : Count} → count ≡ Exhausted → n ≡ 0 → FromRows p count from rs rows
   found-none e z =

@@ -14,7 +14,8 @@ use Rattle.theory.specs.Step.{nextLeads}
 use Rattle.theory.proofs.Lists.{table-ext}
 use Rattle.judge.specs.declared.plan.Plan.{Plan}
 use Rattle.judge.specs.declared.remainder.Remainder as arrays
-use Rattle.judge.specs.View.{owedOf, inUse, cut, viewOf, NothingUnused}
+use Rattle.judge.specs.View.{owedOf, inUse, cut, viewOf}
+use Rattle.judge.specs.Unused.{NothingUnused}
 use Rattle.judge.specs.Lines.{smallLeads}
 use Rattle.judge.specs.Plan.{isPrecedes, Planned}
 use Rattle.judge.specs.Rows.{rowCount, rowOwed, rowLead, rowLeads, rowStop, rowStopped, rowOf, ObligationsAt}

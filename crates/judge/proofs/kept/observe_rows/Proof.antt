@@ -1,14 +1,15 @@
 -- `observe_rows` meets its contract: the refusals are tried in turn, and an accepted instant is worked on. Assumes nothing.
 use mathlib.Core.Bool.{true}
-use mathlib.Core.Path.{refl}
+use mathlib.Core.Path.{refl, sym}
 use native.Mathlib.Omega.{arith}
 use borrow.Author.Needs.{needs}
+use Rattle.records.specs.Types.{IsBytes}
 use Rattle.judge.specs.declared.monitor.Monitor.{Monitor}
 use Rattle.judge.specs.Limits.{Limited}
 use Rattle.judge.specs.Kept.{keptMonitor}
 use Rattle.judge.proofs.monitor.Bytes.{all-bytes}
-use Rattle.judge.proofs.monitor.Called.{called-unread, called-full, called}
-use Rattle.judge.proofs.monitor.InRows.{answered-within}
+use Rattle.judge.proofs.monitor.Called.{called-unread, called-full, blank-tags, called}
+use Rattle.judge.proofs.monitor.InRows.{answered-refused, answered-within}
 use Rattle.judge.proofs.kept.Laws.{limited, eight-rows}
 use Rattle.judge.proofs.kept.observe_rows.Statement.{statement}
 use Rattle.judge.proofs.kept.observe_rows.Tie as tie
@@ -35,7 +36,8 @@ returns c =
     let r = e .before .before in
     let s = first r in
     record {
-      observed = called-full (start s) (s .args .bytes .now) (within s) refl (r .read-instant .ensures) (e .enum-told .given .1) (c .if1 .taken) refl;
+      called = called-full (start s) (s .args .bytes .now) (within s) refl (r .read-instant .ensures) (e .enum-told .given .1) (c .if1 .taken) refl;
+      tags = λ a f. answered-refused (sym f);
       ready = s .pre;
     }
 
@@ -45,7 +47,8 @@ returns-2 c =
     let r = a .before .before in
     let s = first r in
     record {
-      observed = called-unread (start s) (s .args .bytes .now) (within s) refl (r .read-instant .ensures) (a .answer .given .1) refl;
+      called = called-unread (start s) (s .args .bytes .now) (within s) refl (r .read-instant .ensures) (a .answer .given .1) refl;
+      tags = λ x f. answered-refused (sym f);
       ready = s .pre;
     }
 
@@ -66,9 +69,13 @@ returns-3 c =
     let s = first r in
     let k = s .args .kept in
     let w = c .work-instant .ensures in
-    let o = called (start s) (s .args .bytes .now) (within s) refl (r .read-instant .ensures) (e .before .enum-told .given .1)
-    (all-bytes (s .args .bytes .now) (λ i. known r .shared-slice-known .given i .fits)) (eight-rows (s .args .rows .now) (k .from) (k .count)) (omega (arith, e .if1 .left)) (w .accepts) in
-    record { observed = o; ready = w .ready (answered-within o (w .accepts .said)) }
+    let bytes : IsBytes (s .args .bytes .now) = all-bytes (s .args .bytes .now) (λ i. known r .shared-slice-known .given i .fits) in
+    let o = called (start s) (s .args .bytes .now) (within s) refl (r .read-instant .ensures) (e .before .enum-told .given .1) bytes (eight-rows (s .args .rows .now) (k .from) (k .count)) (omega (arith, e .if1 .left)) (w .accepts) in
+    record {
+      called = o;
+      tags = λ a f. rw (w .accepts .sheet, w .accepts .tags) (blank-tags (start s) (s .args .bytes .now) (within s) refl (r .read-instant .ensures) (e .before .enum-told .given .1) bytes);
+      ready = w .ready (answered-within o (w .accepts .said));
+    }
 
 pub observe-rows-spec : {M : Type 1} → statement M
 observe-rows-spec =

@@ -63,7 +63,7 @@ returns-2 c =
     let o = c .before .before in
     let k = whole o in
     let i = turn k in
-    going-refused (i .before .loop .inv .going) (i .loop-test .taken) (record-at k .record-at .ensures) (len k .len .given .1) (log-bytes (known k)) (o .observe-rows .ensures .observed) (c .enum-told2 .given .1)
+    going-refused (i .before .loop .inv .going) (i .loop-test .taken) (record-at k .record-at .ensures) (len k .len .given .1) (log-bytes (known k)) (o .observe-rows .ensures .called) (c .enum-told2 .given .1)
 
 abbrev answered : tie.After-next Inv-loop μ-loop → tie.After-observe-rows Inv-loop μ-loop
 answered c = c .before .before .before
@@ -83,7 +83,7 @@ loop-again c =
     let k = whole o in
     let i = turn k in
     record {
-      going = going-more (i .before .loop .inv .going) (i .loop-test .taken) (record-at k .record-at .ensures) (len k .len .given .1) (log-bytes (known k)) (o .observe-rows .ensures .observed) (c .before .enum-told3 .given .1);
+      going = going-more (i .before .loop .inv .going) (i .loop-test .taken) (record-at k .record-at .ensures) (len k .len .given .1) (log-bytes (known k)) (o .observe-rows .ensures .called) (c .before .enum-told3 .given .1);
       ready = o .observe-rows .ensures .ready;
     }
 

@@ -9,7 +9,7 @@ use Rattle.judge.specs.declared.monitor.Monitor.{Monitor}
 use Rattle.judge.specs.Limits.{Limited}
 use Rattle.judge.specs.Kept.{keptOf, Ready, Takes}
 use Rattle.judge.proofs.kept.Laws.{ready-stored, inside, has-room, prepares}
-use Rattle.judge.proofs.monitor.Called.{called-outside}
+use Rattle.judge.proofs.monitor.Called.{observed-outside}
 use Rattle.judge.proofs.monitor.InRows.{refused-rows, found-next, answered-rows}
 use Rattle.judge.proofs.monitor.observe.Statement.{statement}
 use Rattle.judge.proofs.monitor.observe.Tie as tie
@@ -19,7 +19,7 @@ returns c =
     let t = c .before in
     let w = t .before in
     let s = w .before .before in
-    called-outside (s .args .monitor) (s .args .bytes .now) (c .refuse .result) (w .is-within .ensures) (t .if1 .taken) (c .refuse .ensures)
+    observed-outside (s .args .monitor) (s .args .bytes .now) (c .refuse .result) (w .is-within .ensures) (t .if1 .taken) (c .refuse .ensures)
 
 -- ---- the monitor, within its limits
 module _ (e : tie.Else1) where

@@ -23,7 +23,7 @@ owes-requires c κs = search needs
 
 returns : tie.Need-returns
 unfolding addedTo
-returns c = (simp (sym (c .before .owes .ensures) ∙ c .if1 .taken), c .before .before .before .pre)
+returns c = (simp (sym (c .before .owes .ensures) ∙ c .if1 .taken), (c .before .before .before .pre, λ blank. blank))
 
 push-requires : tie.Need-push-requires
 push-requires c κs = search needs
@@ -34,7 +34,7 @@ returns-2 c =
     let e = c .before .before in
     let s = e .before .before .before in
     let k : length (owedIn (s .args .r)) < 8 = omega (arith, counted s) in
-    (ap some (c .push .ensures .1) ∙ simp (sym (e .before .owes .ensures) ∙ e .if1 .left, lt-ltb _ _ k), omega (arith, c .push .ensures .0))
+    (ap some (c .push .ensures .1 .0) ∙ simp (sym (e .before .owes .ensures) ∙ e .if1 .left, lt-ltb _ _ k), (omega (arith, c .push .ensures .0), c .push .ensures .1 .1))
 
 returns-3 : tie.Need-returns-3
 unfolding addedTo
@@ -42,7 +42,7 @@ returns-3 c =
     let e = c .before in
     let s = e .before .before .before in
     let k : 8 ≤ length (owedIn (s .args .r)) = omega (arith, counted s) in
-    (simp (sym (e .before .owes .ensures) ∙ e .if1 .left, le-ltb _ _ k), s .pre)
+    (simp (sym (e .before .owes .ensures) ∙ e .if1 .left, le-ltb _ _ k), (s .pre, λ blank. blank))
 
 pub add-spec : {M : Type 1} → statement M
 add-spec = tie.close (tie.spec owes-requires returns push-requires returns-2 returns-3)

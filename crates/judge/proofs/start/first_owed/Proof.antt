@@ -1,4 +1,4 @@
--- `first_owed` meets its contract. The invariant: what all lines owe is added once what those from i on owe is added to what there is. Assumes nothing.
+-- `first_owed` meets its contract. The invariant: what all lines owe is added once what those from i on owe is added to what there is, past which all is blank. Assumes nothing.
 use mathlib.Core.Option.{none, some}
 use mathlib.Core.Path.{_≡_, _∙_}
 use Prim.Native.Nat.{_≤_, _-_}
@@ -7,6 +7,7 @@ use borrow.Author.Needs.{needs}
 use Rattle.records.specs.Sheet.{lineAt}
 use Rattle.tesl.specs.Fits.{owedAtStart}
 use Rattle.judge.specs.View.{owedIn, addedOf}
+use Rattle.judge.specs.Owed.{NothingPast}
 use Rattle.judge.specs.Work.{addedAll}
 use Rattle.judge.proofs.owed.Laws.{begunFrom, adding-end, adding-nothing, adding-over, adding-more}
 use Rattle.judge.proofs.start.Laws.{allAdded, first-start}
@@ -14,7 +15,7 @@ use Rattle.judge.proofs.start.first_owed.Statement.{statement}
 use Rattle.judge.proofs.start.first_owed.Tie as tie
 
 abbrev Inv-loop : tie.InvT-loop
-Inv-loop s n owed₀ i₀ owed i = (i ≤ n) × ((allAdded s ≡ addedAll (begunFrom owedAtStart (lineAt s) n i) (owedIn owed)) × (owed .count ≤ 8))
+Inv-loop s n owed₀ i₀ owed i = (i ≤ n) × ((allAdded s ≡ addedAll (begunFrom owedAtStart (lineAt s) n i) (owedIn owed)) × ((owed .count ≤ 8) × NothingPast owed))
 
 abbrev μ-loop : tie.MeasureT-loop
 μ-loop s n owed₀ i₀ owed i = n - i
@@ -25,7 +26,7 @@ nothing-requires c κs = search needs
 loop-holds : tie.Need-loop-holds Inv-loop μ-loop
 loop-holds c =
     let b = c .nothing .ensures in
-    (omega arith, (first-start (c .before .args .s) (b .0), omega (arith, b .1)))
+    (omega arith, (first-start (c .before .args .s) (b .0), (omega (arith, b .1 .0), b .1 .1)))
 
 line-at-requires : tie.Need-line-at-requires Inv-loop μ-loop
 line-at-requires c κs = search needs
@@ -67,7 +68,7 @@ returns c =
     let a = c .before .add in
     let t : addedOf (a .result) ≡ none = rw (c .if1 .taken) in
     let all = adding-over owedAtStart (lineAt s) (s .count) (at .loop .i) (owedIn (at .loop .owed)) (at .loop .inv .1 .0) (omega arith) (l .result) (l .ensures) (b .result) (b .ensures) (o .0 .0) (o .1) (a .ensures .0) t in
-    (t ∙ all, a .ensures .1)
+    (t ∙ all, (a .ensures .1 .0, a .ensures .1 .1 (at .loop .inv .1 .1 .1)))
 
 loop-less-2 : tie.Need-loop-less-2 Inv-loop μ-loop
 loop-less-2 c = search needs
@@ -82,7 +83,7 @@ loop-again-2 c =
     let a = c .before .before .add in
     let t : addedOf (a .result) ≡ some (owedIn (a .result .owed)) = rw (c .before .if1 .left) in
     let all = adding-more owedAtStart (lineAt s) (s .count) (at .loop .i) (owedIn (at .loop .owed)) (at .loop .inv .1 .0) (omega arith) (l .result) (l .ensures) (b .result) (b .ensures) (o .0 .0) (o .1) (a .ensures .0) t in
-    (omega arith, (all, a .ensures .1))
+    (omega arith, (all, (a .ensures .1 .0, a .ensures .1 .1 (at .loop .inv .1 .1 .1))))
 
 returns-2 : tie.Need-returns-2 Inv-loop μ-loop
 returns-2 c =

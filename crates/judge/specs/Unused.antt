@@ -1,0 +1,34 @@
+-- Unused places hold one fixed blank, so nothing of earlier instants stays in them: beside its remainders a monitor keeps of the instants only their number, the last tags and the last answer.
+use mathlib.Core.Bool.{false}
+use mathlib.Core.List.{List}
+use mathlib.Core.Path.{_≡_}
+use Prim.Native.Nat.{ℕ, _≤_}
+use lib.IntN.{pos}
+use lib.ListN.{getD}
+use Rattle.records.specs.Line.{blankLine}
+use Rattle.records.specs.Sheet.{SheetValue, sheetValue}
+use Rattle.judge.specs.declared.remainder.Remainder.{Remainder}
+use Rattle.judge.specs.declared.monitor.Monitor.{Monitor}
+use Rattle.judge.specs.View.{blankObligation, blankRemainder, inUse, liveCount}
+
+-- from place n on an array holds the blank d
+abbrev pub BlankFrom : {A : Type 0} → ℕ → A → List A → Type 0
+BlankFrom n d xs = (k : ℕ) → n ≤ k → getD xs k d ≡ d
+
+-- a remainder of a sheet keeps nothing in unused places
+pub record NothingUnused (v : SheetValue) (r : Remainder) : Type 0 where
+  -- obligations past its count
+  pub obligations : BlankFrom (r .owed) blankObligation (r .obligations)
+  -- leads of lines that are no precedes lines
+  pub leads : (k : ℕ) → getD (r .leads) k 0 ≡ inUse (getD (v .lines) k blankLine) (getD (r .leads) k 0)
+  -- stopped clocks from C on
+  pub stopped : BlankFrom (v .clocks) false (r .stopped)
+
+-- a monitor keeps nothing in unused places
+pub record KeepsNothing (m : Monitor) : Type 0 where
+  -- remainders past live: all of them once exhausted or broken
+  pub rest : BlankFrom (liveCount (m .held .count)) blankRemainder (m .held .remainders)
+  -- and in each remainder
+  pub each : (k : ℕ) → NothingUnused (sheetValue (m .sheet)) (getD (m .held .remainders) k blankRemainder)
+  -- last tags of clocks from C on
+  pub tags : BlankFrom (m .sheet .clocks) (pos 0) (m .tags)
