@@ -16,7 +16,7 @@ copy-rows-requires-2 c κs =
     let k = c .before in
     let s = k .before .before in
     let h = small-live (s .args .rows .now) (s .args .from) (k .count .given .1) (s .pre .small) in
-    record { side = s .pre .side; held = h .0; small = h .1; plan = s .pre .plan }
+    record { side = s .pre .side; held = omega (arith, h .0); small = h .1; plan = s .pre .plan }
 
 returns : tie.Need-returns
 returns c = found-none (c .copy-rows .result) (c .copy-rows .ensures) (c .before .enum-told .given .1) refl
