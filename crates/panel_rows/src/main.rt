@@ -69,10 +69,12 @@ fn holding(m: Monitor, held: Held) -> Monitor {
     next
 }
 
-// The monitor with another count of those held.
+// The monitor with another count of those held, each like its first.
 fn counted(m: Monitor, count: Count) -> Monitor {
     let held = m.held;
-    let remainders = held.remainders;
+    let all = held.remainders;
+    let first = all[0];
+    let remainders = [first; 32];
     holding(m, Held { count, remainders })
 }
 
