@@ -11,13 +11,13 @@ use Rattle.records.specs.Sheet.{SheetValue}
 use Rattle.tesl.specs.Lists.{all, filter}
 use Rattle.tesl.specs.Answer.{mostLive}
 use Rattle.judge.specs.declared.fill.Before.{Before}
+use Rattle.judge.specs.declared.fill.Extent.{Extent}
 use Rattle.judge.specs.declared.plan.Plan.{Plan}
 use Rattle.judge.specs.declared.held.Count.{Count}
 use Rattle.judge.specs.View.{live, seenOf, tagsBefore}
 use Rattle.judge.specs.Lines.{smallLeads}
-use Rattle.judge.specs.Rules.{allowed}
 use Rattle.judge.specs.Heed.{heeded}
-use Rattle.judge.specs.Plan.{linesIn, Fitting, Planned}
+use Rattle.judge.specs.Plan.{Fitting, Planned}
 use Rattle.judge.specs.Rows.{sides, words, HeadStays}
 use Rattle.judge.specs.Settle.{Side, SmallIn, foundIn}
 use Rattle.judge.specs.Fillings.{mostFillings, listSize, fillingsFrom, fillingsIn}
@@ -28,21 +28,18 @@ abbrev pub fillingsLeft : List Bool → List TickSlot → ℕ → ℕ → List B
 fillingsLeft flags seen clocks k ticks = fillingsFrom k (heeded (λ j. getD flags j true) k (drop k (seenOf clocks seen))) ticks
 
 -- room for the fillings left, after the first n
-pub record Listing (list : List Bool) (p : Plan) (flags : List Bool) (k : ℕ) (seen : List TickSlot) (ticks : List Bool) (n : ℕ) : Type 0 where
+pub record Listing (list : List Bool) (x : Extent) (flags : List Bool) (k : ℕ) (seen : List TickSlot) (ticks : List Bool) (n : ℕ) : Type 0 where
   pub size : length list ≡ listSize
-  pub plan : Fitting p
-  pub clock : k ≤ p .clocks
-  pub room : n + length (fillingsLeft flags seen (p .clocks) k ticks) ≤ mostFillings
+  pub few-clocks : x .clocks ≤ 8
+  pub few-rules : x .rules ≤ 16
+  pub clock : k ≤ x .clocks
+  pub room : n + length (fillingsLeft flags seen (x .clocks) k ticks) ≤ mostFillings
 
 -- after the first n, those that the rules allow
 pub record Listed (rules : List Bool → Bool) (left : List (List Bool)) (n r : ℕ) (a b : List Bool) : Type 0 where
   pub size : length b ≡ listSize
   pub fewer : r ≤ n + length left
   pub listed : fillingsIn b r ≡ fillingsIn a n ++ filter rules left
-
--- what the rules of a plan allow
-abbrev pub ruled : List ℕ → Plan → List Bool → Bool
-ruled lines p = allowed (linesIn lines 32 (p .rules))
 
 -- ---- an instant
 

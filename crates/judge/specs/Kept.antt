@@ -4,7 +4,7 @@ use mathlib.Core.List.{List}
 use mathlib.Core.Path.{_≡_}
 use Prim.Native.Nat.{ℕ, _+_}
 use lib.IntN.{pos}
-use lib.ListN.{length}
+use Rattle.records.specs.declared.sheet.Sheet.{Sheet}
 use Rattle.records.specs.declared.instant.Instant.{Instant}
 use Rattle.records.specs.Lists.{listed}
 use Rattle.records.specs.Sheet.{sheetValue}
@@ -27,11 +27,10 @@ use Rattle.judge.specs.View.{liveCount}
 use Rattle.judge.specs.Unused.{BlankFrom}
 use Rattle.judge.specs.Limits.{within}
 use Rattle.judge.specs.Monitor.{Accepts}
-use Rattle.judge.specs.Plan.{Fitting, Planned}
-use Rattle.judge.specs.Rows.{headRows, words, rowCount, rowObligation, rowLeads, rowStopped}
-use Rattle.judge.specs.Settle.{Side}
+use Rattle.judge.specs.Plan.{Planned}
+use Rattle.judge.specs.Rows.{headRows, rowCount, rowObligation, rowLeads, rowStopped}
 use Rattle.judge.specs.Promises.{Called}
-use Rattle.judge.specs.Fillings.{listSize}
+use Rattle.judge.specs.Fill.{Working}
 
 abbrev pub asStruct : Obligation → code.Obligation
 asStruct o = record { clock = o .clock; on = o .on; due = o .due }
@@ -48,36 +47,33 @@ rowRemainder rows i = record {
 abbrev pub rowsHeld : Count → List ℕ → ℕ → Held
 rowsHeld count rows from = record { count = count; remainders = listed (λ k. rowRemainder rows (from + k)) (liveCount count) }
 
--- a monitor kept, with its rows
-abbrev pub keptMonitor : Kept → List ℕ → Monitor
-keptMonitor k rows = record { sheet = k .sheet; instants = k .instants; tags = k .tags; held = rowsHeld (k .count) rows (k .from) }
+-- a monitor kept, with its sheet and its rows
+abbrev pub keptMonitor : Sheet → Kept → List ℕ → Monitor
+keptMonitor s k rows = record { sheet = s; instants = k .instants; tags = k .tags; held = rowsHeld (k .count) rows (k .from) }
 
 -- a monitor once its remainders are stored behind the head
-abbrev pub keptOf : Monitor → Plan → Kept
-keptOf m p = record { sheet = m .sheet; plan = p; instants = m .instants; tags = m .tags; count = m .held .count; from = headRows }
+abbrev pub keptOf : Monitor → Kept
+keptOf m = record { instants = m .instants; tags = m .tags; count = m .held .count; from = headRows }
 
 abbrev pub given : Reply → Monitor → Given
 given r m = record { reply = r; monitor = m }
 
 -- ---- an instant taken
 
--- a monitor in rows within its limits, of a sheet as reading takes it, what is found out about the sheet once, and room to work in
-pub record Ready (k : Kept) (lines rows : List ℕ) (list : List Bool) : Type 0 where
-  pub value : IsSheet (sheetValue (k .sheet))
-  pub planned : Planned (sheetValue (k .sheet)) (k .plan) lines
-  pub fits : Fitting (k .plan)
-  pub side : Side (k .from)
-  pub size : length rows ≡ words
-  pub lists : length list ≡ listSize
-  pub limits : within (keptMonitor k rows) ≡ true
+-- a monitor in rows within its limits, of a sheet as reading takes it, and what is found out about the sheet once
+pub record Ready (s : Sheet) (k : Kept) (p : Plan) (lines rows : List ℕ) : Type 0 where
+  pub value : IsSheet (sheetValue s)
+  pub planned : Planned (sheetValue s) p lines
+  pub limits : within (keptMonitor s k rows) ≡ true
 
--- what is answered to an instant that was read, and the monitor after it, which is as ready once it is within its limits
-pub record Works (k : Kept) (i : Instant) (lines : List ℕ) (t : Told) (a b : List ℕ) (list : List Bool) : Type 0 where
-  pub accepts : Accepts mostLive (keptMonitor k a) i (given (t .reply) (keptMonitor (t .kept) b))
-  pub ready : within (keptMonitor (t .kept) b) ≡ true → Ready (t .kept) lines b list
+-- room to work in after an instant that was read, and, whatever the sheet, what is answered to it
+pub record Works (k : Kept) (p : Plan) (i : Instant) (lines : List ℕ) (t : Told) (a b : List ℕ) (list : List Bool) : Type 0 where
+  pub room : Working b (t .kept .from) (t .kept .count) p list
+  pub accepts : (s : Sheet) → Ready s k p lines a → Accepts mostLive (keptMonitor s k a) i (given (t .reply) (keptMonitor s (t .kept) b))
 
--- what a call of the monitor gives; answered, the last tags of clocks from C on are 0; and the monitor to call next is as ready
-pub record Takes (k : Kept) (bytes lines : List ℕ) (t : Told) (a b : List ℕ) (list : List Bool) : Type 0 where
-  pub called : Called (keptMonitor k a) bytes (given (t .reply) (keptMonitor (t .kept) b))
-  pub tags : (a : Answer) → t .reply ≡ Answered a → BlankFrom (t .kept .sheet .clocks) (pos 0) (t .kept .tags)
-  pub ready : Ready (t .kept) lines b list
+-- room to work in after a call, and, whatever the sheet, what the call gives; answered, the last tags of clocks from C on are 0; and the monitor to call next is as ready
+pub record Takes (k : Kept) (p : Plan) (bytes lines : List ℕ) (t : Told) (a b : List ℕ) (list : List Bool) : Type 0 where
+  pub room : Working b (t .kept .from) (t .kept .count) p list
+  pub called : (s : Sheet) → Ready s k p lines a → Called (keptMonitor s k a) bytes (given (t .reply) (keptMonitor s (t .kept) b))
+  pub tags : (s : Sheet) → Ready s k p lines a → (x : Answer) → t .reply ≡ Answered x → BlankFrom (s .clocks) (pos 0) (t .kept .tags)
+  pub ready : (s : Sheet) → Ready s k p lines a → Ready s (t .kept) p lines b

@@ -206,14 +206,14 @@ pub(crate) fn advance_row(
     requires { ⌜ Advancing (now rows) i to plan f ⌝ }
     ensures { λ r. ⌜ AdvancedRow plan f i to r (now (rows .entry)) (now (rows .exit)) ⌝ }
 {
-    let clocks = plan.clocks;
-    let ticks = f.ticks;
-    if is_barred(rows, i, clocks, ticks) {
-        return Next::Fails;
-    }
     let reach = plan.reach;
     let needs = f.needs;
     if !leads_hold(rows, i, reach, needs) {
+        return Next::Fails;
+    }
+    let clocks = plan.clocks;
+    let ticks = f.ticks;
+    if is_barred(rows, i, clocks, ticks) {
         return Next::Fails;
     }
     let tags = f.tags;

@@ -23,13 +23,20 @@ ghost use Rattle.tesl.specs.Lists.{all};
 ghost use Rattle.tesl.specs.Fits.{noneFalls};
 ghost use Rattle.judge.specs.View.{tagsBefore};
 ghost use Rattle.judge.specs.Questions.{tagsHold};
+ghost use Rattle.judge.specs.Rules.{allowed};
 ghost use Rattle.judge.specs.Plan.{linesIn};
-ghost use Rattle.judge.specs.Fill.{fillingsLeft, ruled, Listing, Listed, Working, Worked};
+ghost use Rattle.judge.specs.Fill.{fillingsLeft, Listing, Listed, Working, Worked};
 
 // What went before an instant: nothing, or the last tags.
 pub struct Before {
     pub first: bool,
     pub tags: [i16; 8],
+}
+
+// How many clocks are filled, and how many rules are asked: small, so that a call is handed them in a word.
+struct Extent {
+    clocks: u8,
+    rules: u8,
 }
 
 fn seen_at(seen: [TickSlot; 8], k: usize) -> Tick
@@ -53,7 +60,7 @@ fn with_tick(ticks: [bool; 8], k: usize) -> [bool; 8]
 // Lists the fillings of the clocks from k on that the rules allow, after the first n: settles clock k, then those from k + 1; an unseen tick branches into idle and, where its clock has a flag, tick.
 fn fill(
     lines: &[u16; NUMBERS],
-    plan: Plan,
+    extent: Extent,
     flags: [bool; 8],
     k: usize,
     seen: [TickSlot; 8],
@@ -61,33 +68,35 @@ fn fill(
     list: &mut [bool; LIST],
     n: usize,
 ) -> usize
-    requires { ⌜ Listing (now list) plan flags k seen ticks n ⌝ }
-    ensures { λ r. ⌜ Listed (ruled (now (lines .entry)) plan) (fillingsLeft flags seen (plan .clocks) k ticks) n r (now (list .entry)) (now (list .exit)) ⌝ }
+    requires { ⌜ Listing (now list) extent flags k seen ticks n ⌝ }
+    ensures { λ r. ⌜ Listed (allowed (linesIn (now (lines .entry)) 32 (extent .rules))) (fillingsLeft flags seen (extent .clocks) k ticks) n r (now (list .entry)) (now (list .exit)) ⌝ }
 {
-    if k == plan.clocks {
-        if all_hold(lines, plan.rules, ticks) {
+    let clocks = extent.clocks as usize;
+    let rules = extent.rules as usize;
+    if k == clocks {
+        if all_hold(lines, rules, ticks) {
             put_flags(list, n, ticks);
             return n + 1;
         }
         return n;
     }
     match seen_at(seen, k) {
-        Tick::Idle => fill(lines, plan, flags, k + 1, seen, ticks, list, n),
+        Tick::Idle => fill(lines, extent, flags, k + 1, seen, ticks, list, n),
         Tick::Ticks => {
             let set = with_tick(ticks, k);
-            fill(lines, plan, flags, k + 1, seen, set, list, n)
+            fill(lines, extent, flags, k + 1, seen, set, list, n)
         }
         Tick::Unseen => {
-            if is_cut(lines, plan.rules, k, ticks) {
+            if is_cut(lines, rules, k, ticks) {
                 return n;
             }
-            let idle = fill(lines, plan, flags, k + 1, seen, ticks, list, n);
             if !flags[k] {
                 // No line and no obligation held asks about this tick: with it nothing more is found.
-                return idle;
+                return fill(lines, extent, flags, k + 1, seen, ticks, list, n);
             }
+            let idle = fill(lines, extent, flags, k + 1, seen, ticks, list, n);
             let set = with_tick(ticks, k);
-            fill(lines, plan, flags, k + 1, seen, set, list, idle)
+            fill(lines, extent, flags, k + 1, seen, set, list, idle)
         }
     }
 }
@@ -139,11 +148,14 @@ pub(crate) fn work_rows(
             if !tags_fit(plan.clocks, lines, plan.relations, before.first, was, tags) {
                 return Count::Live(0);
             }
+            let clocks = plan.clocks as u8;
+            let rules = plan.rules as u8;
+            let extent = Extent { clocks, rules };
             let seen = instant.ticks;
             let named = plan.named;
             let flags = flag_rows(rows, from, n, named);
             let ticks = [false; 8];
-            let m = fill(lines, plan, flags, 0, seen, ticks, list, 0);
+            let m = fill(lines, extent, flags, 0, seen, ticks, list, 0);
             settle_all(rows, from, n, plan, lines, tags, m, list)
         }
     }

@@ -15,15 +15,13 @@ use records::instant::Instant;
 use records::instant::read_instant;
 use records::number;
 use records::record::Answer;
-use records::sheet::Sheet;
 ghost use mathlib.Core.Path.{_≡_};
 ghost use Prim.Native.Nat.{_<_};
-ghost use Rattle.judge.specs.Kept.{keptOf, Ready, Works, Takes};
+ghost use Rattle.judge.specs.Fill.{Working};
+ghost use Rattle.judge.specs.Kept.{keptOf, Works, Takes};
 
-// A monitor beside its rows: its sheet and what is found out about it once, the number of instants and the last tags, how many are held and the first of their rows.
+// A monitor beside its sheet and its rows: the number of instants and the last tags, how many are held and the first of their rows.
 pub struct Kept {
-    pub sheet: Sheet,
-    pub plan: Plan,
     pub instants: usize,
     pub tags: [i16; 8],
     pub count: Count,
@@ -37,17 +35,14 @@ pub struct Told {
 }
 
 // A monitor as it is kept once its remainders are stored.
-pub(crate) fn kept_of(monitor: Monitor, plan: Plan) -> Kept
-    ensures { λ k. ⌜ k ≡ keptOf monitor plan ⌝ }
+pub(crate) fn kept_of(monitor: Monitor) -> Kept
+    ensures { λ k. ⌜ k ≡ keptOf monitor ⌝ }
 {
-    let sheet = monitor.sheet;
     let instants = monitor.instants;
     let tags = monitor.tags;
     let held = monitor.held;
     let count = held.count;
     Kept {
-        sheet,
-        plan,
         instants,
         tags,
         count,
@@ -55,18 +50,18 @@ pub(crate) fn kept_of(monitor: Monitor, plan: Plan) -> Kept
     }
 }
 
-// Works on an instant that was read: the answer, with those held after it on the other side.
+// Works on an instant that was read: the answer, with those held after it on the other side. What is promised holds of every sheet that the plan is of.
 fn work_instant(
     kept: Kept,
+    plan: Plan,
     lines: &[u16; NUMBERS],
     instant: Instant,
     rows: &mut [u32; SIZE],
     list: &mut [bool; LIST],
 ) -> Told
-    requires { ⌜ Ready kept (now lines) (now rows) (now list) × (kept .instants < 4000) ⌝ }
-    ensures { λ t. ⌜ Works kept instant (now (lines .entry)) t (now (rows .entry)) (now (rows .exit)) (now (list .exit)) ⌝ }
+    requires { ⌜ Working (now rows) (kept .from) (kept .count) plan (now list) × (kept .instants < 4000) ⌝ }
+    ensures { λ t. ⌜ Works kept plan instant (now (lines .entry)) t (now (rows .entry)) (now (rows .exit)) (now (list .exit)) ⌝ }
 {
-    let plan = kept.plan;
     let from = kept.from;
     let instants = kept.instants;
     let was = kept.tags;
@@ -78,11 +73,8 @@ fn work_instant(
     let next = work_rows(rows, from, count, plan, lines, before, instant, list);
     let to = SIDES - from;
     let said = say_rows(rows, to, next);
-    let sheet = kept.sheet;
     let tags = instant.tags;
     let kept = Kept {
-        sheet,
-        plan,
         instants: instants + 1,
         tags,
         count: next,
@@ -97,16 +89,16 @@ fn work_instant(
 // Takes an instant: refused, the number and the monitor as it came; accepted, the answer and the monitor after it.
 pub(crate) fn observe_rows(
     kept: Kept,
+    plan: Plan,
     lines: &[u16; NUMBERS],
     bytes: &[u8],
     rows: &mut [u32; SIZE],
     list: &mut [bool; LIST],
 ) -> Told
-    requires { ⌜ Ready kept (now lines) (now rows) (now list) ⌝ }
-    ensures { λ t. ⌜ Takes kept (now (bytes .entry)) (now (lines .entry)) t (now (rows .entry)) (now (rows .exit)) (now (list .exit)) ⌝ }
+    requires { ⌜ Working (now rows) (kept .from) (kept .count) plan (now list) ⌝ }
+    ensures { λ t. ⌜ Takes kept plan (now (bytes .entry)) (now (lines .entry)) t (now (rows .entry)) (now (rows .exit)) (now (list .exit)) ⌝ }
 {
-    let sheet = kept.sheet;
-    let clocks = sheet.clocks;
+    let clocks = plan.clocks as u8;
     let read = read_instant(bytes, clocks);
     let answer = read.answer;
     match answer {
@@ -123,7 +115,7 @@ pub(crate) fn observe_rows(
                 };
             }
             let instant = read.instant;
-            work_instant(kept, lines, instant, rows, list)
+            work_instant(kept, plan, lines, instant, rows, list)
         }
     }
 }

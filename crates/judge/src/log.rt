@@ -8,6 +8,7 @@ use crate::list::LIST;
 use crate::monitor::Given;
 use crate::monitor::open;
 use crate::plan::NUMBERS;
+use crate::plan::Plan;
 use crate::plan::plan_of;
 use crate::rows::SIZE;
 use crate::stored::keep_held;
@@ -15,7 +16,9 @@ use records::number;
 use records::record::Record;
 use records::record::record_at;
 ghost use mathlib.Core.Path.{_≡_};
+ghost use Rattle.records.specs.declared.sheet.Sheet.{Sheet};
 ghost use Rattle.tesl.specs.Machine.{judgeLog};
+ghost use Rattle.judge.specs.Fill.{Working};
 ghost use Rattle.judge.specs.Kept.{keptMonitor, given, Ready};
 ghost use Rattle.judge.specs.Log.{judgedOf, Concludes};
 
@@ -30,12 +33,13 @@ fn observe_records(
     log: &[u8],
     opening: Reply,
     first: Kept,
+    plan: Plan,
     lines: &[u16; NUMBERS],
     rows: &mut [u32; SIZE],
     list: &mut [bool; LIST],
 ) -> Judged
-    requires { ⌜ Ready first (now lines) (now rows) (now list) ⌝ }
-    ensures { λ r. ⌜ Concludes (given opening (keptMonitor first (now (rows .entry)))) (now (log .entry)) r ⌝ }
+    requires { ⌜ Working (now rows) (first .from) (first .count) plan (now list) ⌝ }
+    ensures { λ r. ⌜ ((s : Sheet) → Ready s first plan (now (lines .entry)) (now (rows .entry)) → Concludes (given opening (keptMonitor s first (now (rows .entry)))) (now (log .entry)) r) ⌝ }
 {
     let mut kept = first;
     let mut reply = opening;
@@ -51,7 +55,7 @@ fn observe_records(
             }
             Record::Whole { kind: _, len } => {
                 let end = at + number::HEAD_LENGTH + len;
-                let told = observe_rows(kept, lines, &log[at..end], rows, list);
+                let told = observe_rows(kept, plan, lines, &log[at..end], rows, list);
                 let said = told.reply;
                 match said {
                     Reply::Refused(_) => {
@@ -94,9 +98,9 @@ fn observe_all(opened: Given, log: &[u8]) -> Judged
     let mut rows = [0u32; SIZE];
     keep_held(&mut rows, count, remainders);
     let mut list = [false; LIST];
-    let kept = kept_of(monitor, plan);
+    let kept = kept_of(monitor);
     let opening = opened.reply;
-    observe_records(log, opening, kept, &lines, &mut rows, &mut list)
+    observe_records(log, opening, kept, plan, &lines, &mut rows, &mut list)
 }
 
 // Judges a sheet and a whole log; the first refusal ends it.

@@ -124,15 +124,13 @@ pub fn observe(monitor: Monitor, bytes: &[u8]) -> Given
     let mut rows = [0u32; SIZE];
     keep_held(&mut rows, count, remainders);
     let mut list = [false; LIST];
-    let kept = kept_of(monitor, plan);
-    let told = observe_rows(kept, &lines, bytes, &mut rows, &mut list);
+    let kept = kept_of(monitor);
+    let told = observe_rows(kept, plan, &lines, bytes, &mut rows, &mut list);
     let reply = told.reply;
     match reply {
         Reply::Refused(n) => refuse(n, monitor),
         Reply::Answered(_) => {
             let next = told.kept;
-            let sheet = next.sheet;
-            let plan = next.plan;
             let count = next.count;
             let from = next.from;
             let after = from_rows(&rows, from, count, plan);

@@ -1,5 +1,5 @@
 -- What a filling makes of a row, by what depends on the filling alone, question by question. Assumes nothing.
-use mathlib.Core.Bool.{Bool, true, false, not, cond, _&&_}
+use mathlib.Core.Bool.{Bool, true, false, not, cond, _&&_, and-true, and-false}
 use mathlib.Core.List.{List}
 use mathlib.Core.Path.{_≡_, sym, ap, ap₂, _∙_}
 use Prim.Native.Nat.{ℕ, _+_, _-_, _<_}
@@ -60,24 +60,24 @@ module _ {v : SheetValue} {p : Plan} {f : Filling} (a : Asked v p f) (rows : Lis
   holds = ap₂ (λ (bs : List Bool) (b : Bool). not (overlap (f .ticks) bs) && b) row-stopped
       (carried-holds v (f .ticks) (p .reach) (p .precede) (a .leading) (rowLeads rows i) ∙ below-ext (p .reach) _ _ (λ k h. ap₂ leb (sym (a .needed k h)) (lead-at rows i k h)))
 
-  -- a stopped clock ticks; a lead is too short
-  module _ {b : Bool} (e : b ≡ barred) where
-    pub row-barred : b ≡ true → fails ≡ became
+  -- a lead is too short; a stopped clock ticks
+  module _ {h : Bool} (g : h ≡ enough) where
+    pub row-short : not h ≡ true → fails ≡ became
     unfolding advanced
-    row-barred t = rw (holds, sym e, t)
+    row-short u = rw (holds, sym g, not-true h u, and-false (not barred))
 
-    module _ (t : b ≡ false) {h : Bool} (g : h ≡ enough) where
-      by-leads : became ≡ cond h (withKept v (f .ticks) (begunIn f) row (kept (instantOf f) (row .owed))) fails
+    module _ (u : not h ≡ false) {b : Bool} (e : b ≡ barred) where
+      by-stopped : became ≡ cond (not b) (withKept v (f .ticks) (begunIn f) row (kept (instantOf f) (row .owed))) fails
       unfolding advanced
-      by-leads = rw (holds, sym e, t, sym g)
+      by-stopped = rw (holds, sym g, not-false h u, and-true (not barred), sym e)
 
-      pub row-short : not h ≡ true → fails ≡ became
-      row-short u = sym (by-leads ∙ rw (not-true h u))
+      pub row-barred : b ≡ true → fails ≡ became
+      row-barred t = sym (by-stopped ∙ rw t)
 
       -- an obligation is late; there is no room for one
-      module _ (u : not h ≡ false) {to : ℕ} {k : Bool} {mid : List ℕ} (m : KeptRow (instantOf f) i to k rows mid) where
+      module _ (t : b ≡ false) {to : ℕ} {k : Bool} {mid : List ℕ} (m : KeptRow (instantOf f) i to k rows mid) where
         by-kept : became ≡ withKept v (f .ticks) (begunIn f) row (provided k (rowOwed mid to))
-        by-kept = by-leads ∙ rw (not-false h u, m .owed)
+        by-kept = by-stopped ∙ rw (t, m .owed)
 
         pub row-late : not k ≡ true → fails ≡ became
         row-late l = sym (by-kept ∙ rw (not-true k l))

@@ -50,17 +50,12 @@ module _ (flags : List Bool) (seen : List TickSlot) (clocks k : ℕ) (ticks : Li
       pub left-unseen : t ≡ Unseen → getD flags k true ≡ true → left k ticks ≡ left (k + 1) ticks ++ left (k + 1) next
       left-unseen f g = rw (here Unseen f, g, p)
 
-    -- the first branch has room, whatever the flag
-    pub room-idle : t ≡ Unseen → (n : ℕ) → n + length (left k ticks) ≤ 256 → n + length (left (k + 1) ticks) ≤ 256
-    room-idle f n r = by-flag (getD flags k true) refl
-      where
-        by-flag : (b : Bool) → getD flags k true ≡ b → n + length (left (k + 1) ticks) ≤ 256
-        by-flag true g = omega (arith, r, ap length (left-unseen refl f g), length-append (left (k + 1) ticks) (left (k + 1) (set ticks k true)))
-        by-flag false g = omega (arith, r, ap length (left-unheeded f g))
-
 -- ---- there is room for those left
 pub room-same : (n : ℕ) {fs gs : List (List Bool)} → fs ≡ gs → n + length fs ≤ 256 → n + length gs ≤ 256
 room-same n e h = omega (arith, ap length e)
+
+pub room-first : (n : ℕ) (fs gs : List (List Bool)) {hs : List (List Bool)} → hs ≡ fs ++ gs → n + length hs ≤ 256 → n + length fs ≤ 256
+room-first n fs gs e h = omega (arith, ap length e, length-append fs gs)
 
 pub room-second : (n m : ℕ) (fs gs : List (List Bool)) {hs : List (List Bool)} → hs ≡ fs ++ gs → n + length hs ≤ 256 → m ≤ n + length fs → m + length gs ≤ 256
 room-second n m fs gs e h l = omega (arith, ap length e, length-append fs gs)

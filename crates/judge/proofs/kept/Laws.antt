@@ -43,6 +43,7 @@ use Rattle.judge.specs.Rows.{words, rowCount, rowObligation, rowOwed, ro
 use Rattle.judge.specs.Settle.{Side, foundIn, SmallIn}
 use Rattle.judge.specs.Stored.{KeepingHeld, KeptHeld}
 use Rattle.judge.specs.Monitor.{sheetBy, heldBy, Accepts}
+use Rattle.judge.specs.Fill.{Working}
 use Rattle.judge.specs.Kept.{asStruct, rowRemainder, rowsHeld, keptMonitor, keptOf, given, Ready}
 use Rattle.judge.specs.Promises.{Follows}
 use Rattle.judge.proofs.Listing.{map-listed, one-of, all-of}
@@ -97,12 +98,12 @@ module _ (rows : List ℕ) (from : ℕ) where
   eight-rows count = each-from one (λ (q : arrays.Remainder). length (q .stopped) ≡ 8) (λ k. length-listed _ 8) 0 (liveCount count)
 
 -- ---- a monitor in rows
-module _ (k : Kept) (rows : List ℕ) where
+module _ (s : Sheet) (k : Kept) (rows : List ℕ) where
   abbrev m : Monitor
-  m = keptMonitor k rows
+  m = keptMonitor s k rows
 
   abbrev v : SheetValue
-  v = sheetValue (k .sheet)
+  v = sheetValue s
 
   pub limited : IsSheet v → within m ≡ true → Limited m true
   limited h e = record { answer = sym e; value = λ t. h }
@@ -112,14 +113,14 @@ module _ (k : Kept) (rows : List ℕ) where
   leads-rows t = subst (λ (o : Option (List Remainder)). T (all smallLeads (live o))) (held-rows rows (k .from) v (k .count)) t
 
   pub accepts-rows : (i : Instant) (next : Count) (out : List ℕ) (to : ℕ) {said : code.Answer}
-      → foundIn v next out to ≡ worked mostLive v (tagsBefore (eqb (k .instants) 0) (k .tags)) (seenOf (k .sheet .clocks) (i .ticks)) (i .tags) (foundIn v (k .count) rows (k .from))
+      → foundIn v next out to ≡ worked mostLive v (tagsBefore (eqb (k .instants) 0) (k .tags)) (seenOf (s .clocks) (i .ticks)) (i .tags) (foundIn v (k .count) rows (k .from))
       → SmallIn next out to → answerOf said ≡ saidBy (foundIn v next out to)
-      → Accepts mostLive m i (given (reply.Answered said) (keptMonitor (record { sheet = k .sheet; plan = k .plan; instants = k .instants + 1; tags = i .tags; count = next; from = to }) out))
+      → Accepts mostLive m i (given (reply.Answered said) (keptMonitor s (record { instants = k .instants + 1; tags = i .tags; count = next; from = to }) out))
   accepts-rows i next out to w small q = record {
     sheet = refl;
     instants = add-one (k .instants);
     tags = refl;
-    held = held-rows out to v next ∙ w ∙ ap (worked mostLive v (tagsBefore (eqb (k .instants) 0) (k .tags)) (seenOf (k .sheet .clocks) (i .ticks)) (i .tags)) (sym (held-rows rows (k .from) v (k .count)));
+    held = held-rows out to v next ∙ w ∙ ap (worked mostLive v (tagsBefore (eqb (k .instants) 0) (k .tags)) (seenOf (s .clocks) (i .ticks)) (i .tags)) (sym (held-rows rows (k .from) v (k .count)));
     fits = sized-rows out to next small;
     said = ap taken (q ∙ ap saidBy (sym (held-rows out to v next)));
   }
@@ -160,9 +161,9 @@ module _ (s : Sheet) (n : ℕ) (tags : List ℤ) (h k : Held) (same : heldOf (sh
   }
 
 -- ---- a monitor whose remainders are stored
-module _ (m : Monitor) (p : Plan) {blank rows : List ℕ} (kept : KeptHeld (m .held .count) (m .held .remainders) blank rows) where
+module _ (m : Monitor) {blank rows : List ℕ} (kept : KeptHeld (m .held .count) (m .held .remainders) blank rows) where
   abbrev stored : Monitor
-  stored = keptMonitor (keptOf m p) rows
+  stored = keptMonitor (m .sheet) (keptOf m) rows
 
   same-held : heldBy stored ≡ heldBy m
   same-held = held-rows rows 6 (sheetBy m) (m .held .count) ∙ kept .held (sheetBy m)
@@ -173,15 +174,16 @@ module _ (m : Monitor) (p : Plan) {blank rows : List ℕ} (kept : KeptHeld (m .h
   pub follows-stored : {s : SheetValue} {run : List tesl.Instant} → Follows s run m → Follows s run stored
   follows-stored f = follows-same (m .sheet) (m .instants) (m .tags) (m .held) (stored .held) same-held (sized-rows rows 6 (m .held .count) (kept .small)) f
 
-  pub ready-stored : Limited m true → {lines : List ℕ} → PlanOf (m .sheet) p lines → {list : List Bool} → length list ≡ 2048 → Ready (keptOf m p) lines rows list
-  ready-stored l plan lists = record {
-    value = l .value refl;
-    planned = plan .planned;
-    fits = plan .fits;
-    side = record { one = omega arith; other = omega arith; past = omega arith; apart = λ k l h j e. omega arith };
+  pub ready-stored : Limited m true → {p : Plan} {lines : List ℕ} → PlanOf (m .sheet) p lines → Ready (m .sheet) (keptOf m) p lines rows
+  ready-stored l plan = record { value = l .value refl; planned = plan .planned; limits = within-stored (sym (l .answer)) }
+
+  pub room-stored : {p : Plan} {lines : List ℕ} → PlanOf (m .sheet) p lines → {list : List Bool} → length list ≡ 2048 → Working rows 6 (m .held .count) p list
+  room-stored plan lists = record {
     size = kept .size;
+    side = record { one = omega arith; other = omega arith; past = omega arith; apart = λ k l h j e. omega arith };
+    small = kept .small;
+    plan = plan .fits;
     lists = lists;
-    limits = within-stored (sym (l .answer));
   }
 
 -- ---- what is within the limits of a monitor

@@ -68,14 +68,16 @@ pub record Left (log : List ℕ) (s : SheetValue) (m : Monitor) (last : Reply) (
   pub follows : Follows s run m
   pub left : all ≡ concluded (replyOf last) n (machine s run (map callOf (pieces (drop at log))))
 
--- for every run that the first monitor followed, it is what was to conclude at the start; each instant taken had a record
+-- for every run that the first monitor followed, it is what was to conclude at the start
 pub record Going (log : List ℕ) (m₀ : Monitor) (r₀ : Reply) (m : Monitor) (last : Reply) (n at : ℕ) : Type 0 where
-  pub few : n ≤ at
-  pub ends : at ≤ length log
   pub same : (s : SheetValue) (run : List Instant) → Follows s run m₀ → Left log s m last n at (concluded (replyOf r₀) 0 (machine s run (map callOf (pieces log))))
 
+-- a whole record is within the log
+pub going-fits : (log : List ℕ) (at : ℕ) {x : Record} → x ≡ recordAt log at → {k j : ℕ} → x ≡ Whole k j → at + 4 + j ≤ length log
+going-fits log at e q = whole-at log at (sym e ∙ q) .fits
+
 pub going-start : (log : List ℕ) (m : Monitor) (r : Reply) → Going log m r m r 0 0
-going-start log m r = record { few = omega arith; ends = omega arith; same = λ s run f. record { run = run; follows = f; left = refl } }
+going-start log m r = record { same = λ s run f. record { run = run; follows = f; left = refl } }
 
 module _ {log : List ℕ} {m₀ m : Monitor} {r₀ last : Reply} {n at : ℕ} (w : Going log m₀ r₀ m last n at) where
   pub going-end : length log ≤ at → Concludes (record { reply = r₀; monitor = m₀ }) log (record { reply = last; instants = n })
@@ -92,9 +94,6 @@ module _ {log : List ℕ} {m₀ m : Monitor} {r₀ last : Reply} {n at : ℕ} (w
         sym (l .left ∙ rw (pieces-torn-at log at h (sym e ∙ q), torn-call (l .follows)))
 
     module _ {k j : ℕ} (q : x ≡ Whole k j) where
-      pub going-fits : at + 4 + j ≤ length log
-      going-fits = whole-at log at (sym e ∙ q) .fits
-
       module _ (u : IsBytes log) {g : Given} (o : Called m (take (at + 4 + j - at) (drop at log)) g) where
         abbrev bytes : List ℕ
         bytes = take (at + 4 + j - at) (drop at log)
@@ -114,8 +113,6 @@ module _ {log : List ℕ} {m₀ m : Monitor} {r₀ last : Reply} {n at : ℕ} (w
 
         pub going-more : {a : code.Answer} → g .reply ≡ reply.Answered a → Going log m₀ r₀ (g .monitor) (g .reply) (n + 1) (at + 4 + j)
         going-more p = record {
-          few = omega (arith, w .few);
-          ends = going-fits;
           same = λ s run f.
               let l = w .same s run f in
               record {

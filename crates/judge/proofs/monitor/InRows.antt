@@ -21,11 +21,12 @@ use Rattle.judge.specs.declared.monitor.Given.{Given}
 use Rattle.judge.specs.View.{heldOf}
 use Rattle.judge.specs.Answer.{replyOf}
 use Rattle.judge.specs.Limits.{within, Limited}
+use Rattle.judge.specs.Plan.{PlanOf}
 use Rattle.judge.specs.Stored.{KeptHeld, FindingRows, FromRows}
 use Rattle.judge.specs.Monitor.{refusal}
-use Rattle.judge.specs.Kept.{keptMonitor, keptOf, rowsHeld, given, Takes}
+use Rattle.judge.specs.Kept.{keptMonitor, keptOf, rowsHeld, given, Ready, Takes}
 use Rattle.judge.specs.Promises.{observes, Called, Observed}
-use Rattle.judge.proofs.kept.Laws.{held-rows, small-rows, leads-rows, within-same, follows-same, within-stored, follows-stored}
+use Rattle.judge.proofs.kept.Laws.{held-rows, leads-rows, within-same, follows-same, within-stored, follows-stored, ready-stored}
 use Rattle.judge.proofs.monitor.Limits.{Limits, limits-of, leads-small}
 
 -- an answer is no refusal
@@ -40,23 +41,32 @@ answered-within {m} {bytes} {g} o {a} p = by-outcome (observes m bytes) refl
     by-outcome (taken i) e = o .accepts i e .limits
     by-outcome (refused n) e = refused-taken (sym (ap (λ (x : Given). replyOf (x .reply)) (o .refuses n e)) ∙ p)
 
-module _ (m : Monitor) (l : Limited m true) (p : Plan) {blank rows : List ℕ} (kept : KeptHeld (m .held .count) (m .held .remainders) blank rows) where
+module _ (m : Monitor) (l : Limited m true) {p : Plan} {lines : List ℕ} (plan : PlanOf (m .sheet) p lines) {blank rows : List ℕ} (kept : KeptHeld (m .held .count) (m .held .remainders) blank rows) where
   abbrev before : Monitor
-  before = keptMonitor (keptOf m p) rows
+  before = keptMonitor (m .sheet) (keptOf m) rows
 
   same-call : (bytes : List ℕ) → observes m bytes ≡ observes before bytes
   unfolding observes
-  same-call bytes = rw (sym (l .answer), within-stored m p kept (sym (l .answer)))
+  same-call bytes = rw (sym (l .answer), within-stored m kept (sym (l .answer)))
 
-  module _ {bytes lines : List ℕ} {t : Told} {out : List ℕ} {list : List Bool} (o : Takes (keptOf m p) bytes lines t rows out list) where
+  starts : Ready (m .sheet) (keptOf m) p lines rows
+  starts = ready-stored m kept l plan
+
+  module _ {bytes : List ℕ} {t : Told} {out : List ℕ} {list : List Bool} (o : Takes (keptOf m) p bytes lines t rows out list) where
     abbrev next : Kept
     next = t .kept
 
+    called : Called before bytes (given (t .reply) (keptMonitor (m .sheet) (t .kept) out))
+    called = o .called (m .sheet) starts
+
+    ready : Ready (m .sheet) (t .kept) p lines out
+    ready = o .ready (m .sheet) starts
+
     replied : {n : ℕ} → observes m bytes ≡ refused n → t .reply ≡ reply.Refused n
-    replied {n} f = ap (λ (g : Given). g .reply) (o .called .refuses n (sym (same-call bytes) ∙ f))
+    replied {n} f = ap (λ (g : Given). g .reply) (called .refuses n (sym (same-call bytes) ∙ f))
 
     none-taken : {n : ℕ} → t .reply ≡ reply.Refused n → {X : Type 0} {i : Instant} → observes m bytes ≡ taken i → X
-    none-taken p {i = i} f = refused-taken (ap replyOf (sym p) ∙ o .called .accepts i (sym (same-call bytes) ∙ f) .answers .1)
+    none-taken p {i = i} f = refused-taken (ap replyOf (sym p) ∙ called .accepts i (sym (same-call bytes) ∙ f) .answers .1)
 
     pub refused-rows : {g : Given} {n : ℕ} → t .reply ≡ reply.Refused n → g ≡ refusal n m → Observed m bytes g
     refused-rows {g} {n} p q = record {
@@ -68,35 +78,35 @@ module _ (m : Monitor) (l : Limited m true) (p : Plan) {blank rows : List ℕ} (
     }
 
     -- the monitor to call next is within its limits
-    limits-next : Limits (keptMonitor next out)
-    limits-next = limits-of (keptMonitor next out) (o .ready .value) (o .ready .limits)
+    limits-next : Limits (keptMonitor (m .sheet) next out)
+    limits-next = limits-of (keptMonitor (m .sheet) next out) (ready .value) (ready .limits)
 
-    pub found-next : FindingRows out (next .count) (next .from) (next .plan)
-    found-next = record { side = o .ready .side .one; small = small-rows out (next .from) (next .count) (limits-next .fits); plan = o .ready .fits }
+    pub found-next : FindingRows out (next .count) (next .from) p
+    found-next = record { side = o .room .side .one; small = o .room .small; plan = o .room .plan }
 
     -- read back
-    module _ {a : code.Answer} (q : t .reply ≡ reply.Answered a) {rs : List arrays.Remainder} (back : FromRows (next .plan) (next .count) (next .from) rs out) where
+    module _ {a : code.Answer} (q : t .reply ≡ reply.Answered a) {rs : List arrays.Remainder} (back : FromRows p (next .count) (next .from) rs out) where
       abbrev held : Held
       held = record { count = next .count; remainders = rs }
 
-      same-back : heldOf (sheetValue (next .sheet)) held ≡ heldOf (sheetValue (next .sheet)) (rowsHeld (next .count) out (next .from))
+      same-back : heldOf (sheetValue (m .sheet)) held ≡ heldOf (sheetValue (m .sheet)) (rowsHeld (next .count) out (next .from))
       same-back =
-          back .held (sheetValue (next .sheet)) lines (o .ready .planned) (leads-rows next out (leads-small (keptMonitor next out) limits-next))
-          ∙ sym (held-rows out (next .from) (sheetValue (next .sheet)) (next .count))
+          back .held (sheetValue (m .sheet)) lines (ready .planned) (leads-rows (m .sheet) next out (leads-small (keptMonitor (m .sheet) next out) limits-next))
+          ∙ sym (held-rows out (next .from) (sheetValue (m .sheet)) (next .count))
 
-      pub answered-rows : Observed m bytes (given (t .reply) (record { sheet = next .sheet; instants = next .instants; tags = next .tags; held = held }))
+      pub answered-rows : Observed m bytes (given (t .reply) (record { sheet = m .sheet; instants = next .instants; tags = next .tags; held = held }))
       answered-rows = record {
         called = record {
           refuses = λ n f. answered-refused (sym q ∙ replied f);
           accepts = λ i f.
-              let w = o .called .accepts i (sym (same-call bytes) ∙ f) in
+              let w = called .accepts i (sym (same-call bytes) ∙ f) in
               record {
                 answers = w .answers;
-                limits = within-same (next .sheet) (next .instants) (next .tags) (rowsHeld (next .count) out (next .from)) held same-back (back .fits) (o .ready .limits);
+                limits = within-same (m .sheet) (next .instants) (next .tags) (rowsHeld (next .count) out (next .from)) held same-back (back .fits) (ready .limits);
                 follows = λ s run g.
-                    let k = w .follows s run (follows-stored m p kept g) in
-                    (k .0, follows-same (next .sheet) (next .instants) (next .tags) (rowsHeld (next .count) out (next .from)) held same-back (back .fits) (k .1));
+                    let k = w .follows s run (follows-stored m kept g) in
+                    (k .0, follows-same (m .sheet) (next .instants) (next .tags) (rowsHeld (next .count) out (next .from)) held same-back (back .fits) (k .1));
               };
         };
-        unused = λ i f. record { rest = back .rest; each = back .unused (sheetValue (next .sheet)) lines (o .ready .planned); tags = o .tags a q };
+        unused = λ i f. record { rest = back .rest; each = back .unused (sheetValue (m .sheet)) lines (ready .planned); tags = o .tags (m .sheet) starts _ q };
       }

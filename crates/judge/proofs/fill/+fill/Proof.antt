@@ -2,7 +2,7 @@
 use Prim.Native.Nat.{ℕ, _+_, _-_, _<_, _≤_}
 use mathlib.Core.Bool.{Bool, true, false}
 use mathlib.Core.List.{List, [], _∷_, _++_}
-use mathlib.Core.Path.{_≡_, _∙_}
+use mathlib.Core.Path.{_≡_, refl, _∙_}
 use lib.ListN.{length, getD, drop, set}
 use native.Mathlib.Omega.{arith}
 use borrow.Author.Needs.{needs}
@@ -13,8 +13,9 @@ use Rattle.records.specs.declared.instant.Tick.the-variants.{Idle, Ticks, Unsee
 use Rattle.judge.specs.View.{seenOf}
 use Rattle.judge.specs.Heed.{heeded}
 use Rattle.judge.specs.Plan.{linesIn}
-use Rattle.judge.specs.Fill.{fillingsLeft, ruled}
-use Rattle.judge.proofs.fill.Listed.{left-end, left-idle, left-ticks, left-unseen, left-unheeded, room-idle, room-same, room-second, listed-none, listed-not, listed-one, listed-same, listed-both, flag-there}
+use Rattle.judge.specs.Rules.{allowed}
+use Rattle.judge.specs.Fill.{fillingsLeft}
+use Rattle.judge.proofs.fill.Listed.{left-end, left-idle, left-ticks, left-unseen, left-unheeded, room-same, room-first, room-second, listed-none, listed-not, listed-one, listed-same, listed-both, flag-there}
 use Rattle.judge.proofs.fill.Cut.{cut-none}
 use Rattle.judge.proofs.fill.fill.Reads as fill
 use Rattle.judge.proofs.fill.fill.Kinds as fill-kinds
@@ -46,7 +47,7 @@ module _ (t : ℕ) where
 
   -- the fillings left of a call, from clock k on, and from the next
   abbrev left : Start → ℕ → List Bool → List (List Bool)
-  left e k ticks = fillingsLeft (e .args .t3) (e .args .seen) (e .args .plan .clocks) k ticks
+  left e k ticks = fillingsLeft (e .args .t3) (e .args .seen) (e .args .extent .clocks) k ticks
 
   abbrev now : Start → List (List Bool)
   now e = left e (e .args .k) (e .args .ticks)
@@ -55,103 +56,119 @@ module _ (t : ℕ) where
   then e ticks = left e (e .args .k + 1) ticks
 
   abbrev rules : Start → List Bool → Bool
-  rules e = ruled (e .args .lines .now) (e .args .plan)
+  rules e = allowed (linesIn (e .args .lines .now) 32 (e .args .extent .rules))
 
   -- all clocks are settled
-  ended : (s : fill-lts.Then1 (claims t) (fill-at t) fill.Post) → now (s .before .before) ≡ s .before .before .args .ticks ∷ []
-  ended s = let a = s .before .before .args in left-end (a .t3) (a .seen) (a .plan .clocks) (a .k) (a .ticks) (omega arith)
+  ended : (s : fill-lts.Then1 (claims t) (fill-at t) fill.Post) → now (s .before .before .before) ≡ s .before .before .before .args .ticks ∷ []
+  ended s = let a = s .before .before .before .args in left-end (a .t3) (a .seen) (a .extent .clocks) (a .k) (a .ticks) (omega arith)
 
   -- a clock is left: the fillings by its tick
   module _ (s : fill-lts.After-seen-at (claims t) (fill-at t) fill.Post) where
     abbrev e : Start
-    e = s .before .before .before
+    e = s .before .before .before .before
 
-    next : e .args .k < e .args .plan .clocks
+    next : e .args .k < e .args .extent .clocks
     next = omega (arith, s .before .if1 .left, e .pre .1 .clock)
 
-    enough : e .args .plan .clocks ≤ length (e .args .seen)
-    enough = let l : length (e .args .seen) ≡ 8 = e .good .1 .1 .1 .1 .0 .1 .0 .1 in omega (arith, l, e .pre .1 .plan .clocks)
+    enough : e .args .extent .clocks ≤ length (e .args .seen)
+    enough = let l : length (e .args .seen) ≡ 8 = e .good .1 .1 .1 .1 .0 .1 .0 .1 in omega (arith, l, e .pre .1 .few-clocks)
 
     flag : getD (e .args .t3) (e .args .k) true ≡ getD (e .args .t3) (e .args .k) false
-    flag = let l : length (e .args .t3) ≡ 8 = e .good .1 .1 .0 .1 .0 .1 in flag-there (e .args .t3) (e .args .k) (omega (arith, l, next, e .pre .1 .plan .clocks))
+    flag = let l : length (e .args .t3) ≡ 8 = e .good .1 .1 .0 .1 .0 .1 in flag-there (e .args .t3) (e .args .k) (omega (arith, l, next, e .pre .1 .few-clocks))
 
     idle : s .seen-at .result ≡ Idle → now e ≡ then e (e .args .ticks)
-    idle = left-idle (e .args .t3) (e .args .seen) (e .args .plan .clocks) (e .args .k) (e .args .ticks) next enough (s .seen-at .ensures)
+    idle = left-idle (e .args .t3) (e .args .seen) (e .args .extent .clocks) (e .args .k) (e .args .ticks) next enough (s .seen-at .ensures)
 
     unheeded : s .seen-at .result ≡ Unseen → getD (e .args .t3) (e .args .k) false ≡ false → now e ≡ then e (e .args .ticks)
-    unheeded f g = left-unheeded (e .args .t3) (e .args .seen) (e .args .plan .clocks) (e .args .k) (e .args .ticks) next enough (s .seen-at .ensures) f (flag ∙ g)
-
-    first : s .seen-at .result ≡ Unseen → e .args .n + length (then e (e .args .ticks)) ≤ 256
-    first f = room-idle (e .args .t3) (e .args .seen) (e .args .plan .clocks) (e .args .k) (e .args .ticks) next enough (s .seen-at .ensures) f (e .args .n) (e .pre .1 .room)
+    unheeded f g = left-unheeded (e .args .t3) (e .args .seen) (e .args .extent .clocks) (e .args .k) (e .args .ticks) next enough (s .seen-at .ensures) f (flag ∙ g)
 
     module _ {more : List Bool} (p : more ≡ set (e .args .ticks) (e .args .k) true) where
       tick : s .seen-at .result ≡ Ticks → now e ≡ then e more
-      tick = left-ticks (e .args .t3) (e .args .seen) (e .args .plan .clocks) (e .args .k) (e .args .ticks) next enough (s .seen-at .ensures) p
+      tick = left-ticks (e .args .t3) (e .args .seen) (e .args .extent .clocks) (e .args .k) (e .args .ticks) next enough (s .seen-at .ensures) p
 
       unseen : s .seen-at .result ≡ Unseen → getD (e .args .t3) (e .args .k) false ≡ true → now e ≡ then e (e .args .ticks) ++ then e more
-      unseen f g = left-unseen (e .args .t3) (e .args .seen) (e .args .plan .clocks) (e .args .k) (e .args .ticks) next enough (s .seen-at .ensures) p f (flag ∙ g)
+      unseen f g = left-unseen (e .args .t3) (e .args .seen) (e .args .extent .clocks) (e .args .k) (e .args .ticks) next enough (s .seen-at .ensures) p f (flag ∙ g)
 
   put-flags-requires : fill-lts.Need-put-flags-requires (claims t) (fill-at t) fill.Post
   put-flags-requires c κs =
       let s = c .before .before .before in
-      let e = s .before .before in
+      let e = s .before .before .before in
       (e .pre .1 .size, omega (arith, room-same (e .args .n) (ended s) (e .pre .1 .room)))
 
   returns : fill-lts.Need-returns (claims t) (fill-at t) fill.Post
   returns c =
       let h = c .before .before .before in
-      let e = h .before .before .before in
+      let e = h .before .before .before .before in
       listed-one (rules e) (ended (h .before)) (h .all-hold .ensures) (e .args .n) (e .args .list .now) (c .before .before .if2 .taken) (c .put-flags .last .0) (c .put-flags .ensures .0) (c .put-flags .ensures .1)
 
   returns-2 : fill-lts.Need-returns-2 (claims t) (fill-at t) fill.Post
   returns-2 c =
       let h = c .before in
-      let e = h .before .before .before in
+      let e = h .before .before .before .before in
       listed-not (rules e) (ended (h .before)) (h .all-hold .ensures) (e .args .n) (e .args .list .now) (c .if2 .left) (e .pre .1 .size)
 
   fill-requires : fill-lts.Need-fill-requires (claims t) (fill-at t) fill.Post
   fill-requires c κs =
       let s = c .before .before .before in
       let p = e s .pre .1 in
-      (omega (arith, next s), record { size = p .size; plan = p .plan; clock = omega (arith, next s); room = room-same (e s .args .n) (idle s (c .before .enum-told .given .1)) (p .room) })
+      (omega (arith, next s), record { size = p .size; few-clocks = p .few-clocks; few-rules = p .few-rules; clock = omega (arith, next s); room = room-same (e s .args .n) (idle s (c .before .enum-told .given .1)) (p .room) })
 
   fill-requires-2 : fill-lts.Need-fill-requires-2 (claims t) (fill-at t) fill.Post
   fill-requires-2 c κs =
       let w = c .before in
       let s = w .before .before .before in
       let p = e s .pre .1 in
-      (omega (arith, next s), record { size = p .size; plan = p .plan; clock = omega (arith, next s); room = room-same (e s .args .n) (tick s (w .with-tick .ensures) (w .before .enum-told2 .given .1)) (p .room) })
+      (omega (arith, next s), record { size = p .size; few-clocks = p .few-clocks; few-rules = p .few-rules; clock = omega (arith, next s); room = room-same (e s .args .n) (tick s (w .with-tick .ensures) (w .before .enum-told2 .given .1)) (p .room) })
 
   returns-3 : fill-lts.Need-returns-3 (claims t) (fill-at t) fill.Post
   returns-3 c =
       let s = c .before .before .before .before in
       let a = e s .args in
-      listed-none (rules (e s)) (now (e s)) (a .n) (a .list .now) (cut-none (a .k) (a .ticks) (linesIn (a .lines .now) 32 (a .plan .rules)) (c .before .is-cut .ensures) (c .if3 .taken) (heeded (λ j. getD (a .t3) j true) (a .k) (drop (a .k) (seenOf (a .plan .clocks) (a .seen))))) (e s .pre .1 .size)
+      listed-none (rules (e s)) (now (e s)) (a .n) (a .list .now) (cut-none (a .k) (a .ticks) (linesIn (a .lines .now) 32 (a .extent .rules)) (c .before .is-cut .ensures) (c .if3 .taken) (heeded (λ j. getD (a .t3) j true) (a .k) (drop (a .k) (seenOf (a .extent .clocks) (a .seen))))) (e s .pre .1 .size)
+
+  -- an unseen tick that is not cut
+  abbrev told : fill-lts.Else3 (claims t) (fill-at t) fill.Post → fill-lts.After-enum-told3 (claims t) (fill-at t) fill.Post
+  told c = c .before .before
 
   fill-requires-3 : fill-lts.Need-fill-requires-3 (claims t) (fill-at t) fill.Post
   fill-requires-3 c κs =
-      let u = c .before .before .before in
+      let h = c .before in
+      let u = told (h .before) in
       let s = u .before .before in
       let p = e s .pre .1 in
-      (omega (arith, next s), record { size = p .size; plan = p .plan; clock = omega (arith, next s); room = first s (u .enum-told3 .given .1) })
-
-  -- the first branch of an unseen tick
-  abbrev told : fill-lts.After-fill3 (claims t) (fill-at t) fill.Post → fill-lts.After-enum-told3 (claims t) (fill-at t) fill.Post
-  told f = f .before .before .before .before
+      (omega (arith, next s), record { size = p .size; few-clocks = p .few-clocks; few-rules = p .few-rules; clock = omega (arith, next s); room = room-same (e s .args .n) (unheeded s (u .enum-told3 .given .1) (not-true _ (h .if4 .taken))) (p .room) })
 
   returns-4 : fill-lts.Need-returns-4 (claims t) (fill-at t) fill.Post
   returns-4 c =
-      let f = c .before in
-      let s = told f .before .before in
-      listed-same (rules (e s)) (unheeded s (told f .enum-told3 .given .1) (not-true _ (c .if4 .taken))) (f .fill3 .ensures)
+      let h = c .before .before in
+      let u = told (h .before) in
+      let s = u .before .before in
+      listed-same (rules (e s)) (unheeded s (u .enum-told3 .given .1) (not-true _ (h .if4 .taken))) (c .fill3 .ensures)
+
+  -- its clock has a flag: it branches
+  module _ (h : fill-lts.Else4 (claims t) (fill-at t) fill.Post) where
+    abbrev at : fill-lts.After-seen-at (claims t) (fill-at t) fill.Post
+    at = told (h .before) .before .before
+
+    both : {more : List Bool} → more ≡ set (e at .args .ticks) (e at .args .k) true → now (e at) ≡ then (e at) (e at .args .ticks) ++ then (e at) more
+    both p = unseen at p (told (h .before) .enum-told3 .given .1) (not-false _ (h .if4 .left))
 
   fill-requires-4 : fill-lts.Need-fill-requires-4 (claims t) (fill-at t) fill.Post
   fill-requires-4 c κs =
+      let h = c .before in
+      let s = at h in
+      let p = e s .pre .1 in
+      (omega (arith, next s), record { size = p .size; few-clocks = p .few-clocks; few-rules = p .few-rules; clock = omega (arith, next s); room = room-first (e s .args .n) (then (e s) (e s .args .ticks)) (then (e s) (set (e s .args .ticks) (e s .args .k) true)) (both h refl) (p .room) })
+
+  fill-requires-5 : fill-lts.Need-fill-requires-5 (claims t) (fill-at t) fill.Post
+  fill-requires-5 c κs =
       let w = c .before in
-      let f = w .before .before in
-      let s = told f .before .before in
-      let x = f .fill3 .ensures in
-      (omega (arith, next s), record { size = x .size; plan = e s .pre .1 .plan; clock = omega (arith, next s); room = room-second (e s .args .n) (f .fill3 .result) (then (e s) (e s .args .ticks)) (then (e s) (w .with-tick2 .result)) (unseen s (w .with-tick2 .ensures) (told f .enum-told3 .given .1) (not-false _ (w .before .if4 .left))) (e s .pre .1 .room) (x .fewer) })
+      let f = w .before in
+      let h = f .before .before in
+      let s = at h in
+      let p = e s .pre .1 in
+      let x = f .fill4 .ensures in
+      (omega (arith, next s), record { size = x .size; few-clocks = p .few-clocks; few-rules = p .few-rules; clock = omega (arith, next s); room = room-second (e s .args .n) (f .fill4 .result) (then (e s) (e s .args .ticks)) (then (e s) (w .with-tick2 .result)) (both h (w .with-tick2 .ensures)) (p .room) (x .fewer) })
 
   returns-5 : fill-lts.Need-returns-5 (claims t) (fill-at t) fill.Post
   returns-5 c =
@@ -168,15 +185,17 @@ module _ (t : ℕ) where
   returns-7 : fill-lts.Need-returns-7 (claims t) (fill-at t) fill.Post
   returns-7 c =
       let w = c .before .before in
-      let f = w .before .before in
-      let s = told f .before .before in
-      listed-both (rules (e s)) (unseen s (w .with-tick2 .ensures) (told f .enum-told3 .given .1) (not-false _ (w .before .if4 .left))) (f .fill3 .ensures) (c .fill4 .ensures)
+      let f = w .before in
+      let h = f .before .before in
+      listed-both (rules (e (at h))) (both h (w .with-tick2 .ensures)) (f .fill4 .ensures) (c .fill5 .ensures)
 
 pub +fill-spec : {M : Type 1} → statement M
 +fill-spec = close μ-fill λ t. fill-lts.spec (claims t) (fill-at t) fill.Post
+    (λ c. search needs) (λ c. search needs)
     (λ c κs. search needs) (put-flags-requires t) (λ c. search needs) (returns t) (returns-2 t)
-    (λ c κs. omega (arith, c .before .before .pre .1 .plan .clocks, c .before .before .pre .1 .clock)) (λ c. search needs) (λ c. search needs) (fill-requires t)
-    (λ c. search needs) (λ c κs. omega (arith, next t (c .before .before), c .before .before .before .before .before .pre .1 .plan .clocks)) (λ c. search needs) (fill-requires-2 t)
-    (λ c. search needs) (λ c κs. search needs) (returns-3 t) (λ c. search needs) (fill-requires-3 t) (λ c. omega (arith, next t (told t c .before .before), told t c .before .before .before .before .before .pre .1 .plan .clocks)) (returns-4 t)
-    (λ c κs. omega (arith, next t (told t (c .before) .before .before), told t (c .before) .before .before .before .before .before .pre .1 .plan .clocks)) (λ c. search needs) (fill-requires-4 t)
+    (λ c κs. omega (arith, c .before .before .before .pre .1 .few-clocks, c .before .before .before .pre .1 .clock)) (λ c. search needs) (λ c. search needs) (fill-requires t)
+    (λ c. search needs) (λ c κs. omega (arith, next t (c .before .before), e t (c .before .before) .pre .1 .few-clocks)) (λ c. search needs) (fill-requires-2 t)
+    (λ c. search needs) (λ c κs. search needs) (returns-3 t)
+    (λ c. omega (arith, next t (told t c .before .before), e t (told t c .before .before) .pre .1 .few-clocks)) (λ c. search needs) (fill-requires-3 t) (returns-4 t) (λ c. search needs) (fill-requires-4 t)
+    (λ c κs. omega (arith, next t (at t (c .before .before)), e t (at t (c .before .before)) .pre .1 .few-clocks)) (λ c. search needs) (fill-requires-5 t)
     (returns-5 t) (returns-6 t) (returns-7 t)

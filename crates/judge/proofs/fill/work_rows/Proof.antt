@@ -28,7 +28,7 @@ abbrev some : tie.After-tags-fit → tie.Else1
 some c = c .before .before .before
 
 abbrev fits : tie.After-flag-rows → tie.Else2
-fits c = c .before .before .before .before
+fits c = c .before .before .before .before .before .before
 
 -- those held
 module _ (k : tie.After-known-told) where
@@ -77,7 +77,7 @@ returns-2 c =
 
 flag-rows-requires : tie.Need-flag-rows-requires
 flag-rows-requires c κs =
-    let k = some (c .before .before .before .before) .before in
+    let k = some (c .before .before .before .before .before .before) .before in
     let x = small k in
     (omega (arith, x .0, start k .pre .side .one), x .1)
 
@@ -85,7 +85,7 @@ fill-requires : tie.Need-fill-requires
 fill-requires c κs =
     let f = c .before in
     let s = start (some (fits f .before) .before) in
-    record { size = s .pre .lists; plan = s .pre .plan; clock = omega arith; room = at-most-256 (f .flag-rows .result) (s .args .instant .ticks) (s .args .plan .clocks) (replicate 8 false) (s .pre .plan .clocks) }
+    record { size = s .pre .lists; few-clocks = s .pre .plan .clocks; few-rules = s .pre .plan .few-rules; clock = omega arith; room = at-most-256 (f .flag-rows .result) (s .args .instant .ticks) (s .args .plan .clocks) (replicate 8 false) (s .pre .plan .clocks) }
 
 settle-all-requires : tie.Need-settle-all-requires
 settle-all-requires c κs =
@@ -122,4 +122,4 @@ returns-4 c =
 
 pub work-rows-spec : {M : Type 1} → statement M
 work-rows-spec =
-    tie.close (tie.spec (λ c. search needs) (λ c. search needs) returns tags-fit-requires returns-2 flag-rows-requires fill-requires settle-all-requires returns-3 returns-4)
+    tie.close (tie.spec (λ c. search needs) (λ c. search needs) returns tags-fit-requires returns-2 (λ c. omega (arith, start (some (c .before .before) .before) .pre .plan .clocks)) (λ c. omega (arith, start (some (c .before .before .before) .before) .pre .plan .few-rules)) flag-rows-requires fill-requires settle-all-requires returns-3 returns-4)

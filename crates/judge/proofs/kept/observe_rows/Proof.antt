@@ -1,26 +1,22 @@
 -- `observe_rows` meets its contract: the refusals are tried in turn, and an accepted instant is worked on. Assumes nothing.
 use mathlib.Core.Bool.{true}
-use mathlib.Core.Path.{refl, sym}
+use mathlib.Core.Path.{_≡_, refl, sym, ap, _∙_}
+use Prim.Native.Nat.{ℕ}
 use native.Mathlib.Omega.{arith}
 use borrow.Author.Needs.{needs}
+use Rattle.records.specs.declared.sheet.Sheet.{Sheet}
+use Rattle.records.specs.Instant.{readInstant, instantRead}
 use Rattle.records.specs.Types.{IsBytes}
 use Rattle.judge.specs.declared.monitor.Monitor.{Monitor}
 use Rattle.judge.specs.Limits.{Limited}
-use Rattle.judge.specs.Kept.{keptMonitor}
+use Rattle.judge.specs.Kept.{keptMonitor, given, Ready}
+use Rattle.judge.specs.Promises.{Called}
 use Rattle.judge.proofs.monitor.Bytes.{all-bytes}
 use Rattle.judge.proofs.monitor.Called.{called-unread, called-full, blank-tags, called}
 use Rattle.judge.proofs.monitor.InRows.{answered-refused, answered-within}
 use Rattle.judge.proofs.kept.Laws.{limited, eight-rows}
 use Rattle.judge.proofs.kept.observe_rows.Statement.{statement}
 use Rattle.judge.proofs.kept.observe_rows.Tie as tie
-
--- ---- the start
-module _ (s : tie.Start) where
-  abbrev start : Monitor
-  start = keptMonitor (s .args .kept) (s .args .rows .now)
-
-  within : Limited start true
-  within = limited (s .args .kept) (s .args .rows .now) (s .pre .value) (s .pre .limits)
 
 -- ---- where the instant was read
 module _ (r : tie.After-read-instant) where
@@ -30,26 +26,37 @@ module _ (r : tie.After-read-instant) where
   abbrev first : tie.Start
   first = known .before
 
+  -- by a sheet that the plan is of
+  module _ (s : Sheet) (ready : Ready s (first .args .kept) (first .args .plan) (first .args .lines .now) (first .args .rows .now)) where
+    abbrev start : Monitor
+    start = keptMonitor s (first .args .kept) (first .args .rows .now)
+
+    within : Limited (keptMonitor s (first .args .kept) (first .args .rows .now)) true
+    within = limited s (first .args .kept) (first .args .rows .now) (ready .value) (ready .limits)
+
+    reads : r .read-instant .result ≡ instantRead (readInstant (s .clocks) (first .args .bytes .now))
+    reads = r .read-instant .ensures ∙ ap (λ (n : ℕ). instantRead (readInstant n (first .args .bytes .now))) (ready .planned .as-many)
+
 returns : tie.Need-returns
 returns c =
     let e = c .before in
     let r = e .before .before in
-    let s = first r in
     record {
-      called = called-full (start s) (s .args .bytes .now) (within s) refl (r .read-instant .ensures) (e .enum-told .given .1) (c .if1 .taken) refl;
-      tags = λ a f. answered-refused (sym f);
-      ready = s .pre;
+      room = first r .pre;
+      called = λ s ready. called-full (start r s ready) (first r .args .bytes .now) (within r s ready) refl (reads r s ready) (e .enum-told .given .1) (c .if1 .taken) refl;
+      tags = λ s ready x f. answered-refused (sym f);
+      ready = λ s ready. ready;
     }
 
 returns-2 : tie.Need-returns-2
 returns-2 c =
     let a = c .before in
     let r = a .before .before in
-    let s = first r in
     record {
-      called = called-unread (start s) (s .args .bytes .now) (within s) refl (r .read-instant .ensures) (a .answer .given .1) refl;
-      tags = λ x f. answered-refused (sym f);
-      ready = s .pre;
+      room = first r .pre;
+      called = λ s ready. called-unread (start r s ready) (first r .args .bytes .now) (within r s ready) refl (reads r s ready) (a .answer .given .1) refl;
+      tags = λ s ready x f. answered-refused (sym f);
+      ready = λ s ready. ready;
     }
 
 -- ---- where there is room for an instant
@@ -62,22 +69,34 @@ read e = e .before .before .before
 work-instant-requires : tie.Need-work-instant-requires
 work-instant-requires c κs = let e = room c in (first (read e) .pre, omega (arith, e .if1 .left))
 
+module _ (c : tie.After-work-instant) where
+  abbrev few : tie.Else1
+  few = room (c .before)
+
+  abbrev was-read : tie.After-read-instant
+  was-read = read (room (c .before))
+
+  abbrev entry : tie.Start
+  entry = first (read (room (c .before)))
+
+  bytes : IsBytes (entry .args .bytes .now)
+  bytes = all-bytes (entry .args .bytes .now) (λ i. known was-read .shared-slice-known .given i .fits)
+
+  observes : (s : Sheet) (ready : Ready s (entry .args .kept) (entry .args .plan) (entry .args .lines .now) (entry .args .rows .now)) → Called (keptMonitor s (entry .args .kept) (entry .args .rows .now)) (entry .args .bytes .now) (given (c .work-instant .result .reply) (keptMonitor s (c .work-instant .result .kept) (c .work-instant .last .1 .1 .1 .1 .0)))
+  observes s ready =
+      let k = entry .args .kept in
+      called (start was-read s ready) (entry .args .bytes .now) (within was-read s ready) refl (reads was-read s ready) (few .before .enum-told .given .1)
+      bytes (eight-rows (entry .args .rows .now) (k .from) (k .count)) (omega (arith, few .if1 .left)) (c .work-instant .ensures .accepts s ready)
+
 returns-3 : tie.Need-returns-3
-returns-3 c =
-    let e = room (c .before) in
-    let r = read e in
-    let s = first r in
-    let k = s .args .kept in
-    let w = c .work-instant .ensures in
-    let bytes : IsBytes (s .args .bytes .now) = all-bytes (s .args .bytes .now) (λ i. known r .shared-slice-known .given i .fits) in
-    let o = called (start s) (s .args .bytes .now) (within s) refl (r .read-instant .ensures) (e .before .enum-told .given .1) bytes (eight-rows (s .args .rows .now) (k .from) (k .count)) (omega (arith, e .if1 .left)) (w .accepts) in
-    record {
-      called = o;
-      tags = λ a f. rw (w .accepts .sheet, w .accepts .tags) (blank-tags (start s) (s .args .bytes .now) (within s) refl (r .read-instant .ensures) (e .before .enum-told .given .1) bytes);
-      ready = w .ready (answered-within o (w .accepts .said));
-    }
+returns-3 c = record {
+  room = c .work-instant .ensures .room;
+  called = observes c;
+  tags = λ s ready x f. rw (c .work-instant .ensures .accepts s ready .tags) (blank-tags (start (was-read c) s ready) (entry c .args .bytes .now) (within (was-read c) s ready) refl (reads (was-read c) s ready) (few c .before .enum-told .given .1) (bytes c));
+  ready = λ s ready. record { value = ready .value; planned = ready .planned; limits = answered-within (observes c s ready) (c .work-instant .ensures .accepts s ready .said) };
+}
 
 pub observe-rows-spec : {M : Type 1} → statement M
 observe-rows-spec =
-    tie.close (tie.spec (λ c κs. search needs) (λ c. search needs) (λ c. search needs)
+    tie.close (tie.spec (λ c. omega (arith, c .before .before .pre .plan .clocks)) (λ c κs. search needs) (λ c. search needs) (λ c. search needs)
     returns work-instant-requires returns-2 returns-3)

@@ -8,9 +8,10 @@ use Rattle.judge.specs.declared.answer.Reply.the-variants.{Refused}
 use Rattle.judge.specs.declared.kept.Kept.{Kept}
 use Rattle.judge.specs.declared.monitor.Monitor.{Monitor}
 use Rattle.judge.specs.Limits.{Limited}
+use Rattle.judge.specs.Fill.{Working}
 use Rattle.judge.specs.Kept.{keptMonitor, Ready}
 use Rattle.judge.specs.Promises.{Follows}
-use Rattle.judge.proofs.kept.Laws.{ready-stored, follows-stored, inside, has-room, prepares}
+use Rattle.judge.proofs.kept.Laws.{ready-stored, room-stored, follows-stored, inside, has-room, prepares}
 use Rattle.judge.proofs.log.Turns.{concludes-outside}
 use Rattle.judge.proofs.log.observe_all.Statement.{statement}
 use Rattle.judge.proofs.log.observe_all.Tie as tie
@@ -44,15 +45,17 @@ observe-records-requires c κs =
     let k = c .before .before .before in
     let h = k .before in
     let p = planned (h .before) in
-    let e = test p in
-    subst (λ (x : Kept). Ready x (p .plan-of .last .1 .0) (h .keep-held .last .0) (replicate 2048 false)) (sym (k .kept-of .ensures)) (ready-stored (monitor e) (p .plan-of .result) (h .keep-held .ensures) (within e) (p .plan-of .ensures) (length-replicate 2048 false))
+    subst (λ (x : Kept). Working (h .keep-held .last .0) (x .from) (x .count) (p .plan-of .result) (replicate 2048 false)) (sym (k .kept-of .ensures)) (room-stored (monitor (test p)) (h .keep-held .ensures) (p .plan-of .ensures) (length-replicate 2048 false))
 
 returns-2 : tie.Need-returns-2
 returns-2 c =
     let k = c .before .before .before .before in
     let h = k .before in
     let p = planned (h .before) in
-    λ s run f. c .observe-records .ensures s run (subst (λ (x : Kept). Follows s run (keptMonitor x (h .keep-held .last .0))) (sym (k .kept-of .ensures)) (follows-stored (monitor (test p)) (p .plan-of .result) (h .keep-held .ensures) f))
+    let e = test p in
+    let rows = h .keep-held .last .0 in
+    let ready = subst (λ (x : Kept). Ready (monitor e .sheet) x (p .plan-of .result) (p .plan-of .last .1 .0) rows) (sym (k .kept-of .ensures)) (ready-stored (monitor e) (h .keep-held .ensures) (within e) (p .plan-of .ensures)) in
+    λ s run f. c .observe-records .ensures (monitor e .sheet) ready s run (subst (λ (x : Kept). Follows s run (keptMonitor (monitor e .sheet) x rows)) (sym (k .kept-of .ensures)) (follows-stored (monitor e) (h .keep-held .ensures) f))
 
 pub observe-all-spec : {M : Type 1} → statement M
 observe-all-spec = tie.close (tie.spec (λ c κs. search needs) returns plan-of-requires keep-held-requires (λ c κs. search needs) observe-records-requires returns-2)

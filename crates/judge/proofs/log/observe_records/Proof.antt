@@ -4,7 +4,6 @@ use native.Mathlib.Omega.{arith}
 use lib.ListN.{length}
 use borrow.Author.Needs.{needs}
 use Rattle.records.specs.Types.{IsBytes}
-use Rattle.judge.specs.Kept.{keptMonitor}
 use Rattle.judge.proofs.log.Laws.{going-start, going-end, going-torn, going-fits, going-refused, going-more}
 use Rattle.judge.proofs.log.Turns.{Turns}
 use Rattle.judge.proofs.monitor.Bytes.{all-bytes}
@@ -12,13 +11,13 @@ use Rattle.judge.proofs.log.observe_records.Statement.{statement}
 use Rattle.judge.proofs.log.observe_records.Tie as tie
 
 abbrev Inv-loop : tie.InvT-loop
-Inv-loop log lines rows₀ list₀ kept₀ reply₀ instants₀ at₀ rows list kept reply instants at = Turns log (keptMonitor kept₀ rows₀) reply₀ kept reply instants at lines rows list
+Inv-loop log plan lines rows₀ list₀ kept₀ reply₀ instants₀ at₀ rows list kept reply instants at = Turns log kept₀ rows₀ reply₀ plan lines kept reply instants at rows list
 
 abbrev μ-loop : tie.MeasureT-loop
-μ-loop log lines rows₀ list₀ kept₀ reply₀ instants₀ at₀ rows list kept reply instants at = length log - at
+μ-loop log plan lines rows₀ list₀ kept₀ reply₀ instants₀ at₀ rows list kept reply instants at = length log - at
 
 loop-holds : tie.Need-loop-holds Inv-loop μ-loop
-loop-holds c = let s = c .before in record { going = going-start (s .args .log .now) _ _; ready = s .pre }
+loop-holds c = let s = c .before in record { few = omega arith; room = s .pre; going = λ v ready. going-start (s .args .log .now) _ _; ready = λ v ready. ready }
 
 -- ---- the log
 module _ (k : tie.After-shared-slice-known Inv-loop μ-loop) where
@@ -32,7 +31,7 @@ returns : tie.Need-returns Inv-loop μ-loop
 returns c =
     let r = c .before .before in
     let i = r .before in
-    going-torn (i .before .loop .inv .going) (i .loop-test .taken) (r .record-at .ensures) (c .enum-told .given .1)
+    λ v ready. going-torn (i .before .loop .inv .going v ready) (i .loop-test .taken) (r .record-at .ensures) (c .enum-told .given .1)
 
 -- ---- a whole record, which is within the log
 module _ (c : tie.After-known-told Inv-loop μ-loop) where
@@ -49,10 +48,10 @@ module _ (c : tie.After-known-told Inv-loop μ-loop) where
   known = turn .before .before
 
   fits : turn .before .loop .at + 4 + len .len .given .0 .1 .0 ≤ length (known .before .args .log .now)
-  fits = going-fits (turn .before .loop .inv .going) (turn .loop-test .taken) (record-at .record-at .ensures) (len .len .given .1)
+  fits = going-fits (known .before .args .log .now) _ (record-at .record-at .ensures) (len .len .given .1)
 
 observe-rows-requires : tie.Need-observe-rows-requires Inv-loop μ-loop
-observe-rows-requires c κs = turn (c .before .before .before) .before .loop .inv .ready
+observe-rows-requires c κs = turn (c .before .before .before) .before .loop .inv .room
 
 -- ---- the record observed
 abbrev whole : tie.After-observe-rows Inv-loop μ-loop → tie.After-known-told Inv-loop μ-loop
@@ -63,7 +62,8 @@ returns-2 c =
     let o = c .before .before in
     let k = whole o in
     let i = turn k in
-    going-refused (i .before .loop .inv .going) (i .loop-test .taken) (record-at k .record-at .ensures) (len k .len .given .1) (log-bytes (known k)) (o .observe-rows .ensures .called) (c .enum-told2 .given .1)
+    let w = i .before .loop .inv in
+    λ v ready. going-refused (w .going v ready) (i .loop-test .taken) (record-at k .record-at .ensures) (len k .len .given .1) (log-bytes (known k)) (o .observe-rows .ensures .called v (w .ready v ready)) (c .enum-told2 .given .1)
 
 abbrev answered : tie.After-next Inv-loop μ-loop → tie.After-observe-rows Inv-loop μ-loop
 answered c = c .before .before .before
@@ -72,7 +72,7 @@ add-instants : tie.Need-add-instants Inv-loop μ-loop
 add-instants c =
     let k = whole (answered c) in
     let i = turn k in
-    omega (arith, i .before .loop .inv .going .few, i .loop-test .taken, log-fits (known k))
+    omega (arith, i .before .loop .inv .few, i .loop-test .taken, log-fits (known k))
 
 loop-less : tie.Need-loop-less Inv-loop μ-loop
 loop-less c = omega (arith, turn (whole (answered c)) .loop-test .taken)
@@ -82,13 +82,16 @@ loop-again c =
     let o = answered c in
     let k = whole o in
     let i = turn k in
+    let w = i .before .loop .inv in
     record {
-      going = going-more (i .before .loop .inv .going) (i .loop-test .taken) (record-at k .record-at .ensures) (len k .len .given .1) (log-bytes (known k)) (o .observe-rows .ensures .called) (c .before .enum-told3 .given .1);
-      ready = o .observe-rows .ensures .ready;
+      few = omega (arith, w .few);
+      room = o .observe-rows .ensures .room;
+      going = λ v ready. going-more (w .going v ready) (i .loop-test .taken) (record-at k .record-at .ensures) (len k .len .given .1) (log-bytes (known k)) (o .observe-rows .ensures .called v (w .ready v ready)) (c .before .enum-told3 .given .1);
+      ready = λ v ready. o .observe-rows .ensures .ready v (w .ready v ready);
     }
 
 returns-3 : tie.Need-returns-3 Inv-loop μ-loop
-returns-3 c = going-end (c .before .loop .inv .going) (c .loop-test .left)
+returns-3 c = λ v ready. going-end (c .before .loop .inv .going v ready) (c .loop-test .left)
 
 pub observe-records-spec : {M : Type 1} → statement M
 observe-records-spec =

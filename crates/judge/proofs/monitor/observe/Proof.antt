@@ -7,8 +7,9 @@ use borrow.Author.Needs.{needs}
 use Rattle.judge.specs.declared.kept.Kept.{Kept}
 use Rattle.judge.specs.declared.monitor.Monitor.{Monitor}
 use Rattle.judge.specs.Limits.{Limited}
-use Rattle.judge.specs.Kept.{keptOf, Ready, Takes}
-use Rattle.judge.proofs.kept.Laws.{ready-stored, inside, has-room, prepares}
+use Rattle.judge.specs.Fill.{Working}
+use Rattle.judge.specs.Kept.{keptOf, Takes}
+use Rattle.judge.proofs.kept.Laws.{room-stored, inside, has-room, prepares}
 use Rattle.judge.proofs.monitor.Called.{observed-outside}
 use Rattle.judge.proofs.monitor.InRows.{refused-rows, found-next, answered-rows}
 use Rattle.judge.proofs.monitor.observe.Statement.{statement}
@@ -50,8 +51,7 @@ observe-rows-requires c κs =
     let k = c .before .before .before in
     let h = k .before in
     let p = planned (h .before) in
-    let e = test p in
-    subst (λ (x : Kept). Ready x (p .plan-of .last .1 .0) (h .keep-held .last .0) (replicate 2048 false)) (sym (k .kept-of .ensures)) (ready-stored (monitor e) (p .plan-of .result) (h .keep-held .ensures) (within e) (p .plan-of .ensures) (length-replicate 2048 false))
+    subst (λ (x : Kept). Working (h .keep-held .last .0) (x .from) (x .count) (p .plan-of .result) (replicate 2048 false)) (sym (k .kept-of .ensures)) (room-stored (monitor (test p)) (h .keep-held .ensures) (p .plan-of .ensures) (length-replicate 2048 false))
 
 -- ---- the instant observed
 module _ (o : tie.After-observe-rows) where
@@ -64,9 +64,9 @@ module _ (o : tie.After-observe-rows) where
   abbrev entry : tie.Start
   entry = start (test plan)
 
-  takes : Takes (keptOf (entry .args .monitor) (plan .plan-of .result)) (entry .args .bytes .now) (plan .plan-of .last .1 .0) (o .observe-rows .result) (kept .before .keep-held .last .0) (o .observe-rows .last .1 .1 .1 .0) (o .observe-rows .last .1 .1 .1 .1 .0)
+  takes : Takes (keptOf (entry .args .monitor)) (plan .plan-of .result) (entry .args .bytes .now) (plan .plan-of .last .1 .0) (o .observe-rows .result) (kept .before .keep-held .last .0) (o .observe-rows .last .1 .1 .1 .1 .0) (o .observe-rows .last .1 .1 .1 .1 .1 .0)
   takes =
-      subst (λ (x : Kept). Takes x (entry .args .bytes .now) (plan .plan-of .last .1 .0) (o .observe-rows .result) (kept .before .keep-held .last .0) (o .observe-rows .last .1 .1 .1 .0) (o .observe-rows .last .1 .1 .1 .1 .0)) (kept .kept-of .ensures)
+      subst (λ (x : Kept). Takes x (plan .plan-of .result) (entry .args .bytes .now) (plan .plan-of .last .1 .0) (o .observe-rows .result) (kept .before .keep-held .last .0) (o .observe-rows .last .1 .1 .1 .1 .0) (o .observe-rows .last .1 .1 .1 .1 .1 .0)) (kept .kept-of .ensures)
       (o .observe-rows .ensures)
 
 returns-2 : tie.Need-returns-2
@@ -75,17 +75,17 @@ returns-2 c =
     let o = r .before .before in
     let p = plan o in
     let e = test p in
-    refused-rows (monitor e) (within e) (p .plan-of .result) (kept o .before .keep-held .ensures) (takes o) (r .reply .given .1) (c .refuse2 .ensures)
+    refused-rows (monitor e) (within e) (p .plan-of .ensures) (kept o .before .keep-held .ensures) (takes o) (r .reply .given .1) (c .refuse2 .ensures)
 
 abbrev answered : tie.After-rows3 → tie.After-enum-told
-answered c = c .before .before .before .before
+answered c = c .before .before
 
 from-rows-requires : tie.Need-from-rows-requires
 from-rows-requires c κs =
     let o = answered c .before .before in
     let p = plan o in
     let e = test p in
-    found-next (monitor e) (within e) (p .plan-of .result) (kept o .before .keep-held .ensures) (takes o)
+    found-next (monitor e) (within e) (p .plan-of .ensures) (kept o .before .keep-held .ensures) (takes o)
 
 returns-3 : tie.Need-returns-3
 returns-3 c =
@@ -94,7 +94,7 @@ returns-3 c =
     let o = a .before .before in
     let p = plan o in
     let e = test p in
-    answered-rows (monitor e) (within e) (p .plan-of .result) (kept o .before .keep-held .ensures) (takes o) (a .enum-told .given .1) (b .from-rows .ensures)
+    answered-rows (monitor e) (within e) (p .plan-of .ensures) (kept o .before .keep-held .ensures) (takes o) (a .enum-told .given .1) (b .from-rows .ensures)
 
 pub observe-spec : {M : Type 1} → statement M
 observe-spec =
