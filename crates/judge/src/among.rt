@@ -43,13 +43,13 @@ fn same_stopped(rows: &[u32; SIZE], i: usize, x: usize, clocks: usize) -> bool
     requires { ⌜ (i < height) × ((x < height) × (clocks ≤ 8)) ⌝ }
     ensures { λ r. ⌜ r ≡ below clocks (λ (k : ℕ). Bool·beq (rowStop (now (rows .entry)) x k) (rowStop (now (rows .entry)) i k)) ⌝ }
 {
-    let mut k = clocks;
-    while 0 < k {
-        k -= 1;
+    let mut k = 0;
+    while k < clocks {
         let is_stopped = flag_in(word_at(rows, x, STOPPED + k));
         if is_stopped != flag_in(word_at(rows, i, STOPPED + k)) {
             return false;
         }
+        k += 1;
     }
     true
 }
