@@ -12,6 +12,7 @@ mod kept;
 mod leads;
 mod limits;
 mod line;
+mod line_words;
 mod lines;
 mod list;
 pub mod log;

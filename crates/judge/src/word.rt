@@ -49,6 +49,12 @@ pub(crate) fn due_word(due: i32) -> u32
     }
 }
 
+pub(crate) fn number_in(w: u32) -> u16
+    ensures { λ r. ⌜ r ≡ w % 65536 ⌝ }
+{
+    (w % 65536) as u16
+}
+
 pub(crate) fn lead_in(w: u32) -> u16
     ensures { λ r. ⌜ r ≡ w % 65536 ⌝ }
 {
