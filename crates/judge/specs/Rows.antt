@@ -28,6 +28,16 @@ height = 72
 abbrev pub words : ℕ
 words = 4608
 
+-- where a row's leads begin, its stopped clocks, and its free words
+abbrev pub leadsPart : ℕ
+leadsPart = 25
+
+abbrev pub stoppedPart : ℕ
+stoppedPart = 41
+
+abbrev pub partsEnd : ℕ
+partsEnd = 49
+
 -- rows of the head; the first side begins after them, and the second here; both first rows together
 abbrev pub headRows : ℕ
 headRows = 6
@@ -56,10 +66,10 @@ rowOwed rows i = listed (rowObligation rows i) (rowCount rows i)
 
 -- the lead of line k, whether clock k is stopped, and all
 abbrev pub rowLead : List ℕ → ℕ → ℕ → ℕ
-rowLead rows i k = word rows i (25 + k)
+rowLead rows i k = word rows i (leadsPart + k)
 
 abbrev pub rowStop : List ℕ → ℕ → ℕ → Bool
-rowStop rows i k = flagOf (word rows i (41 + k))
+rowStop rows i k = flagOf (word rows i (stoppedPart + k))
 
 abbrev pub rowLeads : List ℕ → ℕ → List ℕ
 rowLeads rows i = listed (rowLead rows i) 16
@@ -109,7 +119,7 @@ pub record Between (rows : List ℕ) (i to : ℕ) : Type 0 where
 
 -- an obligation in place j of row i; the others stay
 pub record PutObligation (i j : ℕ) (o : Obligation) (a b : List ℕ) : Type 0 where
-  pub stays : Stays i 1 25 a b
+  pub stays : Stays i 1 leadsPart a b
   pub here : rowObligation b i j ≡ o
   pub others : (k : ℕ) → k < 8 → (k ≡ j → ⊥) → rowObligation b i k ≡ rowObligation a i k
 
@@ -120,28 +130,28 @@ pub record ObligationsAt (i n : ℕ) (os : List code.Obligation) (rows : List �
 
 -- row `to` owes what an instant leaves of what row i owes, unless one of it is late
 pub record KeptRow (f : Filled) (i to : ℕ) (r : Bool) (a b : List ℕ) : Type 0 where
-  pub stays : Stays to 0 25 a b
+  pub stays : Stays to 0 leadsPart a b
   pub owed : provided r (rowOwed b to) ≡ kept f (rowOwed a i)
   pub few : r ≡ true → rowCount b to ≤ 8
 
 -- row i with one obligation more, unless a ninth has no room
 pub record AddedRow (i : ℕ) (o : Obligation) (r : Bool) (a b : List ℕ) : Type 0 where
-  pub stays : Stays i 0 25 a b
+  pub stays : Stays i 0 leadsPart a b
   pub owed : provided r (rowOwed b i) ≡ added (rowOwed a i) o
   pub few : rowCount b i ≤ 8
 
 -- row i with the obligations that were begun
 pub record BegunRow (i : ℕ) (os : List Obligation) (r : Bool) (a b : List ℕ) : Type 0 where
-  pub stays : Stays i 0 25 a b
+  pub stays : Stays i 0 leadsPart a b
   pub owed : provided r (rowOwed b i) ≡ addedAll os (rowOwed a i)
   pub few : rowCount b i ≤ 8
 
 -- leads with what precedes lines gain and without what they lose, where they are small
 pub record LeadsOn (reach : ℕ) (gains losses : List ℕ) (i to : ℕ) (a b : List ℕ) : Type 0 where
-  pub stays : Stays to 25 41 a b
+  pub stays : Stays to leadsPart stoppedPart a b
   pub leads : (k : ℕ) → k < reach → rowLead a i k < 65536 → rowLead b to k ≡ rowLead a i k + getD gains k 0 - getD losses k 0
 
 -- the stopped clocks of row i, with more
 pub record StoppedOn (stops : List Bool) (i to : ℕ) (a b : List ℕ) : Type 0 where
-  pub stays : Stays to 41 49 a b
+  pub stays : Stays to stoppedPart partsEnd a b
   pub stopped : rowStopped b to ≡ either (rowStopped a i) stops

@@ -15,7 +15,7 @@ use Rattle.judge.specs.View.{remainderOf, blankRemainder, cut, viewOf, l
 use Rattle.judge.specs.Unused.{BlankFrom, NothingUnused}
 use Rattle.judge.specs.Lines.{smallLeads}
 use Rattle.judge.specs.Plan.{Fitting, Planned}
-use Rattle.judge.specs.Rows.{secondSide, headRows, height, words, rowCount, rowOwed, rowLead, rowLeads, rowStop, rowStopped, rowOf, rowsOf, Small, Stays, HeadStays}
+use Rattle.judge.specs.Rows.{leadsPart, stoppedPart, partsEnd, secondSide, headRows, height, words, rowCount, rowOwed, rowLead, rowLeads, rowStop, rowStopped, rowOf, rowsOf, Small, Stays, HeadStays}
 use Rattle.judge.specs.Settle.{foundIn, SmallIn}
 
 -- ---- stored
@@ -27,21 +27,21 @@ pub record Place (rows : List ℕ) (i : ℕ) : Type 0 where
 
 -- what a remainder owes, its leads and its stopped clocks, in row i
 pub record PutObligations (i n : ℕ) (os : List Obligation) (a b : List ℕ) : Type 0 where
-  pub stays : Stays i 0 25 a b
+  pub stays : Stays i 0 leadsPart a b
   pub count : rowCount b i ≡ n
   pub owed : rowOwed b i ≡ os
 
 pub record PutLeads (i : ℕ) (xs : List ℕ) (a b : List ℕ) : Type 0 where
-  pub stays : Stays i 25 41 a b
+  pub stays : Stays i leadsPart stoppedPart a b
   pub leads : rowLeads b i ≡ xs
 
 pub record PutStopped (i : ℕ) (xs : List Bool) (a b : List ℕ) : Type 0 where
-  pub stays : Stays i 41 49 a b
+  pub stays : Stays i stoppedPart partsEnd a b
   pub stopped : rowStopped b i ≡ xs
 
 -- the row reads as the struct does, and so of every sheet
 pub record PutRemainder (i : ℕ) (r : arrays.Remainder) (a b : List ℕ) : Type 0 where
-  pub stays : Stays i 0 49 a b
+  pub stays : Stays i 0 partsEnd a b
   pub count : rowCount b i ≡ r .owed
   pub row : rowOf b i ≡ remainderOf r
 

@@ -9,7 +9,7 @@ use Rattle.tesl.specs.Run.{Filled}
 use Rattle.tesl.specs.Fits.{Obligation}
 use Rattle.judge.specs.Word.{flagOf}
 use Rattle.judge.specs.Carried.{either}
-use Rattle.judge.specs.Rows.{width, rowCount, rowOwed, rowLead, rowStopped, Stays, KeptRow, BegunRow, LeadsOn, StoppedOn}
+use Rattle.judge.specs.Rows.{leadsPart, stoppedPart, width, rowCount, rowOwed, rowLead, rowStopped, Stays, KeptRow, BegunRow, LeadsOn, StoppedOn}
 use Rattle.judge.proofs.Listing.{listed-same}
 use Rattle.judge.proofs.rows.Laws.{stays-wide, stays-on, owed-stays}
 
@@ -35,13 +35,13 @@ module _ {i to : ℕ} (apart : i ≡ to → ⊥) {f : Filled} {k : Bool} {a b : 
       built-owed = owed-stays (stopped .stays) to few (λ q x e y z. omega arith) ∙ owed-stays (led .stays) to (begun .few) (λ q x e y z. omega arith)
 
       lead : (j : ℕ) → j < reach → reach ≤ 16 → rowLead c i j ≡ rowLead a i j
-      lead j h l = over-stays .same i (25 + j) (omega arith) (λ e. absurd (apart e))
+      lead j h l = over-stays .same i (leadsPart + j) (omega arith) (λ e. absurd (apart e))
 
       pub built-leads : reach ≤ 16 → (j : ℕ) → j < reach → rowLead a i j < 65536 → rowLead e to j ≡ rowLead a i j + getD gains j 0 - getD losses j 0
       built-leads l j h s =
-          stopped .stays .same to (25 + j) (omega arith) (λ e x y. omega arith) ∙ led .leads j h (rw (lead j h l) s) ∙ rw (lead j h l)
+          stopped .stays .same to (leadsPart + j) (omega arith) (λ e x y. omega arith) ∙ led .leads j h (rw (lead j h l) s) ∙ rw (lead j h l)
 
       pub built-stopped : rowStopped e to ≡ either (rowStopped a i) stops
       built-stopped =
           stopped .stopped
-          ∙ ap (λ (xs : List Bool). either xs stops) (listed-same 8 (λ j h. ap flagOf (led .stays .same i (41 + j) (omega arith) (λ e. absurd (apart e)) ∙ over-stays .same i (41 + j) (omega arith) (λ e. absurd (apart e)))))
+          ∙ ap (λ (xs : List Bool). either xs stops) (listed-same 8 (λ j h. ap flagOf (led .stays .same i (stoppedPart + j) (omega arith) (λ e. absurd (apart e)) ∙ over-stays .same i (stoppedPart + j) (omega arith) (λ e. absurd (apart e)))))

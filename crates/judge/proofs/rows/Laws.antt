@@ -9,7 +9,7 @@ use lib.Seq.{getD-set-same, getD-set-other}
 use Rattle.records.specs.Lists.{listed}
 use Rattle.tesl.specs.Fits.{Obligation}
 use Rattle.judge.specs.Word.{dueOf}
-use Rattle.judge.specs.Rows.{width, words, word, rowCount, rowObligation, rowOwed, Stays, PutObligation}
+use Rattle.judge.specs.Rows.{leadsPart, width, words, word, rowCount, rowObligation, rowOwed, Stays, PutObligation}
 use Rattle.judge.proofs.Listing.{listed-same, listed-next}
 
 -- ---- one word
@@ -44,7 +44,7 @@ pub same-obligation : {c c′ o o′ : ℕ} {t t′ : ℤ} → c ≡ c′ → t 
 same-obligation a b c = rw (a, b, c)
 
 -- obligation k of a row whose words are the same
-pub obligation-stays : {i lo hi : ℕ} {a b : List ℕ} → Stays i lo hi a b → (h k : ℕ) → k < 8 → ((p : ℕ) → 1 ≤ p → p < 25 → h ≡ i → lo ≤ p → p < hi → ⊥) → rowObligation b h k ≡ rowObligation a h k
+pub obligation-stays : {i lo hi : ℕ} {a b : List ℕ} → Stays i lo hi a b → (h k : ℕ) → k < 8 → ((p : ℕ) → 1 ≤ p → p < leadsPart → h ≡ i → lo ≤ p → p < hi → ⊥) → rowObligation b h k ≡ rowObligation a h k
 obligation-stays s h k l f =
     same-obligation
     (ap (λ (w : ℕ). w % 256) (s .same h (1 + k) (omega arith) (f (1 + k) (omega arith) (omega arith))))
@@ -71,7 +71,7 @@ module _ (a : List ℕ) (i j c n d : ℕ) (size : length a ≡ words) (row : i <
   pub obligation-put : {o : Obligation} → c % 256 ≡ o .clock → n % 256 ≡ o .on → dueOf d ≡ o .due → PutObligation i j o a third
   obligation-put ec en ed =
       record {
-        stays = stays-put (stays-put (stays-put (stays-all i 1 25 a) (1 + j) c (omega arith) (omega arith) (omega arith)) (9 + j) n (omega arith) (omega arith) (omega arith)) (17 + j) d (omega arith) (omega arith) (omega arith);
+        stays = stays-put (stays-put (stays-put (stays-all i 1 leadsPart a) (1 + j) c (omega arith) (omega arith) (omega arith)) (9 + j) n (omega arith) (omega arith) (omega arith)) (17 + j) d (omega arith) (omega arith) (omega arith);
         here = same-obligation
             (rw (stored-other second i (17 + j) d i (1 + j) (omega arith) (omega arith) (λ z e. omega arith), stored-other first i (9 + j) n i (1 + j) (omega arith) (omega arith) (λ z e. omega arith), stored a i (1 + j) c (omega arith)) ec)
             (rw (stored second i (17 + j) d (omega (arith, long))) ed)
@@ -102,6 +102,6 @@ module _ (a : List ℕ) (i n : ℕ) (size : length a ≡ words) (row : i < 72) w
       (listed-same n (λ k l. obligation-stays (stays-put (stays-all i 0 1 a) 0 n (omega arith) (omega arith) (omega arith)) i k (omega arith) (λ p x y e l m. omega arith)))
 
 -- what another row owes, or this one where other words are stored
-pub owed-stays : {i lo hi : ℕ} {a b : List ℕ} → Stays i lo hi a b → (h : ℕ) → rowCount a h ≤ 8 → ((p : ℕ) → p < 25 → h ≡ i → lo ≤ p → p < hi → ⊥) → rowOwed b h ≡ rowOwed a h
+pub owed-stays : {i lo hi : ℕ} {a b : List ℕ} → Stays i lo hi a b → (h : ℕ) → rowCount a h ≤ 8 → ((p : ℕ) → p < leadsPart → h ≡ i → lo ≤ p → p < hi → ⊥) → rowOwed b h ≡ rowOwed a h
 owed-stays {a = a} s h few f =
     rw (s .same h 0 (omega arith) (f 0 (omega arith))) (listed-same (rowCount a h) (λ k l. obligation-stays s h k (omega arith) (λ p x. f p)))

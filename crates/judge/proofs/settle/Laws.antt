@@ -17,7 +17,7 @@ use Rattle.theory.specs.Adding.{addedTo, onceEach}
 use Rattle.judge.specs.Word.{flagOf}
 use Rattle.judge.specs.Advanced.{Advanced, fails, over, onto}
 use Rattle.judge.specs.Work.{sameCounted, inserted, took, advanced, settledAll}
-use Rattle.judge.specs.Rows.{rowCount, rowOf, Stays}
+use Rattle.judge.specs.Rows.{leadsPart, stoppedPart, rowCount, rowOf, Stays}
 use Rattle.judge.proofs.Listing.{listed-same}
 use Rattle.judge.proofs.rows.Laws.{owed-stays}
 use Rattle.judge.proofs.work.Heed.{took-none}
@@ -28,8 +28,8 @@ use Rattle.judge.proofs.advance.Row.{same-remainder}
 pub row-stays : {i lo hi : ℕ} {a b : List ℕ} → Stays i lo hi a b → (h : ℕ) → rowCount a h ≤ 8 → (h ≡ i → ⊥) → rowOf b h ≡ rowOf a h
 row-stays s h few f =
     same-remainder (owed-stays s h few (λ p l e. absurd (f e)))
-    (listed-same 16 (λ k l. s .same h (25 + k) (omega arith) (λ e. absurd (f e))))
-    (listed-same 8 (λ k l. ap flagOf (s .same h (41 + k) (omega arith) (λ e. absurd (f e)))))
+    (listed-same 16 (λ k l. s .same h (leadsPart + k) (omega arith) (λ e. absurd (f e))))
+    (listed-same 8 (λ k l. ap flagOf (s .same h (stoppedPart + k) (omega arith) (λ e. absurd (f e)))))
 
 module _ (room : ℕ) (v : SheetValue) (f : Filled) (begun : List Obligation) where
   abbrev all : List Remainder → Option (List Remainder) → Option (List Remainder)

@@ -18,7 +18,7 @@ use Rattle.judge.specs.View.{owedOf, inUse, cut, viewOf}
 use Rattle.judge.specs.Unused.{NothingUnused}
 use Rattle.judge.specs.Lines.{smallLeads}
 use Rattle.judge.specs.Plan.{isPrecedes, Planned}
-use Rattle.judge.specs.Rows.{rowCount, rowOwed, rowLead, rowLeads, rowStop, rowStopped, rowOf, ObligationsAt}
+use Rattle.judge.specs.Rows.{partsEnd, rowCount, rowOwed, rowLead, rowLeads, rowStop, rowStopped, rowOf, ObligationsAt}
 use Rattle.judge.specs.Stored.{PutObligations, PutLeads, PutStopped, PutRemainder, LeadsAt, StoppedAt, RemainderAt}
 use Rattle.judge.proofs.Listing.{listed-at, listed-same}
 use Rattle.judge.proofs.rows.Laws.{stays-wide, stays-on, owed-stays}
@@ -44,7 +44,7 @@ module _ {i : ℕ} (r : arrays.Remainder) (few : r .owed ≤ 8) {a b c d : List 
   pub remainder-put : PutRemainder i r a d
   remainder-put =
       record {
-        stays = stays-on (stays-wide (owed .stays) 0 49 (omega arith) (omega arith)) (stays-on (stays-wide (led .stays) 0 49 (omega arith) (omega arith)) (stays-wide (stopped .stays) 0 49 (omega arith) (omega arith)));
+        stays = stays-on (stays-wide (owed .stays) 0 partsEnd (omega arith) (omega arith)) (stays-on (stays-wide (led .stays) 0 partsEnd (omega arith) (omega arith)) (stays-wide (stopped .stays) 0 partsEnd (omega arith) (omega arith)));
         count = count-there;
         row = same-remainder owed-there leads-there (stopped .stopped);
       }

@@ -8,7 +8,7 @@ use borrow.Author.Needs.{needs}
 use borrow.Author.Tests.{lt-ltb, le-ltb}
 use Rattle.records.proofs.Lists.{length-listed}
 use Rattle.theory.specs.Adding.{addedTo}
-use Rattle.judge.specs.Rows.{rowCount, rowObligation, rowOwed}
+use Rattle.judge.specs.Rows.{leadsPart, rowCount, rowObligation, rowOwed}
 use Rattle.judge.proofs.rows.Laws.{stays-all, stays-wide, stays-put, owed-next, owed-put, count-put}
 use Rattle.judge.proofs.advance.add_row.Statement.{statement}
 use Rattle.judge.proofs.advance.add_row.Tie as tie
@@ -42,7 +42,7 @@ returns-3 c =
     let few : n .result + 1 ≤ 8 = omega arith in
     rw (c .put-word .ensures, c .before .count-word .ensures)
     record {
-      stays = stays-put (stays-wide (p .stays) 0 25 (omega arith) (omega arith)) 0 _ (omega arith) (omega arith) (omega arith);
+      stays = stays-put (stays-wide (p .stays) 0 leadsPart (omega arith) (omega arith)) 0 _ (omega arith) (omega arith) (omega arith);
       owed = ap some (owed-put m (s .args .i) (n .result + 1) size (s .pre .row) few ∙ owed-next p (omega arith)) ∙ simp (n .ensures, sym (e .before .row-owes .ensures) ∙ e .if1 .left, lt-ltb _ _ k);
       few = rw (count-put m (s .args .i) (n .result + 1) size (s .pre .row)) few;
     }

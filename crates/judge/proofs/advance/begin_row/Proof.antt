@@ -8,7 +8,7 @@ use borrow.Author.Needs.{needs}
 use Rattle.tesl.specs.Fits.{Obligation}
 use Rattle.judge.specs.View.{obligationOf, firstOf, blankObligation}
 use Rattle.judge.specs.Work.{addedAll}
-use Rattle.judge.specs.Rows.{rowCount, rowOwed, Stays}
+use Rattle.judge.specs.Rows.{leadsPart, rowCount, rowOwed, Stays}
 use Rattle.judge.proofs.Places as places
 use Rattle.judge.proofs.advance.Adding.{rest-end, rest-over, rest-more}
 use Rattle.judge.proofs.rows.Laws.{stays-all, stays-on}
@@ -19,7 +19,7 @@ record Beginning (i n : ℕ) (os : List Obligation) (was rows : List ℕ) (j : �
   turns : j ≤ n
   few : rowCount rows i ≤ 8
   added : addedAll os (rowOwed was i) ≡ addedAll (drop j os) (rowOwed rows i)
-  stays : Stays i 0 25 was rows
+  stays : Stays i 0 leadsPart was rows
 
 abbrev Inv-loop : tie.InvT-loop
 Inv-loop was i n begun j₀ rows j = Beginning i n (firstOf n begun) was rows j

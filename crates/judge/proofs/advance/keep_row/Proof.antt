@@ -12,7 +12,7 @@ use Rattle.tesl.specs.Run.{Filled}
 use Rattle.tesl.specs.Fits.{Obligation}
 use Rattle.judge.specs.View.{obligationOf, filledOf}
 use Rattle.judge.specs.Owed.{kept}
-use Rattle.judge.specs.Rows.{words, rowCount, rowObligation, rowOwed, Stays}
+use Rattle.judge.specs.Rows.{leadsPart, words, rowCount, rowObligation, rowOwed, Stays}
 use Rattle.judge.proofs.owed.Laws.{keptFrom, keeping-start, keeping-end, keeping-met, keeping-late, keeping-more}
 use Rattle.judge.proofs.rows.Laws.{stays-all, stays-put, stays-wide, stays-on, obligation-stays, owed-next, owed-put, count-put}
 use Rattle.judge.proofs.advance.keep_row.Statement.{statement}
@@ -26,7 +26,7 @@ record Keeping (f : Filled) (i to n : ℕ) (was rows : List ℕ) (count j : ℕ)
   turns : j ≤ n
   fewer : count ≤ j
   left : kept f (rowOwed was i) ≡ keptFrom f (listed (rowObligation rows to) count) (rest was i n j)
-  stays : Stays to 0 25 was rows
+  stays : Stays to 0 leadsPart was rows
 
 abbrev Inv-loop : tie.InvT-loop
 Inv-loop was i to ticks tags n count₀ j₀ rows count j = Keeping (filledOf ticks tags) i to n was rows count j
@@ -53,7 +53,7 @@ loop-holds c =
       turns = omega arith;
       fewer = omega arith;
       left = keeping-start (filledOf (a .ticks) (a .tags)) (ap (listedFrom (rowObligation (a .rows .now) (a .i)) 0) e);
-      stays = stays-all (a .to) 0 25 (a .rows .now);
+      stays = stays-all (a .to) 0 leadsPart (a .rows .now);
     }
 
 -- the obligation of this turn is the next of row i, which stays
@@ -115,7 +115,7 @@ loop-again-2 c =
       turns = omega arith;
       fewer = omega arith;
       left = rw (owed-next p (omega (arith, few at))) (keeping-more _ _ _ (w .left) (next (k .before .before)) (m .ensures) (k .if1 .left) (l .ensures) (e .if2 .left));
-      stays = stays-on (w .stays) (stays-wide (p .stays) 0 25 (omega arith) (omega arith));
+      stays = stays-on (w .stays) (stays-wide (p .stays) 0 leadsPart (omega arith) (omega arith));
     }
 
 count-word-requires : tie.Need-count-word-requires Inv-loop μ-loop

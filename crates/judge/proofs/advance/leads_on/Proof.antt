@@ -5,7 +5,7 @@ use Prim.Native.Nat.{ℕ, _+_, _-_, _≤_, _<_}
 use native.Mathlib.Omega.{arith}
 use lib.ListN.{getD}
 use borrow.Author.Needs.{needs}
-use Rattle.judge.specs.Rows.{rowLead}
+use Rattle.judge.specs.Rows.{leadsPart, stoppedPart, rowLead}
 use Rattle.judge.proofs.rows.Storing.{Storing, storing-start, storing-more}
 use Rattle.judge.proofs.advance.leads_on.Statement.{statement}
 use Rattle.judge.proofs.advance.leads_on.Tie as tie
@@ -14,7 +14,7 @@ abbrev Next : List ℕ → List ℕ → List ℕ → ℕ → ℕ → ℕ → Typ
 Next rows gains losses i k w = rowLead rows i k < 65536 → w ≡ rowLead rows i k + getD gains k 0 - getD losses k 0
 
 abbrev Inv-loop : tie.InvT-loop
-Inv-loop was i to reach gains losses k₀ rows k = (k ≤ reach) × Storing (Next was gains losses i) to 25 41 was rows k
+Inv-loop was i to reach gains losses k₀ rows k = (k ≤ reach) × Storing (Next was gains losses i) to leadsPart stoppedPart was rows k
 
 abbrev μ-loop : tie.MeasureT-loop
 μ-loop was i to reach gains losses k₀ rows k = reach - k

@@ -8,7 +8,7 @@ use native.Mathlib.Omega.{arith}
 use lib.ListN.{getD}
 use borrow.Author.Needs.{needs}
 use Rattle.judge.specs.Word.{flagOf}
-use Rattle.judge.specs.Rows.{rowStop}
+use Rattle.judge.specs.Rows.{stoppedPart, partsEnd, rowStop}
 use Rattle.judge.proofs.rows.Storing.{Storing, storing-start, storing-more}
 use Rattle.judge.proofs.advance.Effects.{either-listed, either-yes, either-no}
 use Rattle.judge.proofs.advance.stopped_on.Statement.{statement}
@@ -18,7 +18,7 @@ abbrev Either : List ℕ → List Bool → ℕ → ℕ → ℕ → Type 0
 Either rows stops i k w = flagOf w ≡ (rowStop rows i k || getD stops k false)
 
 abbrev Inv-loop : tie.InvT-loop
-Inv-loop was i to stops k₀ rows k = (k ≤ 8) × Storing (Either was stops i) to 41 49 was rows k
+Inv-loop was i to stops k₀ rows k = (k ≤ 8) × Storing (Either was stops i) to stoppedPart partsEnd was rows k
 
 abbrev μ-loop : tie.MeasureT-loop
 μ-loop was i to stops k₀ rows k = 8 - k

@@ -5,6 +5,7 @@ use Prim.Native.Nat.{ℕ, _-_, _≤_}
 use native.Mathlib.Omega.{arith}
 use lib.ListN.{getD}
 use borrow.Author.Needs.{needs}
+use Rattle.judge.specs.Rows.{leadsPart, stoppedPart}
 use Rattle.judge.proofs.rows.Storing.{Storing, storing-start, storing-more}
 use Rattle.judge.proofs.rows.Placing.{listed-is}
 use Rattle.judge.proofs.stored.put_leads.Statement.{statement}
@@ -14,7 +15,7 @@ abbrev Same : List ℕ → ℕ → ℕ → Type 0
 Same leads k w = w ≡ getD leads k 0
 
 abbrev Inv-loop : tie.InvT-loop
-Inv-loop was i leads k₀ rows k = (k ≤ 16) × Storing (Same leads) i 25 41 was rows k
+Inv-loop was i leads k₀ rows k = (k ≤ 16) × Storing (Same leads) i leadsPart stoppedPart was rows k
 
 abbrev μ-loop : tie.MeasureT-loop
 μ-loop was i leads k₀ rows k = 16 - k

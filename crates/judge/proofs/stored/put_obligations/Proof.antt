@@ -8,7 +8,7 @@ use borrow.Author.Needs.{needs}
 use Rattle.records.specs.Lists.{listedFrom, listed}
 use Rattle.judge.specs.declared.obligation.Obligation as code
 use Rattle.judge.specs.View.{obligationOf, firstOf, blankObligation}
-use Rattle.judge.specs.Rows.{words, rowObligation, Stays}
+use Rattle.judge.specs.Rows.{leadsPart, words, rowObligation, Stays}
 use Rattle.judge.proofs.Places.{first-more}
 use Rattle.judge.proofs.rows.Laws.{stays-all, stays-put, stays-wide, stays-on, owed-next, owed-put, count-put}
 use Rattle.judge.proofs.stored.put_obligations.Statement.{statement}
@@ -17,7 +17,7 @@ use Rattle.judge.proofs.stored.put_obligations.Tie as tie
 record Putting (os : List code.Obligation) (i n : ℕ) (was rows : List ℕ) (j : ℕ) : Type 0 where
   turns : j ≤ n
   owed : listed (rowObligation rows i) j ≡ firstOf j os
-  stays : Stays i 0 25 was rows
+  stays : Stays i 0 leadsPart was rows
 
 abbrev Inv-loop : tie.InvT-loop
 Inv-loop was i n obligations j₀ rows j = Putting obligations i n was rows j
@@ -30,7 +30,7 @@ long at = at .loop .inv .stays .size ∙ at .before .pre .0 .size
 
 loop-holds : tie.Need-loop-holds Inv-loop μ-loop
 unfolding listedFrom
-loop-holds c = record { turns = omega arith; owed = refl; stays = stays-all _ 0 25 _ }
+loop-holds c = record { turns = omega arith; owed = refl; stays = stays-all _ 0 leadsPart _ }
 
 put-obligation-requires : tie.Need-put-obligation-requires Inv-loop μ-loop
 put-obligation-requires c κs = let l = long (c .before .before .before) in search needs
@@ -43,7 +43,7 @@ loop-again c =
     record {
       turns = omega arith;
       owed = owed-next p (omega arith) ∙ rw (w .owed) (sym (first-more obligationOf _ blankObligation (at .loop .j) (omega (arith, at .before .good .1 .1 .1 .0 .1 .0 .1))));
-      stays = stays-on (w .stays) (stays-wide (p .stays) 0 25 (omega arith) (omega arith));
+      stays = stays-on (w .stays) (stays-wide (p .stays) 0 leadsPart (omega arith) (omega arith));
     }
 
 returns : tie.Need-returns Inv-loop μ-loop

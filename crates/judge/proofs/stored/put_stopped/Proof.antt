@@ -7,6 +7,7 @@ use native.Mathlib.Omega.{arith}
 use lib.ListN.{getD}
 use borrow.Author.Needs.{needs}
 use Rattle.judge.specs.Word.{flagOf}
+use Rattle.judge.specs.Rows.{stoppedPart, partsEnd}
 use Rattle.judge.proofs.rows.Storing.{Storing, storing-start, storing-more}
 use Rattle.judge.proofs.rows.Placing.{listed-is}
 use Rattle.judge.proofs.stored.put_stopped.Statement.{statement}
@@ -16,7 +17,7 @@ abbrev Same : List Bool → ℕ → ℕ → Type 0
 Same stopped k w = flagOf w ≡ getD stopped k false
 
 abbrev Inv-loop : tie.InvT-loop
-Inv-loop was i stopped k₀ rows k = (k ≤ 8) × Storing (Same stopped) i 41 49 was rows k
+Inv-loop was i stopped k₀ rows k = (k ≤ 8) × Storing (Same stopped) i stoppedPart partsEnd was rows k
 
 abbrev μ-loop : tie.MeasureT-loop
 μ-loop was i stopped k₀ rows k = 8 - k
