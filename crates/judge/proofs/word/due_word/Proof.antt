@@ -3,17 +3,18 @@ use mathlib.Core.Path.{ap, sym, _∙_}
 use native.Mathlib.Omega.{arith}
 use Prim.Native.Nat.{_-_}
 use lib.IntN.{ℤ, natAbs}
+use mir.Syntax.{w32}
 use Rattle.records.specs.Word.{signed}
 use Rattle.records.proofs.word.Inverse.{signed-unsigned}
-use Rattle.judge.proofs.word.Laws.{Negative, negative, NonNegative, nonNegative}
+use Rattle.records.proofs.word.Laws.{Negative, negative, NonNegative, nonNegative}
 use Rattle.judge.proofs.word.due_word.Statement.{statement}
 use Rattle.judge.proofs.word.due_word.Tie as tie
 
-neg : (c : tie.Then1) → Negative (c .before .args .due)
-neg c = negative (c .before .args .due) (c .before .fits .due) (c .if1 .taken)
+neg : (c : tie.Then1) → Negative w32 (c .before .args .due)
+neg c = negative w32 (c .before .args .due) (c .before .fits .due) (c .if1 .taken)
 
-non : (c : tie.Else1) → NonNegative (c .before .args .due)
-non c = nonNegative (c .before .args .due) (c .before .fits .due) (c .if1 .left)
+non : (c : tie.Else1) → NonNegative w32 (c .before .args .due)
+non c = nonNegative w32 (c .before .args .due) (c .before .fits .due) (c .if1 .left)
 
 sub-result : tie.Need-sub-result
 sub-result c = neg c .sub-fits
@@ -28,10 +29,10 @@ cast-result-2 : tie.Need-cast-result-2
 cast-result-2 c = rw (non c .same) (tt, record { fits = omega (arith, non c .small) })
 
 returns : tie.Need-returns
-returns c = ap (λ (z : ℤ). signed 32 (4294967295 - natAbs z)) (neg c .minus) ∙ rw (sym (neg c .bits)) (signed-unsigned 32 (c .before .args .due) (omega arith) (neg c .small))
+returns c = ap (λ (z : ℤ). signed 32 (4294967295 - natAbs z)) (neg c .minus) ∙ rw (sym (neg c .word)) (signed-unsigned 32 (c .before .args .due) (omega arith) (neg c .small))
 
 returns-2 : tie.Need-returns-2
-returns-2 c = ap (λ (z : ℤ). signed 32 (natAbs z)) (non c .same) ∙ rw (sym (non c .bits)) (signed-unsigned 32 (c .before .args .due) (omega arith) (non c .small))
+returns-2 c = ap (λ (z : ℤ). signed 32 (natAbs z)) (non c .same) ∙ rw (sym (non c .word)) (signed-unsigned 32 (c .before .args .due) (omega arith) (non c .small))
 
 pub due-word-spec : {M : Type 1} → statement M
 due-word-spec =

@@ -3,15 +3,16 @@ use mathlib.Core.Path.{ap, sym, _∙_}
 use native.Mathlib.Omega.{arith}
 use Prim.Native.Nat.{_-_}
 use lib.IntN.{ℤ, natAbs}
+use mir.Syntax.{w16}
 use Rattle.records.proofs.word.Laws.{Negative, negative, NonNegative, nonNegative}
 use Rattle.records.proofs.word.raw_of.Statement.{statement}
 use Rattle.records.proofs.word.raw_of.Tie as tie
 
-neg : (c : tie.Then1) → Negative (c .before .args .tag)
-neg c = negative (c .before .args .tag) (c .before .fits .tag) (c .if1 .taken)
+neg : (c : tie.Then1) → Negative w16 (c .before .args .tag)
+neg c = negative w16 (c .before .args .tag) (c .before .fits .tag) (c .if1 .taken)
 
-non : (c : tie.Else1) → NonNegative (c .before .args .tag)
-non c = nonNegative (c .before .args .tag) (c .before .fits .tag) (c .if1 .left)
+non : (c : tie.Else1) → NonNegative w16 (c .before .args .tag)
+non c = nonNegative w16 (c .before .args .tag) (c .before .fits .tag) (c .if1 .left)
 
 sub-result : tie.Need-sub-result
 sub-result c = neg c .sub-fits
@@ -26,10 +27,10 @@ cast-result-2 : tie.Need-cast-result-2
 cast-result-2 c = rw (non c .same) (tt, record { fits = omega (arith, non c .small) })
 
 returns : tie.Need-returns
-returns c = ap (λ (z : ℤ). 65535 - natAbs z) (neg c .minus) ∙ sym (neg c .bits)
+returns c = ap (λ (z : ℤ). 65535 - natAbs z) (neg c .minus) ∙ sym (neg c .word)
 
 returns-2 : tie.Need-returns-2
-returns-2 c = ap natAbs (non c .same) ∙ sym (non c .bits)
+returns-2 c = ap natAbs (non c .same) ∙ sym (non c .word)
 
 pub raw-of-spec : {M : Type 1} → statement M
 raw-of-spec =

@@ -1,15 +1,16 @@
 -- `vectors::text::magnitude` is safe: of a tag below 0, -1 - x is neither below 0 nor above 32,767. Assumes nothing.
 use borrow.Author.Needs.{needs}
 use native.Mathlib.Omega.{arith}
+use mir.Syntax.{w16}
 use Rattle.records.proofs.word.Laws.{Negative, negative, NonNegative, nonNegative}
 use Rattle.vectors.proofs.text.magnitude.Statement.{statement}
 use Rattle.vectors.proofs.text.magnitude.Tie as tie
 
-neg : (c : tie.Then1) → Negative (c .before .args .x)
-neg c = negative (c .before .args .x) (c .before .fits .x) (c .if1 .taken)
+neg : (c : tie.Then1) → Negative w16 (c .before .args .x)
+neg c = negative w16 (c .before .args .x) (c .before .fits .x) (c .if1 .taken)
 
-non : (c : tie.Else1) → NonNegative (c .before .args .x)
-non c = nonNegative (c .before .args .x) (c .before .fits .x) (c .if1 .left)
+non : (c : tie.Else1) → NonNegative w16 (c .before .args .x)
+non c = nonNegative w16 (c .before .args .x) (c .before .fits .x) (c .if1 .left)
 
 sub-wide-word : tie.Need-sub-wide-word
 sub-wide-word c = neg c .sub-fits
