@@ -6,6 +6,7 @@ use Prim.Native.Nat.{ℕ, _≤_, _<_}
 use lib.Dec.{T}
 use lib.IntN.{ℤ}
 use lib.ListN.{getD, replicate}
+use Rattle.records.specs.declared.line.Line.{Line}
 use Rattle.records.specs.Line.{blankLine}
 use Rattle.records.specs.Sheet.{SheetValue}
 use Rattle.tesl.specs.Lists.{filter, flatMap}
@@ -43,7 +44,12 @@ pub record Asked (v : SheetValue) (p : Plan) (f : Filling) : Type 0 where
   pub gained : (k : ℕ) → k < p .reach → getD (f .gains) k 0 ≡ gainOf (f .ticks) (getD (v .lines) k blankLine)
   pub lost : (k : ℕ) → k < p .reach → getD (f .losses) k 0 ≡ lossOf (f .ticks) (getD (v .lines) k blankLine)
 
--- what precedes lines need, gain and lose
+-- what a line needs, gains and loses, and what the first lines do
+pub record AskedLead (ticks : List Bool) (l : Line) (need gain loss : ℕ) : Type 0 where
+  pub needed : need ≡ needOf ticks l
+  pub gained : gain ≡ gainOf ticks l
+  pub lost : loss ≡ lossOf ticks l
+
 pub record AskedLeads (lines : List ℕ) (reach : ℕ) (ticks : List Bool) (needs gains losses : List ℕ) : Type 0 where
   pub needed : (k : ℕ) → k < reach → getD needs k 0 ≡ needOf ticks (lineIn lines k)
   pub gained : (k : ℕ) → k < reach → getD gains k 0 ≡ gainOf ticks (lineIn lines k)

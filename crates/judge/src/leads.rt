@@ -6,14 +6,13 @@ use records::line::Line;
 use records::sheet::Sheet;
 ghost use mathlib.Core.Path.{_≡_};
 ghost use mathlib.Core.Bool.{false};
-ghost use Prim.Native.Nat.{ℕ, _≤_};
+ghost use Prim.Native.Nat.{ℕ, _-_, _≤_};
 ghost use lib.ListN.{getD};
 ghost use Rattle.records.specs.Line.{blankLine};
 ghost use Rattle.records.specs.Sheet.{sheetValue};
 ghost use Rattle.theory.specs.Step.{bit};
-ghost use Rattle.judge.specs.Carried.{needOf, gainOf, lossOf};
 ghost use Rattle.judge.specs.Plan.{isPrecedes, Reaches};
-ghost use Rattle.judge.specs.Filling.{AskedLeads};
+ghost use Rattle.judge.specs.Filling.{AskedLead, AskedLeads};
 
 fn precedes(l: Line) -> bool
     ensures { λ r. ⌜ r ≡ isPrecedes l ⌝ }
@@ -70,54 +69,58 @@ fn one(b: bool) -> u16
     if b { 1 } else { 0 }
 }
 
-fn need_of(l: Line, ticks: [bool; 8]) -> u16
-    ensures { λ r. ⌜ r ≡ needOf ticks l ⌝ }
+// x - y, at least 0.
+fn less(x: u16, y: u16) -> u16
+    ensures { λ r. ⌜ r ≡ x - y ⌝ }
+{
+    if y < x { x - y } else { 0 }
+}
+
+// Of one line the lead that it needs, its tick of A and its tick of B.
+struct Ask {
+    need: u16,
+    gain: u16,
+    loss: u16,
+}
+
+fn no_lead() -> Ask
+    ensures { λ r. ⌜ (r .need ≡ 0) × ((r .gain ≡ 0) × (r .loss ≡ 0)) ⌝ }
+{
+    Ask {
+        need: 0,
+        gain: 0,
+        loss: 0,
+    }
+}
+
+fn ask_lead(l: Line, ticks: [bool; 8]) -> Ask
+    ensures { λ r. ⌜ AskedLead ticks l (r .need) (r .gain) (r .loss) ⌝ }
 {
     match l {
         Line::Weakly { a, b } => {
-            if ticks_at(ticks, a) {
-                0
-            } else {
-                one(ticks_at(ticks, b))
+            let gain = one(ticks_at(ticks, a));
+            let loss = one(ticks_at(ticks, b));
+            Ask {
+                need: less(loss, gain),
+                gain,
+                loss,
             }
         }
-        Line::Strictly { a: _, b } => one(ticks_at(ticks, b)),
-        Line::Sporadic { .. } => 0,
-        Line::Relation { .. } => 0,
-        Line::Implies { .. } => 0,
-        Line::Excludes { .. } => 0,
-        Line::Delayed { .. } => 0,
-        Line::Kills { .. } => 0,
-    }
-}
-
-fn gain_of(l: Line, ticks: [bool; 8]) -> u16
-    ensures { λ r. ⌜ r ≡ gainOf ticks l ⌝ }
-{
-    match l {
-        Line::Weakly { a, b: _ } => one(ticks_at(ticks, a)),
-        Line::Strictly { a, b: _ } => one(ticks_at(ticks, a)),
-        Line::Sporadic { .. } => 0,
-        Line::Relation { .. } => 0,
-        Line::Implies { .. } => 0,
-        Line::Excludes { .. } => 0,
-        Line::Delayed { .. } => 0,
-        Line::Kills { .. } => 0,
-    }
-}
-
-fn loss_of(l: Line, ticks: [bool; 8]) -> u16
-    ensures { λ r. ⌜ r ≡ lossOf ticks l ⌝ }
-{
-    match l {
-        Line::Weakly { a: _, b } => one(ticks_at(ticks, b)),
-        Line::Strictly { a: _, b } => one(ticks_at(ticks, b)),
-        Line::Sporadic { .. } => 0,
-        Line::Relation { .. } => 0,
-        Line::Implies { .. } => 0,
-        Line::Excludes { .. } => 0,
-        Line::Delayed { .. } => 0,
-        Line::Kills { .. } => 0,
+        Line::Strictly { a, b } => {
+            let gain = one(ticks_at(ticks, a));
+            let loss = one(ticks_at(ticks, b));
+            Ask {
+                need: loss,
+                gain,
+                loss,
+            }
+        }
+        Line::Sporadic { .. } => no_lead(),
+        Line::Relation { .. } => no_lead(),
+        Line::Implies { .. } => no_lead(),
+        Line::Excludes { .. } => no_lead(),
+        Line::Delayed { .. } => no_lead(),
+        Line::Kills { .. } => no_lead(),
     }
 }
 
@@ -139,9 +142,10 @@ pub(crate) fn ask_leads(lines: &[u16; NUMBERS], reach: usize, ticks: [bool; 8]) 
     let mut i = 0;
     while i < reach {
         let l = line_in(lines, i);
-        needs[i] = need_of(l, ticks);
-        gains[i] = gain_of(l, ticks);
-        losses[i] = loss_of(l, ticks);
+        let ask = ask_lead(l, ticks);
+        needs[i] = ask.need;
+        gains[i] = ask.gain;
+        losses[i] = ask.loss;
         i += 1;
     }
     Asks {

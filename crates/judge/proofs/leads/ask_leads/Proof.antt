@@ -28,15 +28,16 @@ loop-holds c = record { turns = omega arith; needed = placing-start _ _ 16; gain
 
 loop-again : tie.Need-loop-again Inv-loop μ-loop
 loop-again c =
-    let l = c .before .before .before .line-in .ensures in
-    let at = c .before .before .before .before .before in
+    let at = c .before .before .before in
+    let l = c .before .line-in .ensures in
+    let ask = c .ask-lead .ensures in
     let ticks = at .before .args .ticks in
     let m = at .loop in
     record {
       turns = omega arith;
-      needed = placing-more _ _ 16 (m .inv .needed) (omega arith) _ (c .before .before .need-of .ensures ∙ ap (needOf ticks) l);
-      gained = placing-more _ _ 16 (m .inv .gained) (omega arith) _ (c .before .gain-of .ensures ∙ ap (gainOf ticks) l);
-      lost = placing-more _ _ 16 (m .inv .lost) (omega arith) _ (c .loss-of .ensures ∙ ap (lossOf ticks) l);
+      needed = placing-more _ _ 16 (m .inv .needed) (omega arith) _ (ask .needed ∙ ap (needOf ticks) l);
+      gained = placing-more _ _ 16 (m .inv .gained) (omega arith) _ (ask .gained ∙ ap (gainOf ticks) l);
+      lost = placing-more _ _ 16 (m .inv .lost) (omega arith) _ (ask .lost ∙ ap (lossOf ticks) l);
     }
 
 returns : tie.Need-returns Inv-loop μ-loop
@@ -47,5 +48,5 @@ returns c =
 pub ask-leads-spec : {M : Type 1} → statement M
 ask-leads-spec =
     tie.close (tie.spec Inv-loop μ-loop loop-holds (λ c κs. search needs) (λ c κs. search needs) (λ c. search needs) (λ c. search needs)
-    (λ c κs. search needs) (λ c. search needs) (λ c. search needs) (λ c κs. search needs) (λ c. search needs) (λ c. search needs)
-    (λ c. search needs) (λ c. search needs) loop-again returns)
+    (λ c. search needs) (λ c. search needs) (λ c. search needs) (λ c. search needs) (λ c. search needs) (λ c. search needs)
+    loop-again returns)
