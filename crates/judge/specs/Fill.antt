@@ -1,9 +1,9 @@
 -- The fillings listed of an instant, and what the rows held become by it.
-use mathlib.Core.Bool.{Bool, true}
+use mathlib.Core.Bool.{Bool, true, cond}
 use mathlib.Core.List.{List, _++_}
 use mathlib.Core.Path.{_≡_}
 use Prim.Native.Nat.{ℕ, _+_, _-_, _≤_}
-use lib.Dec.{T}
+use lib.Dec.{T, eqb}
 use lib.ListN.{length, getD, drop}
 use Rattle.records.specs.declared.instant.TickSlot.{TickSlot}
 use Rattle.records.specs.declared.instant.Instant.{Instant}
@@ -14,12 +14,12 @@ use Rattle.judge.specs.declared.fill.Before.{Before}
 use Rattle.judge.specs.declared.fill.Extent.{Extent}
 use Rattle.judge.specs.declared.plan.Plan.{Plan}
 use Rattle.judge.specs.declared.held.Count.{Count}
-use Rattle.judge.specs.View.{live, seenOf, tagsBefore}
+use Rattle.judge.specs.View.{liveCount, live, seenOf, tagsBefore}
 use Rattle.judge.specs.Lines.{smallLeads}
 use Rattle.judge.specs.Heed.{heeded}
 use Rattle.judge.specs.Plan.{Fitting, Planned}
-use Rattle.judge.specs.Rows.{sides, words, HeadStays}
-use Rattle.judge.specs.Settle.{Side, SmallIn, foundIn}
+use Rattle.judge.specs.Rows.{sides, words, RowsStay}
+use Rattle.judge.specs.Settle.{Side, SmallIn, foundIn, builtRows}
 use Rattle.judge.specs.Fillings.{mostFillings, listSize, fillingsFrom, fillingsIn}
 use Rattle.judge.specs.Work.{worked}
 
@@ -51,11 +51,14 @@ pub record Working (rows : List ℕ) (from : ℕ) (count : Count) (p : Plan) (li
   pub plan : Fitting p
   pub lists : length list ≡ listSize
 
--- those held after an instant, on the other side; the head stays
+-- the rows of the other side that an instant may have built in: none where none is held, since then nothing is worked
+abbrev pub workedRows : Count → Count → ℕ
+workedRows count r = cond (eqb (liveCount count) 0) 0 (builtRows r)
+
+-- those held after an instant, on the other side; the rows that nothing was built in stay
 pub record Worked (lines : List ℕ) (p : Plan) (before : Before) (instant : Instant) (from : ℕ) (count : Count) (r : Count) (a b : List ℕ) (list : List Bool) : Type 0 where
-  pub size : length b ≡ words
+  pub stays : RowsStay (sides - from) (workedRows count r) a b
   pub small : SmallIn r b (sides - from)
-  pub head : HeadStays a b
   pub lists : length list ≡ listSize
   pub works : (v : SheetValue) → Planned v p lines → T (all smallLeads (live (foundIn v count a from)))
       → foundIn v r b (sides - from) ≡ worked mostLive v (tagsBefore (before .first) (before .tags)) (seenOf (v .clocks) (instant .ticks)) (instant .tags) (foundIn v count a from)

@@ -2,7 +2,7 @@
 use mathlib.Core.Bool.{Bool, true}
 use mathlib.Core.List.{List}
 use mathlib.Core.Path.{_≡_}
-use Prim.Native.Nat.{ℕ, _+_}
+use Prim.Native.Nat.{ℕ, _+_, _-_}
 use lib.IntN.{pos}
 use Rattle.records.specs.declared.sheet.Sheet.{Sheet}
 use Rattle.records.specs.declared.instant.Instant.{Instant}
@@ -15,7 +15,7 @@ use Rattle.judge.specs.declared.obligation.Obligation as code
 use Rattle.judge.specs.declared.remainder.Remainder as arrays
 use Rattle.judge.specs.declared.answer.Answer.{Answer}
 use Rattle.judge.specs.declared.answer.Reply.{Reply}
-use Rattle.judge.specs.declared.answer.Reply.the-variants.{Answered}
+use Rattle.judge.specs.declared.answer.Reply.the-variants.{Answered, Refused}
 use Rattle.judge.specs.declared.held.Count.{Count}
 use Rattle.judge.specs.declared.held.Held.{Held}
 use Rattle.judge.specs.declared.plan.Plan.{Plan}
@@ -28,9 +28,9 @@ use Rattle.judge.specs.Unused.{BlankFrom}
 use Rattle.judge.specs.Limits.{within}
 use Rattle.judge.specs.Monitor.{Accepts}
 use Rattle.judge.specs.Plan.{Planned}
-use Rattle.judge.specs.Rows.{headRows, rowCount, rowObligation, rowLeads, rowStopped}
+use Rattle.judge.specs.Rows.{headRows, sides, rowCount, rowObligation, rowLeads, rowStopped, RowsStay}
 use Rattle.judge.specs.Promises.{Called}
-use Rattle.judge.specs.Fill.{Working}
+use Rattle.judge.specs.Fill.{Working, workedRows}
 
 abbrev pub asStruct : Obligation → code.Obligation
 asStruct o = record { clock = o .clock; on = o .on; due = o .due }
@@ -66,14 +66,24 @@ pub record Ready (s : Sheet) (k : Kept) (p : Plan) (lines rows : List ℕ) : Typ
   pub planned : Planned (sheetValue s) p lines
   pub limits : within (keptMonitor s k rows) ≡ true
 
+-- after an accepted instant those held are on the other side; the rows that nothing was built in stay
+pub record Moved (k next : Kept) (a b : List ℕ) : Type 0 where
+  pub to : next .from ≡ sides - k .from
+  pub stays : RowsStay (sides - k .from) (workedRows (k .count) (next .count)) a b
+
 -- room to work in after an instant that was read, and, whatever the sheet, what is answered to it
 pub record Works (k : Kept) (p : Plan) (i : Instant) (lines : List ℕ) (t : Told) (a b : List ℕ) (list : List Bool) : Type 0 where
   pub room : Working b (t .kept .from) (t .kept .count) p list
+  pub moved : Moved k (t .kept) a b
+  -- it is no refusal
+  pub answered : (n : ℕ) → t .reply ≡ Refused n → ⊥
   pub accepts : (s : Sheet) → Ready s k p lines a → Accepts mostLive (keptMonitor s k a) i (given (t .reply) (keptMonitor s (t .kept) b))
 
--- room to work in after a call, and, whatever the sheet, what the call gives; answered, the last tags of clocks from C on are 0; and the monitor to call next is as ready
+-- room to work in after a call; refused, the monitor and all words are as they came; and, whatever the sheet, what the call gives; answered, the last tags of clocks from C on are 0; and the monitor to call next is as ready
 pub record Takes (k : Kept) (p : Plan) (bytes lines : List ℕ) (t : Told) (a b : List ℕ) (list : List Bool) : Type 0 where
   pub room : Working b (t .kept .from) (t .kept .count) p list
+  pub refused : (n : ℕ) → t .reply ≡ Refused n → (t .kept ≡ k) × (b ≡ a)
+  pub moved : (x : Answer) → t .reply ≡ Answered x → Moved k (t .kept) a b
   pub called : (s : Sheet) → Ready s k p lines a → Called (keptMonitor s k a) bytes (given (t .reply) (keptMonitor s (t .kept) b))
   pub tags : (s : Sheet) → Ready s k p lines a → (x : Answer) → t .reply ≡ Answered x → BlankFrom (s .clocks) (pos 0) (t .kept .tags)
   pub ready : (s : Sheet) → Ready s k p lines a → Ready s (t .kept) p lines b

@@ -102,6 +102,11 @@ pub record Stays (i lo hi : ℕ) (a b : List ℕ) : Type 0 where
 abbrev pub HeadStays : List ℕ → List ℕ → Type 0
 HeadStays a b = (h p : ℕ) → h < headRows → p < width → word b h p ≡ word a h p
 
+-- b is a but for n rows from `first` on
+pub record RowsStay (first n : ℕ) (a b : List ℕ) : Type 0 where
+  pub size : length b ≡ length a
+  pub same : (h p : ℕ) → p < width → (first ≤ h → h < first + n → ⊥) → word b h p ≡ word a h p
+
 -- ---- contracts: of one row, and of a row that gives another; r tells whether there is one
 
 -- row i, of at most eight obligations

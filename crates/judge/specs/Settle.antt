@@ -17,16 +17,20 @@ use Rattle.judge.specs.declared.held.Count.{Count}
 use Rattle.judge.specs.declared.held.Count.the-variants.{Exhausted, Live}
 use Rattle.judge.specs.Lines.{smallLeads}
 use Rattle.judge.specs.Plan.{Fitting, Planned}
-use Rattle.judge.specs.Rows.{sides, secondSide, headRows, words, rowOf, rowsOf, Small, HeadStays}
+use Rattle.judge.specs.Rows.{sides, secondSide, headRows, words, rowsOf, Small, RowsStay}
 use Rattle.judge.specs.Filling.{Asked}
 use Rattle.judge.specs.Fillings.{mostFillings, takenBy, settling}
+
+-- rows of a side: 32, and one to build the next in
+abbrev pub sideRows : ℕ
+sideRows = 33
 
 -- first rows of two sides, behind the head
 pub record Sides (from to : ℕ) : Type 0 where
   pub one : from ≤ secondSide
   pub other : to ≤ secondSide
   pub past : headRows ≤ to
-  pub apart : (k l : ℕ) → k < 33 → l < 33 → from + k ≡ to + l → ⊥
+  pub apart : (k l : ℕ) → k < sideRows → l < sideRows → from + k ≡ to + l → ⊥
 
 -- those found; `none` once exhausted
 abbrev pub foundIn : SheetValue → Count → List ℕ → ℕ → Option (List Remainder)
@@ -37,6 +41,11 @@ foundIn v (Live n) rows to = some (rowsOf v rows to n)
 abbrev pub SmallIn : Count → List ℕ → ℕ → Type 0
 SmallIn Exhausted rows to = Unit
 SmallIn (Live n) rows to = (n ≤ mostLive) × Small rows to n
+
+-- the rows of a side that work may have built in: those found and the one after them; once exhausted, any
+abbrev pub builtRows : Count → ℕ
+builtRows Exhausted = sideRows
+builtRows (Live n) = n + 1
 
 -- what a filling works on: n rows held, and those found so far
 pub record Settling (rows : List ℕ) (from to n found : ℕ) (p : Plan) (f : Filling) : Type 0 where
@@ -49,13 +58,11 @@ pub record Settling (rows : List ℕ) (from to n found : ℕ) (p : Plan) (f : Fi
   pub plan : Fitting p
   pub begun : f .count ≤ 16
 
--- those found with what the rows held become by a filling; these and the head stay
+-- those found with what the rows held become by a filling; none is lost, and the rows that nothing was built in stay
 pub record Settled (p : Plan) (f : Filling) (from to n found : ℕ) (r : Count) (a b : List ℕ) : Type 0 where
-  pub size : length b ≡ words
+  pub more : found < builtRows r
+  pub stays : RowsStay to (builtRows r) a b
   pub small : SmallIn r b to
-  pub head : HeadStays a b
-  pub few : Small b from n
-  pub same : (j : ℕ) → j < n → rowOf b (from + j) ≡ rowOf a (from + j)
   pub settled : (v : SheetValue) → Asked v p f → T (all smallLeads (rowsOf v a from n)) → foundIn v r b to ≡ settling mostLive v (f .tags) (rowsOf v a from n) (some (rowsOf v a to found)) (f .ticks)
 
 -- ---- all fillings of an instant, and the instant; what is found goes to the other side
@@ -73,9 +80,8 @@ pub record SettlingAll (rows : List ℕ) (from n : ℕ) (p : Plan) (m : ℕ) : T
   pub plan : Fitting p
   pub few : m ≤ mostFillings
 
--- those found by all fillings, on the other side; the head stays
+-- those found by all fillings, on the other side; the rows that nothing was built in stay
 pub record SettledAll (lines : List ℕ) (p : Plan) (tags : List ℤ) (fillings : List (List Bool)) (from n : ℕ) (r : Count) (a b : List ℕ) : Type 0 where
-  pub size : length b ≡ words
+  pub stays : RowsStay (sides - from) (builtRows r) a b
   pub small : SmallIn r b (sides - from)
-  pub head : HeadStays a b
   pub settled : (v : SheetValue) → Planned v p lines → T (all smallLeads (rowsOf v a from n)) → foundIn v r b (sides - from) ≡ takenBy (settling mostLive v tags (rowsOf v a from n)) fillings (some [])

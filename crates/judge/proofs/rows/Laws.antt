@@ -9,7 +9,7 @@ use lib.Seq.{getD-set-same, getD-set-other}
 use Rattle.records.specs.Lists.{listed}
 use Rattle.tesl.specs.Fits.{Obligation}
 use Rattle.judge.specs.Word.{dueOf}
-use Rattle.judge.specs.Rows.{leadsPart, width, words, word, rowCount, rowObligation, rowOwed, Stays, PutObligation}
+use Rattle.judge.specs.Rows.{leadsPart, width, words, word, rowCount, rowObligation, rowOwed, Stays, RowsStay, PutObligation}
 use Rattle.judge.proofs.Listing.{listed-same, listed-next}
 
 -- ---- one word
@@ -39,17 +39,34 @@ module _ {i lo hi : ℕ} {a b : List ℕ} (s : Stays i lo hi a b) where
   pub stays-on : {c : List ℕ} → Stays i lo hi b c → Stays i lo hi a c
   stays-on t = record { size = t .size ∙ s .size; same = λ g q m f. t .same g q m f ∙ s .same g q m f }
 
+-- ---- rows that stay
+pub rows-stay-all : (first n : ℕ) (a : List ℕ) → RowsStay first n a a
+rows-stay-all first n a = record { size = refl; same = λ h p l f. refl }
+
+-- a part of one of them was stored
+pub rows-stay-one : {i lo hi : ℕ} {a b : List ℕ} → Stays i lo hi a b → (first n : ℕ) → first ≤ i → i < first + n → RowsStay first n a b
+rows-stay-one s first n l m = record { size = s .size; same = λ h p k f. s .same h p k (λ e x y. f (omega arith) (omega arith)) }
+
+module _ {first n : ℕ} {a b : List ℕ} (s : RowsStay first n a b) where
+  -- but for more rows
+  pub rows-stay-wide : (m : ℕ) → n ≤ m → RowsStay first m a b
+  rows-stay-wide m l = record { size = s .size; same = λ h p k f. s .same h p k (λ x y. f x (omega arith)) }
+
+  pub rows-stay-on : {c : List ℕ} → RowsStay first n b c → RowsStay first n a c
+  rows-stay-on t = record { size = t .size ∙ s .size; same = λ h p k f. t .same h p k f ∙ s .same h p k f }
+
 -- ---- an obligation
 pub same-obligation : {c c′ o o′ : ℕ} {t t′ : ℤ} → c ≡ c′ → t ≡ t′ → o ≡ o′ → _≡_ {A = Obligation} (record { clock = c; due = t; on = o }) (record { clock = c′; due = t′; on = o′ })
 same-obligation a b c = rw (a, b, c)
 
 -- obligation k of a row whose words are the same
+pub obligation-same : (a b : List ℕ) (h k : ℕ) → word b h (1 + k) ≡ word a h (1 + k) → word b h (9 + k) ≡ word a h (9 + k) → word b h (17 + k) ≡ word a h (17 + k) → rowObligation b h k ≡ rowObligation a h k
+obligation-same a b h k c o d = same-obligation (ap (λ (w : ℕ). w % 256) c) (ap dueOf d) (ap (λ (w : ℕ). w % 256) o)
+
 pub obligation-stays : {i lo hi : ℕ} {a b : List ℕ} → Stays i lo hi a b → (h k : ℕ) → k < 8 → ((p : ℕ) → 1 ≤ p → p < leadsPart → h ≡ i → lo ≤ p → p < hi → ⊥) → rowObligation b h k ≡ rowObligation a h k
-obligation-stays s h k l f =
-    same-obligation
-    (ap (λ (w : ℕ). w % 256) (s .same h (1 + k) (omega arith) (f (1 + k) (omega arith) (omega arith))))
-    (ap dueOf (s .same h (17 + k) (omega arith) (f (17 + k) (omega arith) (omega arith))))
-    (ap (λ (w : ℕ). w % 256) (s .same h (9 + k) (omega arith) (f (9 + k) (omega arith) (omega arith))))
+obligation-stays {a = a} {b} s h k l f =
+    let same : (p : ℕ) → 1 ≤ p → p < leadsPart → word b h p ≡ word a h p = λ p x y. s .same h p (omega arith) (f p x y) in
+    obligation-same a b h k (same (1 + k) (omega arith) (omega arith)) (same (9 + k) (omega arith) (omega arith)) (same (17 + k) (omega arith) (omega arith))
 
 module _ (a : List ℕ) (i j c n d : ℕ) (size : length a ≡ words) (row : i < 72) (place : j < 8) where
   abbrev first : List ℕ

@@ -17,19 +17,40 @@ use Rattle.theory.specs.Adding.{addedTo, onceEach}
 use Rattle.judge.specs.Word.{flagOf}
 use Rattle.judge.specs.Advanced.{Advanced, fails, over, onto}
 use Rattle.judge.specs.Work.{sameCounted, inserted, took, advanced, settledAll}
-use Rattle.judge.specs.Rows.{leadsPart, stoppedPart, rowCount, rowOf, Stays}
+use Rattle.judge.specs.Rows.{leadsPart, stoppedPart, width, word, rowCount, rowOf, Stays, RowsStay, HeadStays}
+use Rattle.judge.specs.Settle.{Sides}
 use Rattle.judge.proofs.Listing.{listed-same}
-use Rattle.judge.proofs.rows.Laws.{owed-stays}
+use Rattle.judge.proofs.rows.Laws.{obligation-same}
 use Rattle.judge.proofs.work.Heed.{took-none}
 use Rattle.judge.proofs.work.Once.{settled-once}
 use Rattle.judge.proofs.advance.Row.{same-remainder}
 
+-- a row whose words are the same
+pub row-same : (a b : List ℕ) (h : ℕ) → rowCount a h ≤ 8 → ((p : ℕ) → p < width → word b h p ≡ word a h p) → rowOf b h ≡ rowOf a h
+row-same a b h few same =
+    same-remainder
+    (rw (same 0 (omega arith)) (listed-same (rowCount a h) (λ k l. obligation-same a b h k (same (1 + k) (omega arith)) (same (9 + k) (omega arith)) (same (17 + k) (omega arith)))))
+    (listed-same 16 (λ k l. same (leadsPart + k) (omega arith)))
+    (listed-same 8 (λ k l. ap flagOf (same (stoppedPart + k) (omega arith))))
+
 -- another row is as it was
 pub row-stays : {i lo hi : ℕ} {a b : List ℕ} → Stays i lo hi a b → (h : ℕ) → rowCount a h ≤ 8 → (h ≡ i → ⊥) → rowOf b h ≡ rowOf a h
-row-stays s h few f =
-    same-remainder (owed-stays s h few (λ p l e. absurd (f e)))
-    (listed-same 16 (λ k l. s .same h (leadsPart + k) (omega arith) (λ e. absurd (f e))))
-    (listed-same 8 (λ k l. ap flagOf (s .same h (stoppedPart + k) (omega arith) (λ e. absurd (f e)))))
+row-stays {a = a} {b} s h few f = row-same a b h few (λ p l. s .same h p l (λ e. absurd (f e)))
+
+-- the rows held, where only rows of the other side change
+module _ {from to m : ℕ} {a b : List ℕ} (s : Sides from to) (r : RowsStay to m a b) (most : m ≤ 33) where
+  held-word : (j p : ℕ) → j < 33 → p < width → word b (from + j) p ≡ word a (from + j) p
+  held-word j p h l = r .same (from + j) p l (λ x y. s .apart j (from + j - to) h (omega arith) (omega arith))
+
+  pub held-few : (j : ℕ) → j < 33 → rowCount a (from + j) ≤ 8 → rowCount b (from + j) ≤ 8
+  held-few j h few = rw (held-word j 0 h (omega arith)) few
+
+  pub held-row : (j : ℕ) → j < 33 → rowCount a (from + j) ≤ 8 → rowOf b (from + j) ≡ rowOf a (from + j)
+  held-row j h few = row-same a b (from + j) few (λ p l. held-word j p h l)
+
+  -- and the head
+  pub head-stays : HeadStays a b
+  head-stays h p l k = r .same h p k (λ x y. omega (arith, s .past))
 
 module _ (room : ℕ) (v : SheetValue) (f : Filled) (begun : List Obligation) where
   abbrev all : List Remainder → Option (List Remainder) → Option (List Remainder)

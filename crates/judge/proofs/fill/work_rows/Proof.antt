@@ -1,12 +1,13 @@
 -- `work_rows` meets its contract: the ways to a return are the cases of what is worked. Assumes nothing.
 use mathlib.Core.Bool.{false}
-use mathlib.Core.Path.{_≡_, refl, ap, _∙_, subst}
+use mathlib.Core.List.{List}
+use mathlib.Core.Path.{_≡_, ap, _∙_, subst}
 use Prim.Native.Nat.{ℕ, _-_, _≤_}
 use native.Mathlib.Omega.{arith}
 use lib.Dec.{T}
 use lib.ListN.{replicate}
 use borrow.Author.Needs.{needs}
-use borrow.Author.Tests.{not-true, not-false}
+use borrow.Author.Tests.{ne-eqb, not-true, not-false}
 use Rattle.records.specs.Sheet.{SheetValue}
 use Rattle.tesl.specs.Lists.{all}
 use Rattle.judge.specs.declared.held.Count.{Count}
@@ -14,8 +15,10 @@ use Rattle.judge.specs.declared.held.Count.the-variants.{Live}
 use Rattle.judge.specs.View.{live}
 use Rattle.judge.specs.Lines.{smallLeads}
 use Rattle.judge.specs.Heed.{rowsClocks, flagged}
-use Rattle.judge.specs.Rows.{rowsOf, Small}
-use Rattle.judge.specs.Settle.{SmallIn, foundIn}
+use Rattle.judge.specs.Rows.{rowsOf, Small, RowsStay}
+use Rattle.judge.specs.Settle.{SmallIn, foundIn, builtRows}
+use Rattle.judge.specs.Fill.{workedRows}
+use Rattle.judge.proofs.rows.Laws.{rows-stay-all}
 use Rattle.judge.proofs.work.Listed.{at-most-256, few-listed, work-exhausted, work-broken, work-no, work-yes}
 use Rattle.judge.proofs.fill.work_rows.Statement.{statement}
 use Rattle.judge.proofs.fill.work_rows.Tie as tie
@@ -29,6 +32,10 @@ some c = c .before .before .before
 
 abbrev fits : tie.After-flag-rows → tie.Else2
 fits c = c .before .before .before .before .before .before
+
+-- where some are held, the rows that nothing was built in stay
+worked-stays : {count : Count} {n : ℕ} → count ≡ Live n → (n ≡ 0 → ⊥) → (r : Count) {first : ℕ} {a b : List ℕ} → RowsStay first (builtRows r) a b → RowsStay first (workedRows count r) a b
+worked-stays {n = n} e f r s = rw (e, ne-eqb n 0 f) s
 
 -- those held
 module _ (k : tie.After-known-told) where
@@ -50,9 +57,8 @@ returns c =
     let s = start k in
     let a = s .args in
     record {
-      size = s .pre .size;
+      stays = rows-stay-all _ _ _;
       small = (omega arith, λ j l. absurd (omega arith));
-      head = λ h p l m. refl;
       lists = s .pre .lists;
       works = λ v planned leads. work-broken 32 v _ _ _ (a .count) (a .rows .now) (a .from) (counted k) (c .if1 .taken) (a .rows .now) (45 - a .from);
     }
@@ -68,9 +74,8 @@ returns-2 c =
     let s = start k in
     let a = s .args in
     record {
-      size = s .pre .size;
+      stays = rows-stay-all _ _ _;
       small = (omega arith, λ j l. absurd (omega arith));
-      head = λ h p l m. refl;
       lists = s .pre .lists;
       works = λ v planned leads. work-no 32 v _ _ _ (a .count) (a .rows .now) (a .from) (counted k) (e .if1 .left) (planned .as-many) (planned .relations) (t .tags-fit .ensures) (not-true _ (c .if2 .taken)) (a .rows .now) (45 - a .from);
     }
@@ -99,7 +104,7 @@ returns-3 : tie.Need-returns-3
 returns-3 c =
     let s = c .before .before in
     let a = s .args in
-    record { size = s .pre .size; small = tt; head = λ h p l m. refl; lists = s .pre .lists; works = λ v planned leads. work-exhausted 32 v _ _ _ (a .count) (a .rows .now) (a .from) (c .enum-told .given .1) }
+    record { stays = rows-stay-all _ _ _; small = tt; lists = s .pre .lists; works = λ v planned leads. work-exhausted 32 v _ _ _ (a .count) (a .rows .now) (a .from) (c .enum-told .given .1) }
 
 returns-4 : tie.Need-returns-4
 returns-4 c =
@@ -112,9 +117,8 @@ returns-4 c =
     let a = start k .args in
     let r = c .settle-all .ensures in
     record {
-      size = r .size;
+      stays = worked-stays (counted k) (e .if1 .left) (c .settle-all .result) (r .stays);
       small = r .small;
-      head = r .head;
       lists = l .fill .ensures .size;
       works = λ v planned long. work-yes 32 v _ _ _ (a .count) (a .rows .now) (a .from) (counted k) (e .if1 .left) (planned .as-many) (planned .relations) (t .tags-fit .ensures) (not-false _ (x .if2 .left))
           (f .flag-rows .ensures ∙ ap (flagged (rowsClocks (a .rows .now) (a .from) (n k))) (planned .named)) (planned .rules) (a .list .now) (l .fill .ensures .listed) (r .settled v planned (leads k v long));

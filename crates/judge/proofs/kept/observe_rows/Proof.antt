@@ -43,6 +43,8 @@ returns c =
     let r = e .before .before in
     record {
       room = first r .pre;
+      refused = λ n f. (refl, refl);
+      moved = λ x f. answered-refused (sym f);
       called = λ s ready. called-full (start r s ready) (first r .args .bytes .now) (within r s ready) refl (reads r s ready) (e .enum-told .given .1) (c .if1 .taken) refl;
       tags = λ s ready x f. answered-refused (sym f);
       ready = λ s ready. ready;
@@ -54,6 +56,8 @@ returns-2 c =
     let r = a .before .before in
     record {
       room = first r .pre;
+      refused = λ n f. (refl, refl);
+      moved = λ x f. answered-refused (sym f);
       called = λ s ready. called-unread (start r s ready) (first r .args .bytes .now) (within r s ready) refl (reads r s ready) (a .answer .given .1) refl;
       tags = λ s ready x f. answered-refused (sym f);
       ready = λ s ready. ready;
@@ -91,6 +95,8 @@ module _ (c : tie.After-work-instant) where
 returns-3 : tie.Need-returns-3
 returns-3 c = record {
   room = c .work-instant .ensures .room;
+  refused = λ n f. absurd (c .work-instant .ensures .answered n f);
+  moved = λ x f. c .work-instant .ensures .moved;
   called = observes c;
   tags = λ s ready x f. rw (c .work-instant .ensures .accepts s ready .tags) (blank-tags (start (was-read c) s ready) (entry c .args .bytes .now) (within (was-read c) s ready) refl (reads (was-read c) s ready) (few c .before .enum-told .given .1) (bytes c));
   ready = λ s ready. record { value = ready .value; planned = ready .planned; limits = answered-within (observes c s ready) (c .work-instant .ensures .accepts s ready .said) };

@@ -1,8 +1,10 @@
 -- `work_instant` meets its contract: the instant is worked on, on the rows, and those found say the answer. Assumes nothing.
+use mathlib.Core.Path.{refl, _∙_}
 use borrow.Author.Needs.{needs}
 use Rattle.records.specs.Sheet.{sheetValue}
 use Rattle.judge.specs.Kept.{keptMonitor}
 use Rattle.judge.proofs.monitor.Limits.{limits-of, workable}
+use Rattle.judge.proofs.monitor.InRows.{answered-refused}
 use Rattle.judge.proofs.kept.Laws.{leads-rows, accepts-rows, other-side}
 use Rattle.judge.proofs.kept.work_instant.Statement.{statement}
 use Rattle.judge.proofs.kept.work_instant.Tie as tie
@@ -23,7 +25,9 @@ returns c =
     let p = e .pre .0 in
     let r = w .work-rows .ensures in
     record {
-      room = record { size = r .size; side = other-side (p .side); small = r .small; plan = p .plan; lists = r .lists };
+      room = record { size = r .stays .size ∙ p .size; side = other-side (p .side); small = r .small; plan = p .plan; lists = r .lists };
+      moved = record { to = refl; stays = r .stays };
+      answered = λ n f. answered-refused f;
       accepts = λ s ready.
           let m = keptMonitor s k a in
           let can = workable m (limits-of m (ready .value) (ready .limits)) (e .pre .1) in

@@ -1,13 +1,12 @@
--- `settle` meets its contract. The invariant: what all rows make of those found is what those from k on make of those found so far; the rows held stay. Assumes nothing.
+-- `settle` meets its contract. The invariant: what all rows make of those found is what those from k on make of those found so far; only rows of those found and the one after them change. Assumes nothing.
 use mathlib.Core.List.{List, _∷_}
 use mathlib.Core.Logic.{⊎-elim}
 use mathlib.Core.Option.{some}
-use mathlib.Core.Path.{_≡_, refl, sym, ap, _∙_, subst}
+use mathlib.Core.Path.{_≡_, sym, ap, _∙_, subst}
 use Prim.Native.Nat.{ℕ, _+_, _-_, _<_, _≤_}
 use native.Mathlib.Nat.{eq-or-lt-of-le}
 use native.Mathlib.Omega.{arith}
 use lib.Dec.{T}
-use lib.ListN.{length}
 use borrow.Author.Needs.{needs}
 use Rattle.records.specs.Lists.{listedFrom}
 use Rattle.records.specs.Sheet.{SheetValue}
@@ -20,12 +19,13 @@ use Rattle.judge.specs.declared.filling.Filling.{Filling}
 use Rattle.judge.specs.declared.plan.Plan.{Plan}
 use Rattle.judge.specs.View.{cut}
 use Rattle.judge.specs.Lines.{smallLeads}
-use Rattle.judge.specs.Rows.{words, rowOf, rowsOf, Small, HeadStays}
+use Rattle.judge.specs.Rows.{rowOf, rowsOf, Small, RowsStay}
 use Rattle.judge.specs.Filling.{instantOf, begunIn, nextOf, Asked}
 use Rattle.judge.specs.Fillings.{settling}
 use Rattle.judge.specs.Work.{advanced, settledAll}
 use Rattle.judge.proofs.Listing.{listed-same, one-of}
-use Rattle.judge.proofs.settle.Laws.{row-stays, settled-start, settled-end, settled-fails, settled-over, settled-there, settled-full, settled-more}
+use Rattle.judge.proofs.rows.Laws.{rows-stay-all, rows-stay-one, rows-stay-wide, rows-stay-on}
+use Rattle.judge.proofs.settle.Laws.{row-stays, held-few, held-row, settled-start, settled-end, settled-fails, settled-over, settled-there, settled-full, settled-more}
 use Rattle.judge.proofs.settle.settle.Statement.{statement}
 use Rattle.judge.proofs.settle.settle.Tie as tie
 
@@ -36,11 +36,9 @@ rest v was from n k = listedFrom (λ j. cut v (rowOf was (from + j))) k (n - k)
 record Found (p : Plan) (f : Filling) (from to n found : ℕ) (was rows : List ℕ) (live k : ℕ) : Type 0 where
   turns : k ≤ n
   fewer : live ≤ 32
-  size : length rows ≡ words
+  more : found ≤ live
+  stays : RowsStay to (live + 1) was rows
   small : Small rows to live
-  head : HeadStays was rows
-  few : Small rows from n
-  same : (j : ℕ) → j < n → rowOf rows (from + j) ≡ rowOf was (from + j)
   settled : (v : SheetValue) → Asked v p f → T (all smallLeads (rowsOf v was from n)) → settling 32 v (f .tags) (rowsOf v was from n) (some (rowsOf v was to found)) (f .ticks) ≡ settledAll 32 v (instantOf f) (begunIn f) (rest v was from n k) (some (rowsOf v rows to live))
 
 abbrev Inv-loop : tie.InvT-loop
@@ -58,11 +56,9 @@ loop-holds c =
     record {
       turns = omega arith;
       fewer = s .pre .fewer;
-      size = s .pre .size;
+      more = omega arith;
+      stays = rows-stay-all _ _ _;
       small = s .pre .smallFound;
-      head = λ h p l m. refl;
-      few = s .pre .small;
-      same = λ j l. refl;
       settled = λ v asked small. settled-start 32 v _ _ (asked .begins) _ (s .args .n) _;
     }
 
@@ -74,8 +70,8 @@ advance-row-requires c κs =
     let k = at .loop .k in
     let h : k < start at .args .n = omega arith in
     record {
-      between = record { size = w .size; row = omega (arith, x .held, x .sides .one); into = omega (arith, w .fewer, x .sides .other); apart = x .sides .apart k (at .loop .live) (omega (arith, x .held)) (omega (arith, w .fewer)) };
-      few = w .few k h;
+      between = record { size = w .stays .size ∙ x .size; row = omega (arith, x .held, x .sides .one); into = omega (arith, w .fewer, x .sides .other); apart = x .sides .apart k (at .loop .live) (omega (arith, x .held)) (omega (arith, w .fewer)) };
+      few = held-few (x .sides) (w .stays) (omega (arith, w .fewer)) k (omega (arith, x .held)) (x .small k h);
       plan = x .plan;
       begun = x .begun;
     }
@@ -88,20 +84,11 @@ module _ (c : tie.After-advance-row Inv-loop μ-loop) where
   abbrev last : List ℕ
   last = c .advance-row .last .0
 
-  new : (j : ℕ) → j < start at .args .n → start at .args .from + j ≡ start at .args .to + at .loop .live → ⊥
-  new j l e = start at .pre .sides .apart j (at .loop .live) (omega (arith, start at .pre .held)) (omega (arith, at .loop .inv .fewer)) e
-
   small : Small last (start at .args .to) (at .loop .live)
   small j l = rw (c .advance-row .ensures .stays .same (start at .args .to + j) 0 (omega arith) (λ e x y. omega arith)) (at .loop .inv .small j l)
 
-  head : HeadStays (start at .args .rows .now) last
-  head h p l m = c .advance-row .ensures .stays .same h p m (λ e x y. omega (arith, e, start at .pre .sides .past)) ∙ at .loop .inv .head h p l m
-
-  few : Small last (start at .args .from) (start at .args .n)
-  few j l = rw (c .advance-row .ensures .stays .same (start at .args .from + j) 0 (omega arith) (λ e. absurd (new j l e))) (at .loop .inv .few j l)
-
-  same : (j : ℕ) → j < start at .args .n → rowOf last (start at .args .from + j) ≡ rowOf (start at .args .rows .now) (start at .args .from + j)
-  same j l = row-stays (c .advance-row .ensures .stays) (start at .args .from + j) (at .loop .inv .few j l) (new j l) ∙ at .loop .inv .same j l
+  stays : RowsStay (start at .args .to) (at .loop .live + 1) (start at .args .rows .now) last
+  stays = rows-stay-on (at .loop .inv .stays) (rows-stay-one (c .advance-row .ensures .stays) (start at .args .to) (at .loop .live + 1) (omega arith) (omega arith))
 
   found : (v : SheetValue) → rowsOf v last (start at .args .to) (at .loop .live) ≡ rowsOf v (at .loop .rows) (start at .args .to) (at .loop .live)
   found v = listed-same (at .loop .live) (λ j l. ap (cut v) (row-stays (c .advance-row .ensures .stays) (start at .args .to + j) (at .loop .inv .small j l) (λ e. omega arith)))
@@ -109,13 +96,13 @@ module _ (c : tie.After-advance-row Inv-loop μ-loop) where
   next : (v : SheetValue) → rest v (start at .args .rows .now) (start at .args .from) (start at .args .n) (at .loop .k) ≡ cut v (rowOf (start at .args .rows .now) (start at .args .from + at .loop .k)) ∷ rest v (start at .args .rows .now) (start at .args .from) (start at .args .n) (at .loop .k + 1)
   next v = listed-cons (λ j. cut v (rowOf (start at .args .rows .now) (start at .args .from + j))) (start at .args .n) (at .loop .k) (omega arith)
 
-  size : length last ≡ words
-  size = c .advance-row .ensures .stays .size ∙ at .loop .inv .size
-
   became : {r : Next} → c .advance-row .result ≡ r → (v : SheetValue) → Asked v (start at .args .plan) (start at .args .f) → T (all smallLeads (rowsOf v (start at .args .rows .now) (start at .args .from) (start at .args .n)))
       → nextOf v r last (start at .args .to + at .loop .live) ≡ advanced v (instantOf (start at .args .f)) (begunIn (start at .args .f)) (cut v (rowOf (start at .args .rows .now) (start at .args .from + at .loop .k)))
   became g v asked leads =
-      let e = at .loop .inv .same (at .loop .k) (omega arith) in
+      let x = start at .pre in
+      let k = at .loop .k in
+      let h : k < start at .args .n = omega arith in
+      let e = held-row (x .sides) (at .loop .inv .stays) (omega (arith, at .loop .inv .fewer)) k (omega (arith, x .held)) (x .small k h) in
       ap (λ (r : Next). nextOf v r last (start at .args .to + at .loop .live)) (sym g)
       ∙ c .advance-row .ensures .row v asked (subst (λ (r : Remainder). T (smallLeads (cut v r))) (sym e) (one-of (λ j. cut v (rowOf (start at .args .rows .now) (start at .args .from + j))) smallLeads (start at .args .n) leads (at .loop .k) (omega arith)))
       ∙ ap (λ (r : Remainder). advanced v (instantOf (start at .args .f)) (begunIn (start at .args .f)) (cut v r)) e
@@ -127,11 +114,9 @@ loop-again c =
     record {
       turns = omega arith;
       fewer = w .fewer;
-      size = size t;
+      more = w .more;
+      stays = stays t;
       small = small t;
-      head = head t;
-      few = few t;
-      same = same t;
       settled = λ v asked leads. settled-fails _ _ _ _ (w .settled v asked leads) (next t v) (found t v) (became t (c .enum-told .given .1) v asked leads);
     }
 
@@ -140,11 +125,9 @@ returns c =
     let t = c .before .before in
     let w = at t .loop .inv in
     record {
-      size = size t;
+      more = omega (arith, w .more, w .fewer);
+      stays = rows-stay-wide (stays t) 33 (omega (arith, w .fewer));
       small = tt;
-      head = head t;
-      few = few t;
-      same = same t;
       settled = λ v asked leads. settled-over _ _ _ _ (w .settled v asked leads) (next t v) (found t v) (became t (c .enum-told2 .given .1) v asked leads);
     }
 
@@ -174,11 +157,9 @@ loop-again-2 c =
     record {
       turns = omega arith;
       fewer = w .fewer;
-      size = size t;
+      more = w .more;
+      stays = stays t;
       small = small t;
-      head = head t;
-      few = few t;
-      same = same t;
       settled = λ v asked leads. settled-there _ _ _ _ (w .settled v asked leads) (next t v) (found t v) (became t (onto (c .before .before .before)) v asked leads) (m .ensures v (sym (asked .as-many)) (asked .leading)) (c .if1 .taken);
     }
 
@@ -189,11 +170,9 @@ returns-2 c =
     let t = turn (e .before) in
     let w = at t .loop .inv in
     record {
-      size = size t;
+      more = omega (arith, w .more, w .fewer);
+      stays = rows-stay-wide (stays t) 33 (omega (arith, w .fewer));
       small = tt;
-      head = head t;
-      few = few t;
-      same = same t;
       settled = λ v asked leads. settled-full _ _ _ _ (w .settled v asked leads) (next t v) (found t v) (became t (onto (e .before .before .before)) v asked leads) (m .ensures v (sym (asked .as-many)) (asked .leading)) (e .if1 .left) (omega (arith, length-listed (λ j. cut v (rowOf (last t) (start (at t) .args .to + j))) (at t .loop .live)));
     }
 
@@ -207,11 +186,9 @@ loop-again-3 c =
     record {
       turns = omega arith;
       fewer = omega arith;
-      size = size t;
+      more = omega (arith, w .more);
+      stays = rows-stay-wide (stays t) (live + 1 + 1) (omega arith);
       small = more (e .before .before .before);
-      head = head t;
-      few = few t;
-      same = same t;
       settled = λ v asked leads. rw (listed-snoc (λ j. cut v (rowOf (last t) (start (at t) .args .to + j))) live) (settled-more _ _ _ _ (w .settled v asked leads) (next t v) (found t v) (became t (onto (e .before .before .before)) v asked leads) (m .ensures v (sym (asked .as-many)) (asked .leading)) (e .if1 .left) (omega (arith, length-listed (λ j. cut v (rowOf (last t) (start (at t) .args .to + j))) live)));
     }
 
@@ -220,11 +197,9 @@ returns-3 c =
     let at = c .before in
     let w = at .loop .inv in
     record {
-      size = w .size;
+      more = omega (arith, w .more);
+      stays = w .stays;
       small = (w .fewer, w .small);
-      head = w .head;
-      few = w .few;
-      same = w .same;
       settled = λ v asked leads. sym (w .settled v asked leads ∙ settled-end _ _ _ _ (listed-end _ (start at .args .n) (at .loop .k) (omega arith)));
     }
 

@@ -1,13 +1,12 @@
--- `settle_all` meets its contract. The invariant: what all fillings make of none is what those from i on make of what is found so far; the rows held stay. Assumes nothing.
+-- `settle_all` meets its contract. The invariant: what all fillings make of none is what those from i on make of what is found so far; only rows of those found and the one after them change. Assumes nothing.
 use mathlib.Core.Bool.{Bool}
 use mathlib.Core.List.{List, []}
 use mathlib.Core.Option.{some}
-use mathlib.Core.Path.{_≡_, refl, sym, ap, _∙_, subst}
-use Prim.Native.Nat.{ℕ, _+_, _-_, _<_, _≤_}
+use mathlib.Core.Path.{_≡_, sym, ap, _∙_, subst}
+use Prim.Native.Nat.{ℕ, _+_, _-_, _≤_}
 use native.Mathlib.Omega.{arith}
 use lib.Dec.{T}
 use lib.IntN.{ℤ}
-use lib.ListN.{length}
 use borrow.Author.Needs.{needs}
 use Rattle.records.specs.Lists.{listedFrom}
 use Rattle.records.specs.Sheet.{SheetValue}
@@ -18,10 +17,12 @@ use Rattle.judge.specs.declared.held.Count.{Count}
 use Rattle.judge.specs.View.{cut}
 use Rattle.judge.specs.Lines.{smallLeads}
 use Rattle.judge.specs.Plan.{Planned}
-use Rattle.judge.specs.Rows.{words, rowOf, rowsOf, Small, HeadStays}
-use Rattle.judge.specs.Settle.{foundIn, SmallIn}
+use Rattle.judge.specs.Rows.{rowsOf, Small, RowsStay}
+use Rattle.judge.specs.Settle.{foundIn, SmallIn, builtRows}
 use Rattle.judge.specs.Fillings.{fillingsIn, takenBy, settling}
 use Rattle.judge.proofs.Listing.{listed-same}
+use Rattle.judge.proofs.rows.Laws.{rows-stay-all, rows-stay-wide, rows-stay-on}
+use Rattle.judge.proofs.settle.Laws.{held-few, held-row}
 use Rattle.judge.proofs.settle_all.Laws.{takenFrom, settling-same, taken-start, taken-end, taken-more, taken-over}
 use Rattle.judge.proofs.settle_all.settle_all.Statement.{statement}
 use Rattle.judge.proofs.settle_all.settle_all.Tie as tie
@@ -29,11 +30,8 @@ use Rattle.judge.proofs.settle_all.settle_all.Tie as tie
 record Taken (lines : List ℕ) (p : Plan) (tags : List ℤ) (m : ℕ) (list : List Bool) (from n : ℕ) (was rows : List ℕ) (live i : ℕ) : Type 0 where
   turns : i ≤ m
   fewer : live ≤ 32
-  size : length rows ≡ words
+  stays : RowsStay (45 - from) (live + 1) was rows
   small : Small rows (45 - from) live
-  head : HeadStays was rows
-  few : Small rows from n
-  same : (j : ℕ) → j < n → rowOf rows (from + j) ≡ rowOf was (from + j)
   taken : (v : SheetValue) → Planned v p lines → T (all smallLeads (rowsOf v was from n))
       → takenBy (settling 32 v tags (rowsOf v was from n)) (fillingsIn list m) (some []) ≡ takenFrom v tags (rowsOf v was from n) list m i (some (rowsOf v rows (45 - from) live))
 
@@ -49,11 +47,8 @@ loop-holds c =
     record {
       turns = omega arith;
       fewer = omega arith;
-      size = c .pre .size;
+      stays = rows-stay-all _ _ _;
       small = λ k h. absurd (omega arith);
-      head = λ h p l m. refl;
-      few = c .pre .small;
-      same = λ j h. refl;
       taken = λ v planned leads. taken-start v (c .args .tags) (rowsOf v (c .args .rows .now) (c .args .from) (c .args .n)) (c .args .list .now) (c .args .m);
     }
 
@@ -68,14 +63,16 @@ module _ (c : tie.After-settle Inv-loop μ-loop) where
   abbrev last : List ℕ
   last = c .settle .last .0
 
-  same : (j : ℕ) → j < at .before .args .n → rowOf last (at .before .args .from + j) ≡ rowOf (at .before .args .rows .now) (at .before .args .from + j)
-  same j h = c .settle .ensures .same j h ∙ at .loop .inv .same j h
-
-  head : HeadStays (at .before .args .rows .now) last
-  head h p l m = c .settle .ensures .head h p l m ∙ at .loop .inv .head h p l m
-
   held : (v : SheetValue) → rowsOf v (at .loop .rows) (at .before .args .from) (at .before .args .n) ≡ rowsOf v (at .before .args .rows .now) (at .before .args .from) (at .before .args .n)
-  held v = listed-same (at .before .args .n) (λ j h. ap (cut v) (at .loop .inv .same j h))
+  held v =
+      let x = at .before .pre in
+      let w = at .loop .inv in
+      listed-same (at .before .args .n) (λ j h. ap (cut v) (held-row (x .side) (w .stays) (omega (arith, w .fewer)) j (omega (arith, x .held)) (x .small j h)))
+
+  stays : {r : Count} → c .settle .result ≡ r → RowsStay (45 - at .before .args .from) (builtRows r) (at .before .args .rows .now) last
+  stays e =
+      let s = c .settle .ensures in
+      subst (λ (x : Count). RowsStay (45 - at .before .args .from) (builtRows x) (at .before .args .rows .now) last) e (rows-stay-on (rows-stay-wide (at .loop .inv .stays) (builtRows (c .settle .result)) (omega (arith, s .more))) (s .stays))
 
   settled : (v : SheetValue) → Planned v (at .before .args .plan) (at .before .args .lines .now) → T (all smallLeads (rowsOf v (at .before .args .rows .now) (at .before .args .from) (at .before .args .n)))
       → foundIn v (c .settle .result) last (45 - at .before .args .from) ≡ settling 32 v (at .before .args .tags) (rowsOf v (at .before .args .rows .now) (at .before .args .from) (at .before .args .n)) (some (rowsOf v (at .loop .rows) (45 - at .before .args .from) (at .loop .live))) (g .before .flags-at .result)
@@ -90,15 +87,14 @@ settle-requires c κs =
     let at = g .before .before .before in
     let w = at .loop .inv in
     let p = at .before .pre in
-    record { size = w .size; sides = p .side; held = p .held; fewer = w .fewer; small = w .few; smallFound = w .small; plan = p .plan; begun = g .gather .ensures .few }
+    record { size = w .stays .size ∙ p .size; sides = p .side; held = p .held; fewer = w .fewer; small = λ j h. held-few (p .side) (w .stays) (omega (arith, w .fewer)) j (omega (arith, p .held)) (p .small j h); smallFound = w .small; plan = p .plan; begun = g .gather .ensures .few }
 
 returns : tie.Need-returns Inv-loop μ-loop
 returns c =
     let t = c .before .before in
     let w = at t .loop .inv in
     record {
-      size = t .settle .ensures .size;
-      head = head t;
+      stays = stays t (c .enum-told .given .1);
       small = tt;
       settled = λ v planned leads. taken-over v (at t .before .args .tags) _ (at t .before .args .list .now) (at t .before .args .m) (at t .loop .i) _ (w .taken v planned leads) (omega arith) (g t .before .flags-at .ensures) (ap (λ (r : Count). foundIn v r (last t) (45 - at t .before .args .from)) (sym (c .enum-told .given .1)) ∙ settled t v planned leads);
     }
@@ -112,11 +108,8 @@ loop-again c =
     record {
       turns = omega arith;
       fewer = s .0;
-      size = t .settle .ensures .size;
-      head = head t;
+      stays = stays t (k .1);
       small = s .1;
-      few = t .settle .ensures .few;
-      same = same t;
       taken = λ v planned leads. taken-more v (at t .before .args .tags) _ (at t .before .args .list .now) (at t .before .args .m) (at t .loop .i) _ (w .taken v planned leads) (omega arith) (g t .before .flags-at .ensures) (ap (λ (r : Count). foundIn v r (last t) (45 - at t .before .args .from)) (sym (k .1)) ∙ settled t v planned leads);
     }
 
@@ -124,7 +117,7 @@ returns-2 : tie.Need-returns-2 Inv-loop μ-loop
 returns-2 c =
     let at = c .before in
     let w = at .loop .inv in
-    record { size = w .size; small = (w .fewer, w .small); head = w .head; settled = λ v planned leads. taken-end v (at .before .args .tags) _ (at .before .args .list .now) (at .before .args .m) (at .loop .i) _ (w .taken v planned leads) (omega arith) }
+    record { stays = w .stays; small = (w .fewer, w .small); settled = λ v planned leads. taken-end v (at .before .args .tags) _ (at .before .args .list .now) (at .before .args .m) (at .loop .i) _ (w .taken v planned leads) (omega arith) }
 
 pub settle-all-spec : {M : Type 1} → statement M
 settle-all-spec =
