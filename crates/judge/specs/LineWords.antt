@@ -1,12 +1,21 @@
 -- A line in six words: its kind, its clocks A, B and D, and two numbers. Every six words read as a line.
 use mathlib.Core.Bool.{cond}
+use mathlib.Core.List.{List}
 use mathlib.Core.Path.{_≡_}
-use Prim.Native.Nat.{ℕ, _%_, _≤_}
+use Prim.Native.Nat.{ℕ, _+_, _%_, _≤_}
 use lib.Dec.{eqb}
+use lib.ListN.{getD}
 use Rattle.records.specs.declared.line.Line.{Line}
 use Rattle.records.specs.declared.line.Line.the-variants.{Sporadic, Relation, Implies, Excludes, Delayed, Weakly, Strictly, Kills}
 use Rattle.records.specs.Word.{tagOf, rawOf}
 use Rattle.judge.specs.declared.line_words.LineWords.{LineWords}
+
+-- six words; those from place i on
+abbrev pub wordsBy : ℕ → ℕ → ℕ → ℕ → ℕ → ℕ → LineWords
+wordsBy kind a b d x y = record { kind = kind; a = a; b = b; d = d; x = x; y = y }
+
+abbrev pub wordsAt : List ℕ → ℕ → LineWords
+wordsAt ws i = wordsBy (getD ws i 0) (getD ws (i + 1) 0) (getD ws (i + 2) 0) (getD ws (i + 3) 0) (getD ws (i + 4) 0) (getD ws (i + 5) 0)
 
 -- the line of a kind, with its clocks A, B and D and two numbers; tags as raw words; an unknown kind is kills
 unfoldable pub lineBy : ℕ → ℕ → ℕ → ℕ → ℕ → ℕ → Line
@@ -24,9 +33,6 @@ abbrev pub lineOfWords : LineWords → Line
 lineOfWords w = lineBy (w .kind % 65536) (w .a % 256) (w .b % 256) (w .d % 256) (w .x % 65536) (w .y % 65536)
 
 -- a line's words; those it does without are 0
-abbrev pub wordsBy : ℕ → ℕ → ℕ → ℕ → ℕ → ℕ → LineWords
-wordsBy kind a b d x y = record { kind = kind; a = a; b = b; d = d; x = x; y = y }
-
 abbrev pub wordsOf : Line → LineWords
 wordsOf (Sporadic a b t) = wordsBy 16 a b 0 (rawOf t) 0
 wordsOf (Relation a b p q) = wordsBy 17 a b 0 (rawOf p) (rawOf q)

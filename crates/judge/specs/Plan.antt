@@ -1,21 +1,21 @@
--- A sheet's lines in an array of numbers, five to a row, and what is found out about a sheet once.
-use mathlib.Core.Bool.{Bool, true, false, cond, _&&_}
+-- A sheet's lines in an array of words, a row to each, and what is found out about a sheet once.
+use mathlib.Core.Bool.{Bool, true, false, _&&_}
 use mathlib.Core.List.{List}
 use mathlib.Core.Path.{_≡_}
-use Prim.Native.Nat.{ℕ, _+_, _*_, _%_, _≤_, _<_}
-use lib.Dec.{eqb, ltb}
+use Prim.Native.Nat.{ℕ, _+_, _*_, _≤_, _<_}
+use lib.Dec.{ltb}
 use lib.ListN.{length, getD, replicate}
 use Rattle.records.specs.declared.line.Line.{Line}
 use Rattle.records.specs.declared.line.Line.the-variants.{Sporadic, Relation, Implies, Excludes, Delayed, Weakly, Strictly, Kills}
 use Rattle.records.specs.declared.sheet.Sheet.{Sheet}
 use Rattle.records.specs.Lists.{listed}
-use Rattle.records.specs.Word.{tagOf}
 use Rattle.records.specs.Line.{blankLine, ofRelation, ofDelayed, ofPrecedes}
 use Rattle.records.specs.Sheet.{SheetValue, sheetValue}
 use Rattle.tesl.specs.Lists.{filter, flatMap}
 use Rattle.judge.specs.declared.plan.Plan.{Plan}
 use Rattle.judge.specs.declared.plan.Part.{Part}
 use Rattle.judge.specs.declared.plan.Part.the-variants.{All, Relations, Rules, Delays}
+use Rattle.judge.specs.LineWords.{wordsAt, lineOfWords}
 use Rattle.judge.specs.Heed.{namedBy, flagged}
 
 -- ---- the parts of a sheet
@@ -46,27 +46,31 @@ belongs Relations l = isRelation l
 belongs Rules l = isRule l
 belongs Delays l = isDelay l
 
--- ---- lines in numbers
+-- ---- lines in words
 
--- numbers of 64 rows
+-- words of a row, rows, words in all; a power of two to a row, so that it is found by a shift
+abbrev pub lineWidth : ℕ
+lineWidth = 8
+
+abbrev pub planRows : ℕ
+planRows = 64
+
 abbrev pub numbers : ℕ
-numbers = 320
+numbers = lineWidth * planRows
 
--- by the kind number; tags as raw words
-abbrev pub lineBy : ℕ → ℕ → ℕ → ℕ → ℕ → Line
-lineBy kind a b x y =
-    cond (eqb kind 16) (Sporadic a b (tagOf x))
-    (cond (eqb kind 17) (Relation a b (tagOf x) (tagOf y))
-    (cond (eqb kind 18) (Implies a b)
-    (cond (eqb kind 19) (Excludes a b)
-    (cond (eqb kind 20) (Delayed a b (x % 256) y)
-    (cond (eqb kind 21) (Weakly a b)
-    (cond (eqb kind 22) (Strictly a b) (Kills a b)))))))
+-- the rows where relations, rules and delay lines begin
+abbrev pub relationsFrom : ℕ
+relationsFrom = 16
+
+abbrev pub rulesFrom : ℕ
+rulesFrom = 32
+
+abbrev pub delaysFrom : ℕ
+delaysFrom = 48
 
 -- the line of row j
 abbrev pub lineIn : List ℕ → ℕ → Line
-lineIn lines j =
-    lineBy (getD lines (5 * j) 0) (getD lines (5 * j + 1) 0 % 256) (getD lines (5 * j + 2) 0 % 256) (getD lines (5 * j + 3) 0) (getD lines (5 * j + 4) 0)
+lineIn lines j = lineOfWords (wordsAt lines (lineWidth * j))
 
 -- the lines of n rows from row `from` on
 abbrev pub linesIn : List ℕ → ℕ → ℕ → List Line
@@ -86,14 +90,14 @@ pub record Fitting (p : Plan) : Type 0 where
   pub few-rules : p .rules ≤ 16
   pub few-delays : p .delays ≤ 16
 
--- what was found out about a sheet: all lines from row 0 on, the relations from 16, the rules from 32, the delay lines from 48 on; the precedes lines; the clocks that lines name
+-- what was found out about a sheet: all lines from row 0 on, and its three parts from their rows on; the precedes lines; the clocks that lines name
 pub record Planned (v : SheetValue) (p : Plan) (lines : List ℕ) : Type 0 where
   pub as-many : p .clocks ≡ v .clocks
   pub few-clocks : v .clocks ≤ 8
   pub all : (k : ℕ) → k < p .reach → lineIn lines k ≡ getD (v .lines) k blankLine
-  pub relations : linesIn lines 16 (p .relations) ≡ filter isRelation (v .lines)
-  pub rules : linesIn lines 32 (p .rules) ≡ filter isRule (v .lines)
-  pub delays : linesIn lines 48 (p .delays) ≡ filter isDelay (v .lines)
+  pub relations : linesIn lines relationsFrom (p .relations) ≡ filter isRelation (v .lines)
+  pub rules : linesIn lines rulesFrom (p .rules) ≡ filter isRule (v .lines)
+  pub delays : linesIn lines delaysFrom (p .delays) ≡ filter isDelay (v .lines)
   pub leading : Leading v (p .reach) (p .precede)
   pub named : p .named ≡ flagged (flatMap namedBy (v .lines)) (replicate 8 false)
 
@@ -104,10 +108,10 @@ pub record Reaches (s : Sheet) (r : ℕ) : Type 0 where
   pub within : r ≤ s .count
   pub past : (i : ℕ) → r ≤ i → isPrecedes (getD (sheetValue s .lines) i blankLine) ≡ false
 
--- row j of 64
+-- a row of the plan
 pub record LineRow (lines : List ℕ) (j : ℕ) : Type 0 where
   pub size : length lines ≡ numbers
-  pub row : j < 64
+  pub row : j < planRows
 
 -- a line in row j; the rows before stay
 pub record PutLine (j : ℕ) (l : Line) (a b : List ℕ) : Type 0 where
@@ -119,7 +123,7 @@ pub record PutLine (j : ℕ) (l : Line) (a b : List ℕ) : Type 0 where
 pub record Gathering (s : Sheet) (lines : List ℕ) (from : ℕ) : Type 0 where
   pub few : s .count ≤ 16
   pub size : length lines ≡ numbers
-  pub room : from ≤ 48
+  pub room : from ≤ delaysFrom
 
 -- the r lines of a part from row `from` on; the rows before stay
 pub record GatheredPart (s : Sheet) (part : Part) (from r : ℕ) (a b : List ℕ) : Type 0 where

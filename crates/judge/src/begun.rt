@@ -13,7 +13,7 @@ ghost use Rattle.tesl.specs.Fits.{owedFrom};
 ghost use Rattle.tesl.specs.Remainder.{sameObligation};
 ghost use Rattle.theory.specs.Adding.{onceEach};
 ghost use Rattle.judge.specs.View.{obligationOf, firstOf, filledOf};
-ghost use Rattle.judge.specs.Plan.{linesIn};
+ghost use Rattle.judge.specs.Plan.{linesIn, delaysFrom};
 
 pub(crate) struct Begins {
     pub count: usize,
@@ -37,13 +37,13 @@ fn has_begun(n: usize, begun: [Obligation; 16], o: Obligation) -> bool
 
 // What n delay lines begin: at most one obligation to a line.
 pub(crate) fn begin_all(
-    lines: &[u16; NUMBERS],
+    lines: &[u32; NUMBERS],
     n: usize,
     ticks: [bool; 8],
     tags: [i16; 8],
 ) -> Begins
     requires { ⌜ n ≤ 16 ⌝ }
-    ensures { λ r. ⌜ (r .count ≤ 16) × (firstOf (r .count) (r .begun) ≡ onceEach sameObligation (flatMap (owedFrom (filledOf ticks tags)) (linesIn (now (lines .entry)) 48 n))) ⌝ }
+    ensures { λ r. ⌜ (r .count ≤ 16) × (firstOf (r .count) (r .begun) ≡ onceEach sameObligation (flatMap (owedFrom (filledOf ticks tags)) (linesIn (now (lines .entry)) delaysFrom n))) ⌝ }
 {
     let none = Obligation {
         clock: 0,

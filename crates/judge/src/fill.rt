@@ -24,7 +24,7 @@ ghost use Rattle.tesl.specs.Fits.{noneFalls};
 ghost use Rattle.judge.specs.View.{tagsBefore};
 ghost use Rattle.judge.specs.Questions.{tagsHold};
 ghost use Rattle.judge.specs.Rules.{allowed};
-ghost use Rattle.judge.specs.Plan.{linesIn};
+ghost use Rattle.judge.specs.Plan.{linesIn, relationsFrom, rulesFrom};
 ghost use Rattle.judge.specs.Fill.{fillingsLeft, Listing, Listed, Working, Worked};
 
 // What went before an instant: nothing, or the last tags.
@@ -59,7 +59,7 @@ fn with_tick(ticks: [bool; 8], k: usize) -> [bool; 8]
 
 // Lists the fillings of the clocks from k on that the rules allow, after the first n: settles clock k, then those from k + 1; an unseen tick branches into idle and, where its clock has a flag, tick.
 fn fill(
-    lines: &[u16; NUMBERS],
+    lines: &[u32; NUMBERS],
     extent: Extent,
     flags: [bool; 8],
     k: usize,
@@ -69,7 +69,7 @@ fn fill(
     n: usize,
 ) -> usize
     requires { ⌜ Listing (now list) extent flags k seen ticks n ⌝ }
-    ensures { λ r. ⌜ Listed (allowed (linesIn (now (lines .entry)) 32 (extent .rules))) (fillingsLeft flags seen (extent .clocks) k ticks) n r (now (list .entry)) (now (list .exit)) ⌝ }
+    ensures { λ r. ⌜ Listed (allowed (linesIn (now (lines .entry)) rulesFrom (extent .rules))) (fillingsLeft flags seen (extent .clocks) k ticks) n r (now (list .entry)) (now (list .exit)) ⌝ }
 {
     let clocks = extent.clocks as usize;
     let rules = extent.rules as usize;
@@ -104,14 +104,14 @@ fn fill(
 // The tags of an instant: none falls below its tag at the instant before, and each of n relations holds.
 fn tags_fit(
     clocks: usize,
-    lines: &[u16; NUMBERS],
+    lines: &[u32; NUMBERS],
     n: usize,
     first: bool,
     was: [i16; 8],
     tags: [i16; 8],
 ) -> bool
     requires { ⌜ (clocks ≤ 8) × (n ≤ 16) ⌝ }
-    ensures { λ r. ⌜ r ≡ (noneFalls clocks (tagsBefore first was) tags && all (tagsHold tags) (linesIn (now (lines .entry)) 16 n)) ⌝ }
+    ensures { λ r. ⌜ r ≡ (noneFalls clocks (tagsBefore first was) tags && all (tagsHold tags) (linesIn (now (lines .entry)) relationsFrom n)) ⌝ }
 {
     if first {
         return all_tags_hold(lines, n, tags);
@@ -129,7 +129,7 @@ pub(crate) fn work_rows(
     from: usize,
     count: Count,
     plan: Plan,
-    lines: &[u16; NUMBERS],
+    lines: &[u32; NUMBERS],
     before: Before,
     instant: Instant,
     list: &mut [bool; LIST],

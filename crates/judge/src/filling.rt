@@ -22,7 +22,7 @@ pub struct Filling {
 
 // What a filling that the rules allow asks of every row and makes of it.
 pub(crate) fn gather(
-    lines: &[u16; NUMBERS],
+    lines: &[u32; NUMBERS],
     plan: Plan,
     ticks: [bool; 8],
     tags: [i16; 8],

@@ -54,7 +54,7 @@ pub(crate) fn kept_of(monitor: Monitor) -> Kept
 fn work_instant(
     kept: Kept,
     plan: Plan,
-    lines: &[u16; NUMBERS],
+    lines: &[u32; NUMBERS],
     instant: Instant,
     rows: &mut [u32; SIZE],
     list: &mut [bool; LIST],
@@ -90,7 +90,7 @@ fn work_instant(
 pub(crate) fn observe_rows(
     kept: Kept,
     plan: Plan,
-    lines: &[u16; NUMBERS],
+    lines: &[u32; NUMBERS],
     bytes: &[u8],
     rows: &mut [u32; SIZE],
     list: &mut [bool; LIST],

@@ -132,7 +132,7 @@ pub(crate) struct Asks {
 }
 
 // For each of the first `reach` lines.
-pub(crate) fn ask_leads(lines: &[u16; NUMBERS], reach: usize, ticks: [bool; 8]) -> Asks
+pub(crate) fn ask_leads(lines: &[u32; NUMBERS], reach: usize, ticks: [bool; 8]) -> Asks
     requires { ⌜ reach ≤ 16 ⌝ }
     ensures { λ r. ⌜ AskedLeads (now (lines .entry)) reach ticks (r .needs) (r .gains) (r .losses) ⌝ }
 {

@@ -9,12 +9,12 @@ ghost use lib.Signed.{leZ};
 ghost use Rattle.tesl.specs.Lists.{all, below};
 ghost use Rattle.tesl.specs.Run.{tagIn};
 ghost use Rattle.judge.specs.Questions.{tagsHold};
-ghost use Rattle.judge.specs.Plan.{linesIn};
+ghost use Rattle.judge.specs.Plan.{linesIn, relationsFrom};
 
 // What n relations ask of the tags.
-pub(crate) fn all_tags_hold(lines: &[u16; NUMBERS], n: usize, tags: [i16; 8]) -> bool
+pub(crate) fn all_tags_hold(lines: &[u32; NUMBERS], n: usize, tags: [i16; 8]) -> bool
     requires { ⌜ n ≤ 16 ⌝ }
-    ensures { λ r. ⌜ r ≡ all (tagsHold tags) (linesIn (now (lines .entry)) 16 n) ⌝ }
+    ensures { λ r. ⌜ r ≡ all (tagsHold tags) (linesIn (now (lines .entry)) relationsFrom n) ⌝ }
 {
     let mut i = 0;
     while i < n {

@@ -34,7 +34,7 @@ fn observe_records(
     opening: Reply,
     first: Kept,
     plan: Plan,
-    lines: &[u16; NUMBERS],
+    lines: &[u32; NUMBERS],
     rows: &mut [u32; SIZE],
     list: &mut [bool; LIST],
 ) -> Judged
@@ -90,7 +90,7 @@ fn observe_all(opened: Given, log: &[u8]) -> Judged
         };
     }
     let sheet = monitor.sheet;
-    let mut lines = [0u16; NUMBERS];
+    let mut lines = [0u32; NUMBERS];
     let plan = plan_of(sheet, &mut lines);
     let held = monitor.held;
     let count = held.count;

@@ -116,7 +116,7 @@ pub fn observe(monitor: Monitor, bytes: &[u8]) -> Given
         return refuse(number::MONITOR_LIMITS, monitor);
     }
     let sheet = monitor.sheet;
-    let mut lines = [0u16; NUMBERS];
+    let mut lines = [0u32; NUMBERS];
     let plan = plan_of(sheet, &mut lines);
     let held = monitor.held;
     let count = held.count;

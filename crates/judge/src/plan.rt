@@ -1,19 +1,23 @@
-// A sheet's lines in a lent array of numbers, five to a line, its row, and what is found out about the sheet once. All lines stand in the sheet's order from row 0 on; its relations, its rules and its delay lines once more, from rows 16, 32 and 48 on.
+// A sheet's lines in a lent array of words, a row to each, and what is found out about the sheet once. All lines stand in the sheet's order from row 0 on; its relations, its rules and its delay lines once more, from rows 16, 32 and 48 on.
 use crate::heed::flag_lines;
 use crate::held::clocks_of;
 use crate::leads::leading_of;
 use crate::leads::reach_of;
+use crate::line_words::LineWords;
+use crate::line_words::line_of_words;
+use crate::line_words::words_of_line;
 use records::line::Line;
-use records::number;
 use records::sheet::Sheet;
-use records::word::raw_of;
-use records::word::tag_of;
 ghost use mathlib.Core.Path.{_≡_};
-ghost use Prim.Native.Nat.{_%_, _<_};
-ghost use Rattle.judge.specs.Plan.{isRelation, isRule, isDelay, belongs, lineBy, lineIn, LineRow, PutLine, Gathering, GatheredPart, Preparing, PlanOf};
+ghost use Prim.Native.Nat.{_<_};
+ghost use Rattle.judge.specs.Plan.{isRelation, isRule, isDelay, belongs, planRows, lineIn, LineRow, PutLine, Gathering, GatheredPart, Preparing, PlanOf};
 
-// Five numbers to each of 64 rows.
-pub(crate) const NUMBERS: usize = 320;
+// Words of a row, six of them used; rows; words in all.
+const LINE_WIDTH: usize = 8;
+
+const PLAN_ROWS: usize = 64;
+
+pub(crate) const NUMBERS: usize = LINE_WIDTH * PLAN_ROWS;
 
 // The rows where relations, rules and delay lines begin.
 pub(crate) const RELATIONS: usize = 16;
@@ -98,86 +102,39 @@ fn is_part(part: Part, l: Line) -> bool
     }
 }
 
-fn byte_of(w: u16) -> u8
-    ensures { λ r. ⌜ r ≡ w % 256 ⌝ }
-{
-    (w % 256) as u8
-}
-
-// The line of five numbers: its kind, its clocks A and B, and two more.
-fn line_by(kind: u16, a: u8, b: u8, x: u16, y: u16) -> Line
-    ensures { λ r. ⌜ r ≡ lineBy kind a b x y ⌝ }
-{
-    match kind {
-        number::SPORADIC => Line::Sporadic { a, b, t: tag_of(x) },
-        number::RELATION => Line::Relation {
-            a,
-            b,
-            p: tag_of(x),
-            q: tag_of(y),
-        },
-        number::IMPLIES => Line::Implies { a, b },
-        number::EXCLUDES => Line::Excludes { a, b },
-        number::DELAYED => Line::Delayed {
-            a,
-            b,
-            d: byte_of(x),
-            by: y,
-        },
-        number::WEAKLY => Line::Weakly { a, b },
-        number::STRICTLY => Line::Strictly { a, b },
-        _ => Line::Kills { a, b },
-    }
-}
-
 // The line of row j.
-pub(crate) fn line_in(lines: &[u16; NUMBERS], j: usize) -> Line
-    requires { ⌜ j < 64 ⌝ }
+pub(crate) fn line_in(lines: &[u32; NUMBERS], j: usize) -> Line
+    requires { ⌜ j < planRows ⌝ }
     ensures { λ r. ⌜ r ≡ lineIn (now (lines .entry)) j ⌝ }
 {
-    let kind = lines[5 * j];
-    let a = byte_of(lines[5 * j + 1]);
-    let b = byte_of(lines[5 * j + 2]);
-    let x = lines[5 * j + 3];
-    let y = lines[5 * j + 4];
-    line_by(kind, a, b, x, y)
-}
-
-// Stores five numbers in row j; the rows before stay.
-fn put_numbers(lines: &mut [u16; NUMBERS], j: usize, kind: u16, a: u8, b: u8, x: u16, y: u16)
-    requires { ⌜ LineRow (now lines) j ⌝ }
-    ensures { λ _. ⌜ PutLine j (lineBy kind a b x y) (now (lines .entry)) (now (lines .exit)) ⌝ }
-{
-    lines[5 * j] = kind;
-    lines[5 * j + 1] = a as u16;
-    lines[5 * j + 2] = b as u16;
-    lines[5 * j + 3] = x;
-    lines[5 * j + 4] = y;
+    let at = LINE_WIDTH * j;
+    line_of_words(LineWords {
+        kind: lines[at],
+        a: lines[at + 1],
+        b: lines[at + 2],
+        d: lines[at + 3],
+        x: lines[at + 4],
+        y: lines[at + 5],
+    })
 }
 
 // Stores a line in row j; the rows before stay.
-fn put_line(lines: &mut [u16; NUMBERS], j: usize, l: Line)
+fn put_line(lines: &mut [u32; NUMBERS], j: usize, l: Line)
     requires { ⌜ LineRow (now lines) j ⌝ }
     ensures { λ _. ⌜ PutLine j l (now (lines .entry)) (now (lines .exit)) ⌝ }
 {
-    match l {
-        Line::Sporadic { a, b, t } => put_numbers(lines, j, number::SPORADIC, a, b, raw_of(t), 0),
-        Line::Relation { a, b, p, q } => {
-            put_numbers(lines, j, number::RELATION, a, b, raw_of(p), raw_of(q))
-        }
-        Line::Implies { a, b } => put_numbers(lines, j, number::IMPLIES, a, b, 0, 0),
-        Line::Excludes { a, b } => put_numbers(lines, j, number::EXCLUDES, a, b, 0, 0),
-        Line::Delayed { a, b, d, by } => {
-            put_numbers(lines, j, number::DELAYED, a, b, d as u16, by)
-        }
-        Line::Weakly { a, b } => put_numbers(lines, j, number::WEAKLY, a, b, 0, 0),
-        Line::Strictly { a, b } => put_numbers(lines, j, number::STRICTLY, a, b, 0, 0),
-        Line::Kills { a, b } => put_numbers(lines, j, number::KILLS, a, b, 0, 0),
-    }
+    let w = words_of_line(l);
+    let at = LINE_WIDTH * j;
+    lines[at] = w.kind;
+    lines[at + 1] = w.a;
+    lines[at + 2] = w.b;
+    lines[at + 3] = w.d;
+    lines[at + 4] = w.x;
+    lines[at + 5] = w.y;
 }
 
 // Gathers the lines of a part from row `from` on, in the sheet's order; the rows before stay.
-fn gather(s: Sheet, part: Part, lines: &mut [u16; NUMBERS], from: usize) -> usize
+fn gather(s: Sheet, part: Part, lines: &mut [u32; NUMBERS], from: usize) -> usize
     requires { ⌜ Gathering s (now lines) from ⌝ }
     ensures { λ r. ⌜ GatheredPart s part from r (now (lines .entry)) (now (lines .exit)) ⌝ }
 {
@@ -198,7 +155,7 @@ fn gather(s: Sheet, part: Part, lines: &mut [u16; NUMBERS], from: usize) -> usiz
 }
 
 // What is found out about a sheet once.
-pub(crate) fn plan_of(s: Sheet, lines: &mut [u16; NUMBERS]) -> Plan
+pub(crate) fn plan_of(s: Sheet, lines: &mut [u32; NUMBERS]) -> Plan
     requires { ⌜ Preparing s (now lines) ⌝ }
     ensures { λ r. ⌜ PlanOf s r (now (lines .exit)) ⌝ }
 {

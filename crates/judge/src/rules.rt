@@ -12,13 +12,13 @@ ghost use lib.Dec.{ltb};
 ghost use lib.ListN.{replicate};
 ghost use Rattle.tesl.specs.Lists.{any};
 ghost use Rattle.judge.specs.Lines.{allStopped};
-ghost use Rattle.judge.specs.Plan.{linesIn};
+ghost use Rattle.judge.specs.Plan.{linesIn, rulesFrom};
 ghost use Rattle.judge.specs.Rules.{allowed, isSettled, cuts};
 
 // What the rules ask of the ticks.
-pub(crate) fn all_hold(lines: &[u16; NUMBERS], n: usize, ticks: [bool; 8]) -> bool
+pub(crate) fn all_hold(lines: &[u32; NUMBERS], n: usize, ticks: [bool; 8]) -> bool
     requires { ⌜ n ≤ 16 ⌝ }
-    ensures { λ b. ⌜ b ≡ allowed (linesIn (now (lines .entry)) 32 n) ticks ⌝ }
+    ensures { λ b. ⌜ b ≡ allowed (linesIn (now (lines .entry)) rulesFrom n) ticks ⌝ }
 {
     let mut i = 0;
     while i < n {
@@ -58,9 +58,9 @@ fn is_settled(l: Line, k: usize) -> bool
 }
 
 // A rule whose clocks are below k forbids these ticks.
-pub(crate) fn is_cut(lines: &[u16; NUMBERS], n: usize, k: usize, ticks: [bool; 8]) -> bool
+pub(crate) fn is_cut(lines: &[u32; NUMBERS], n: usize, k: usize, ticks: [bool; 8]) -> bool
     requires { ⌜ n ≤ 16 ⌝ }
-    ensures { λ b. ⌜ b ≡ any (cuts k ticks) (linesIn (now (lines .entry)) 32 n) ⌝ }
+    ensures { λ b. ⌜ b ≡ any (cuts k ticks) (linesIn (now (lines .entry)) rulesFrom n) ⌝ }
 {
     let mut i = 0;
     while i < n {
@@ -77,9 +77,9 @@ pub(crate) fn is_cut(lines: &[u16; NUMBERS], n: usize, k: usize, ticks: [bool; 8
 }
 
 // The clocks that the kills lines stop.
-pub(crate) fn all_stops(lines: &[u16; NUMBERS], n: usize, ticks: [bool; 8]) -> [bool; 8]
+pub(crate) fn all_stops(lines: &[u32; NUMBERS], n: usize, ticks: [bool; 8]) -> [bool; 8]
     requires { ⌜ n ≤ 16 ⌝ }
-    ensures { λ b. ⌜ b ≡ allStopped ticks (linesIn (now (lines .entry)) 32 n) (replicate 8 false) ⌝ }
+    ensures { λ b. ⌜ b ≡ allStopped ticks (linesIn (now (lines .entry)) rulesFrom n) (replicate 8 false) ⌝ }
 {
     let mut stops = [false; 8];
     let mut i = 0;

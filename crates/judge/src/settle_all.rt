@@ -17,7 +17,7 @@ pub(crate) fn settle_all(
     from: usize,
     n: usize,
     plan: Plan,
-    lines: &[u16; NUMBERS],
+    lines: &[u32; NUMBERS],
     tags: [i16; 8],
     m: usize,
     list: &[bool; LIST],

@@ -13,12 +13,12 @@ use Rattle.judge.specs.declared.obligation.Obligation as code
 use Rattle.judge.specs.declared.line.Begun.{Begun}
 use Rattle.judge.specs.declared.line.Begun.the-variants.{Nothing, Owed}
 use Rattle.judge.specs.View.{obligationOf, begunOf}
-use Rattle.judge.specs.Plan.{lineIn}
+use Rattle.judge.specs.Plan.{lineIn, delaysFrom}
 use Rattle.judge.proofs.owed.Laws.{begunFrom}
 
 -- delay line j
 abbrev pub delayIn : List ℕ → ℕ → Line
-delayIn lines j = lineIn lines (48 + j)
+delayIn lines j = lineIn lines (delaysFrom + j)
 
 -- ---- what all lines begin, each once: what is begun so far, xs, with what those from i on begin
 module _ (begins : Line → List Obligation) (f : ℕ → Line) (n i : ℕ) (xs : List Obligation) {whole : List Obligation} (w : whole ≡ insertAll sameObligation xs (begunFrom begins f n i)) where

@@ -38,7 +38,7 @@ use Rattle.judge.specs.Lines.{smallLeads}
 use Rattle.judge.specs.Work.{worked}
 use Rattle.judge.specs.Answer.{answerOf, saidBy}
 use Rattle.judge.specs.Limits.{sheetWithin, within, Limited}
-use Rattle.judge.specs.Plan.{Preparing, PlanOf}
+use Rattle.judge.specs.Plan.{numbers, Preparing, PlanOf}
 use Rattle.judge.specs.Rows.{words, rowCount, rowObligation, rowOwed, rowLeads, rowStopped, rowOf}
 use Rattle.judge.specs.Settle.{Side, foundIn, SmallIn}
 use Rattle.judge.specs.Stored.{KeepingHeld, KeptHeld}
@@ -197,5 +197,5 @@ module _ (m : Monitor) (l : Limited m true) where
   pub has-room : {rows : List ℕ} → length rows ≡ words → KeepingHeld rows (m .held .count) (m .held .remainders)
   has-room size = record { size = size; fits = limits-of m (l .value refl) (sym (l .answer)) .fits }
 
-  pub prepares : {lines : List ℕ} → length lines ≡ 320 → Preparing (m .sheet) lines
+  pub prepares : {lines : List ℕ} → length lines ≡ numbers → Preparing (m .sheet) lines
   prepares size = record { few-lines = few-lines; few-clocks = limits-of m (l .value refl) (sym (l .answer)) .sheet .clocks-most; size = size }

@@ -17,7 +17,7 @@ use Rattle.tesl.specs.Lists.{filter}
 use Rattle.theory.proofs.Lists.{filter-true}
 use Rattle.judge.specs.declared.plan.Part.{Part}
 use Rattle.judge.specs.declared.plan.Part.the-variants.{All}
-use Rattle.judge.specs.Plan.{belongs, lineIn, linesIn, PutLine, GatheredPart}
+use Rattle.judge.specs.Plan.{belongs, numbers, lineIn, linesIn, PutLine, GatheredPart}
 use Rattle.judge.proofs.Listing.{listed-at, listed-same, listed-next}
 
 -- the rows before b are as they were
@@ -32,12 +32,12 @@ rows-kept g from n h = listed-same n (λ j m. g .before (from + j) (omega arith)
 pub record Gathered (s : Sheet) (part : Part) (from : ℕ) (was : List ℕ) (n i count : ℕ) (lines : List ℕ) : Type 0 where
   pub within : i ≤ n
   pub room : count ≤ i
-  pub size : length lines ≡ 320
+  pub size : length lines ≡ numbers
   pub same : filter (belongs part) (sheetValue s .lines) ≡ linesIn lines from count ++ filter (belongs part) (listedFrom (lineAt s) i (n - i))
   pub before : RowsKept from was lines
 
 module _ (s : Sheet) (part : Part) (from : ℕ) (was : List ℕ) where
-  pub gathered-start : length was ≡ 320 → Gathered s part from was (s .count) 0 0 was
+  pub gathered-start : length was ≡ numbers → Gathered s part from was (s .count) 0 0 was
   unfolding listedFrom
   gathered-start h =
       let k : s .count - 0 ≡ s .count = omega arith in

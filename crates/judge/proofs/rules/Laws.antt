@@ -6,12 +6,12 @@ use Prim.Native.Nat.{ℕ, _+_}
 use borrow.Author.Tests.{not-true, not-false}
 use Rattle.records.specs.declared.line.Line.{Line}
 use Rattle.judge.specs.Questions.{ticksHold}
-use Rattle.judge.specs.Plan.{lineIn}
+use Rattle.judge.specs.Plan.{lineIn, rulesFrom}
 use Rattle.judge.specs.Rules.{isSettled, cuts}
 
 -- rule i
 abbrev pub ruleIn : List ℕ → ℕ → Line
-ruleIn lines i = lineIn lines (32 + i)
+ruleIn lines i = lineIn lines (rulesFrom + i)
 
 -- ---- whether a rule cuts the ticks
 module _ (k : ℕ) (ticks : List Bool) (l : Line) {settled : Bool} (e : settled ≡ isSettled k l) where

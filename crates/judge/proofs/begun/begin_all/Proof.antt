@@ -12,7 +12,7 @@ use Rattle.tesl.specs.Remainder.{sameObligation}
 use Rattle.theory.specs.Adding.{insertAll, onceEach}
 use Rattle.judge.specs.declared.obligation.Obligation as code
 use Rattle.judge.specs.View.{obligationOf, filledOf, firstOf, blankObligation}
-use Rattle.judge.specs.Plan.{linesIn}
+use Rattle.judge.specs.Plan.{linesIn, delaysFrom}
 use Rattle.judge.proofs.Places.{first-set}
 use Rattle.judge.proofs.owed.Laws.{begunFrom, begun-start}
 use Rattle.judge.proofs.begun.Laws.{delayIn, joining-end, joining-nothing, joining-again, joining-more}
@@ -23,7 +23,7 @@ record Joining (f : Filled) (lines : List ℕ) (n : ℕ) (begun : List code.Obli
   turns : j ≤ n
   fewer : count ≤ j
   size : length begun ≡ 16
-  joined : onceEach sameObligation (flatMap (owedFrom f) (linesIn lines 48 n)) ≡ insertAll sameObligation (firstOf count begun) (begunFrom (owedFrom f) (delayIn lines) n j)
+  joined : onceEach sameObligation (flatMap (owedFrom f) (linesIn lines delaysFrom n)) ≡ insertAll sameObligation (firstOf count begun) (begunFrom (owedFrom f) (delayIn lines) n j)
 
 abbrev Inv-loop : tie.InvT-loop
 Inv-loop lines n ticks tags begun₀ count₀ j₀ begun count j = Joining (filledOf ticks tags) lines n begun count j

@@ -12,7 +12,7 @@ use borrow.Fn.PlainCycle.{Measures, is, falls, and}
 use Rattle.records.specs.declared.instant.Tick.the-variants.{Idle, Ticks, Unseen}
 use Rattle.judge.specs.View.{seenOf}
 use Rattle.judge.specs.Heed.{heeded}
-use Rattle.judge.specs.Plan.{linesIn}
+use Rattle.judge.specs.Plan.{linesIn, rulesFrom}
 use Rattle.judge.specs.Rules.{allowed}
 use Rattle.judge.specs.Fill.{fillingsLeft}
 use Rattle.judge.proofs.fill.Listed.{left-end, left-idle, left-ticks, left-unseen, left-unheeded, room-same, room-first, room-second, listed-none, listed-not, listed-one, listed-same, listed-both, flag-there}
@@ -56,7 +56,7 @@ module _ (t : ℕ) where
   then e ticks = left e (e .args .k + 1) ticks
 
   abbrev rules : Start → List Bool → Bool
-  rules e = allowed (linesIn (e .args .lines .now) 32 (e .args .extent .rules))
+  rules e = allowed (linesIn (e .args .lines .now) rulesFrom (e .args .extent .rules))
 
   -- all clocks are settled
   ended : (s : fill-lts.Then1 (claims t) (fill-at t) fill.Post) → now (s .before .before .before) ≡ s .before .before .before .args .ticks ∷ []
@@ -124,7 +124,7 @@ module _ (t : ℕ) where
   returns-3 c =
       let s = c .before .before .before .before in
       let a = e s .args in
-      listed-none (rules (e s)) (now (e s)) (a .n) (a .list .now) (cut-none (a .k) (a .ticks) (linesIn (a .lines .now) 32 (a .extent .rules)) (c .before .is-cut .ensures) (c .if3 .taken) (heeded (λ j. getD (a .t3) j true) (a .k) (drop (a .k) (seenOf (a .extent .clocks) (a .seen))))) (e s .pre .1 .size)
+      listed-none (rules (e s)) (now (e s)) (a .n) (a .list .now) (cut-none (a .k) (a .ticks) (linesIn (a .lines .now) rulesFrom (a .extent .rules)) (c .before .is-cut .ensures) (c .if3 .taken) (heeded (λ j. getD (a .t3) j true) (a .k) (drop (a .k) (seenOf (a .extent .clocks) (a .seen))))) (e s .pre .1 .size)
 
   -- an unseen tick that is not cut
   abbrev told : fill-lts.Else3 (claims t) (fill-at t) fill.Post → fill-lts.After-enum-told3 (claims t) (fill-at t) fill.Post

@@ -9,17 +9,17 @@ use borrow.Author.Tests.{not-true, not-false}
 use Rattle.records.specs.declared.line.Line.{Line}
 use Rattle.tesl.specs.Lists.{all}
 use Rattle.judge.specs.Questions.{tagsHold}
-use Rattle.judge.specs.Plan.{lineIn, linesIn}
+use Rattle.judge.specs.Plan.{lineIn, linesIn, relationsFrom}
 use Rattle.judge.proofs.lines.Laws.{allFrom, all-end, all-no, all-more}
 use Rattle.judge.proofs.lines.all_tags_hold.Statement.{statement}
 use Rattle.judge.proofs.lines.all_tags_hold.Tie as tie
 
 -- relation i
 abbrev relationIn : List ℕ → ℕ → Line
-relationIn lines i = lineIn lines (16 + i)
+relationIn lines i = lineIn lines (relationsFrom + i)
 
 abbrev Inv-loop : tie.InvT-loop
-Inv-loop lines n tags i₀ i = (i ≤ n) × (all (tagsHold tags) (linesIn lines 16 n) ≡ allFrom (tagsHold tags) (relationIn lines) n i)
+Inv-loop lines n tags i₀ i = (i ≤ n) × (all (tagsHold tags) (linesIn lines relationsFrom n) ≡ allFrom (tagsHold tags) (relationIn lines) n i)
 
 abbrev μ-loop : tie.MeasureT-loop
 μ-loop lines n tags i₀ i = n - i

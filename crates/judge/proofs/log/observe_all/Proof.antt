@@ -8,6 +8,7 @@ use Rattle.judge.specs.declared.answer.Reply.the-variants.{Refused}
 use Rattle.judge.specs.declared.kept.Kept.{Kept}
 use Rattle.judge.specs.declared.monitor.Monitor.{Monitor}
 use Rattle.judge.specs.Limits.{Limited}
+use Rattle.judge.specs.Plan.{numbers}
 use Rattle.judge.specs.Fill.{Working}
 use Rattle.judge.specs.Kept.{keptMonitor, Ready}
 use Rattle.judge.specs.Promises.{Follows}
@@ -28,7 +29,7 @@ module _ (e : tie.Else1) where
   within = inside (e .before .is-within .ensures) (e .if1 .left)
 
 plan-of-requires : tie.Need-plan-of-requires
-plan-of-requires c κs = let e = c .before .before in prepares (monitor e) (within e) (length-replicate {A = ℕ} 320 0)
+plan-of-requires c κs = let e = c .before .before in prepares (monitor e) (within e) (length-replicate {A = ℕ} numbers 0)
 
 -- ---- the places: its plan, those held stored, and the monitor as it is kept
 abbrev planned : tie.After-rows → tie.After-plan-of

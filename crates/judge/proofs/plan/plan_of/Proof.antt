@@ -2,6 +2,7 @@
 use mathlib.Core.Path.{_∙_}
 use native.Mathlib.Omega.{arith}
 use borrow.Author.Needs.{needs}
+use Rattle.judge.specs.Plan.{relationsFrom, rulesFrom}
 use Rattle.judge.proofs.leads.Leading.{leading}
 use Rattle.judge.proofs.plan.Gathered.{rows-kept, all-gathered}
 use Rattle.judge.proofs.plan.plan_of.Statement.{statement}
@@ -28,8 +29,8 @@ returns c =
         as-many = clocks .clocks-of .ensures;
         few-clocks = s .pre .few-clocks;
         all = λ k h. e .before k (omega (arith, led .0)) ∙ d .before k (omega (arith, led .0)) ∙ b .before k (omega (arith, led .0)) ∙ all-gathered a k (omega (arith, far .ensures .within));
-        relations = rows-kept e 16 _ (omega (arith, b .few)) ∙ rows-kept d 16 _ (omega (arith, b .few)) ∙ b .lines;
-        rules = rows-kept e 32 _ (omega (arith, d .few)) ∙ d .lines;
+        relations = rows-kept e relationsFrom _ (omega (arith, b .few)) ∙ rows-kept d relationsFrom _ (omega (arith, b .few)) ∙ b .lines;
+        rules = rows-kept e rulesFrom _ (omega (arith, d .few)) ∙ d .lines;
         delays = e .lines;
         leading = led;
         named = c .flag-lines .ensures;

@@ -6,7 +6,7 @@ use native.Mathlib.Omega.{arith}
 use borrow.Author.Needs.{needs}
 use borrow.Author.Tests.{not-true, not-false}
 use Rattle.judge.specs.Questions.{ticksHold}
-use Rattle.judge.specs.Plan.{linesIn}
+use Rattle.judge.specs.Plan.{linesIn, rulesFrom}
 use Rattle.judge.specs.Rules.{allowed}
 use Rattle.judge.proofs.lines.Laws.{allFrom, all-end, all-no, all-more}
 use Rattle.judge.proofs.rules.Laws.{ruleIn}
@@ -14,7 +14,7 @@ use Rattle.judge.proofs.rules.all_hold.Statement.{statement}
 use Rattle.judge.proofs.rules.all_hold.Tie as tie
 
 abbrev Inv-loop : tie.InvT-loop
-Inv-loop lines n ticks i₀ i = (i ≤ n) × (allowed (linesIn lines 32 n) ticks ≡ allFrom (ticksHold ticks) (ruleIn lines) n i)
+Inv-loop lines n ticks i₀ i = (i ≤ n) × (allowed (linesIn lines rulesFrom n) ticks ≡ allFrom (ticksHold ticks) (ruleIn lines) n i)
 
 abbrev μ-loop : tie.MeasureT-loop
 μ-loop lines n ticks i₀ i = n - i

@@ -9,14 +9,14 @@ use borrow.Author.Needs.{needs}
 use Rattle.records.specs.Lists.{listedFrom}
 use Rattle.judge.specs.Questions.{stoppedAfter}
 use Rattle.judge.specs.Lines.{allStopped}
-use Rattle.judge.specs.Plan.{linesIn}
+use Rattle.judge.specs.Plan.{linesIn, rulesFrom}
 use Rattle.judge.proofs.rules.Laws.{ruleIn}
 use Rattle.judge.proofs.rules.Folds.{fold-end, fold-more}
 use Rattle.judge.proofs.rules.all_stops.Statement.{statement}
 use Rattle.judge.proofs.rules.all_stops.Tie as tie
 
 abbrev Inv-loop : tie.InvT-loop
-Inv-loop lines n ticks stops₀ i₀ stops i = (i ≤ n) × (allStopped ticks (linesIn lines 32 n) (replicate 8 false) ≡ allStopped ticks (listedFrom (ruleIn lines) i (n - i)) stops)
+Inv-loop lines n ticks stops₀ i₀ stops i = (i ≤ n) × (allStopped ticks (linesIn lines rulesFrom n) (replicate 8 false) ≡ allStopped ticks (listedFrom (ruleIn lines) i (n - i)) stops)
 
 abbrev μ-loop : tie.MeasureT-loop
 μ-loop lines n ticks stops₀ i₀ stops i = n - i

@@ -5,7 +5,7 @@ use native.Mathlib.Nat.{sub-zero}
 use native.Mathlib.Omega.{arith}
 use borrow.Author.Needs.{needs}
 use Rattle.tesl.specs.Lists.{any}
-use Rattle.judge.specs.Plan.{linesIn}
+use Rattle.judge.specs.Plan.{linesIn, rulesFrom}
 use Rattle.judge.specs.Rules.{cuts}
 use Rattle.judge.proofs.lines.Laws.{anyFrom, any-end, any-yes, any-more}
 use Rattle.judge.proofs.rules.Laws.{ruleIn, unsettled, cut-as}
@@ -13,7 +13,7 @@ use Rattle.judge.proofs.rules.is_cut.Statement.{statement}
 use Rattle.judge.proofs.rules.is_cut.Tie as tie
 
 abbrev Inv-loop : tie.InvT-loop
-Inv-loop lines n k ticks i₀ i = (i ≤ n) × (any (cuts k ticks) (linesIn lines 32 n) ≡ anyFrom (cuts k ticks) (ruleIn lines) n i)
+Inv-loop lines n k ticks i₀ i = (i ≤ n) × (any (cuts k ticks) (linesIn lines rulesFrom n) ≡ anyFrom (cuts k ticks) (ruleIn lines) n i)
 
 abbrev μ-loop : tie.MeasureT-loop
 μ-loop lines n k ticks i₀ i = n - i
