@@ -1,4 +1,5 @@
 pub mod Effects
 pub mod Adding
+pub mod Keeping
 pub mod Row
 pub mod Built

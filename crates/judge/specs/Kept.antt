@@ -4,6 +4,7 @@ use mathlib.Core.List.{List}
 use mathlib.Core.Path.{_≡_}
 use Prim.Native.Nat.{ℕ, _+_, _-_}
 use lib.IntN.{pos}
+use lib.ListN.{replicate}
 use Rattle.records.specs.declared.sheet.Sheet.{Sheet}
 use Rattle.records.specs.declared.instant.Instant.{Instant}
 use Rattle.records.specs.Lists.{listed}
@@ -17,6 +18,7 @@ use Rattle.judge.specs.declared.answer.Answer.{Answer}
 use Rattle.judge.specs.declared.answer.Reply.{Reply}
 use Rattle.judge.specs.declared.answer.Reply.the-variants.{Answered, Refused}
 use Rattle.judge.specs.declared.held.Count.{Count}
+use Rattle.judge.specs.declared.held.Count.the-variants.{Live}
 use Rattle.judge.specs.declared.held.Held.{Held}
 use Rattle.judge.specs.declared.plan.Plan.{Plan}
 use Rattle.judge.specs.declared.kept.Kept.{Kept}
@@ -54,6 +56,10 @@ keptMonitor s k rows = record { sheet = s; instants = k .instants; tags = k .tag
 -- a monitor once its remainders are stored behind the head
 abbrev pub keptOf : Monitor → Kept
 keptOf m = record { instants = m .instants; tags = m .tags; count = m .held .count; from = headRows }
+
+-- a monitor of no instant, its one remainder in the row behind the head
+abbrev pub keptFirst : Kept
+keptFirst = record { instants = 0; tags = replicate 8 (pos 0); count = Live 1; from = headRows }
 
 abbrev pub given : Reply → Monitor → Given
 given r m = record { reply = r; monitor = m }

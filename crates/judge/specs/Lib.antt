@@ -30,16 +30,16 @@ pub mod Owed
 pub mod Advanced
 pub mod Work
 pub mod Fillings
--- what is kept in arrays: words, remainders in rows, the ticks asked about, a line's words, a sheet's lines, the remainder of no instant
+-- what is kept in arrays: words, remainders in rows, the ticks asked about, a line's words, a sheet's lines
 pub mod Word
 pub mod Rows
 pub mod Heed
 pub mod LineWords
 pub mod Plan
-pub mod Start
--- an instant: what depends on a filling alone, the rows by a filling and by all of them, the fillings listed; remainders stored in rows and read back; and a monitor kept in rows
+-- an instant: what depends on a filling alone, the rows by a filling and by all of them, the fillings listed; the remainder of no instant; remainders stored in rows and read back; and a monitor kept in rows
 pub mod Filling
 pub mod Settle
 pub mod Fill
+pub mod Start
 pub mod Stored
 pub mod Kept

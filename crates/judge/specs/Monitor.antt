@@ -1,6 +1,6 @@
 -- What a monitor keeps, and what the inner functions of opening and observing promise.
 use mathlib.Core.Bool.{cond}
-use mathlib.Core.List.{List, [], _∷_}
+use mathlib.Core.List.{List, []}
 use mathlib.Core.Option.{Option, none, some}
 use mathlib.Core.Path.{_≡_}
 use Prim.Native.Nat.{ℕ, suc, _≤_, _<_}
@@ -11,18 +11,15 @@ use Rattle.records.specs.declared.sheet.Sheet.{Sheet}
 use Rattle.records.specs.declared.instant.Instant.{Instant}
 use Rattle.records.specs.Outcome.{taken}
 use Rattle.records.specs.Sheet.{SheetValue, sheetValue, sheetOf}
-use Rattle.tesl.specs.Lists.{all, flatMap}
-use Rattle.tesl.specs.Fits.{Obligation, owedAtStart}
+use Rattle.tesl.specs.Lists.{all}
 use Rattle.tesl.specs.Remainder.{Remainder}
 use Rattle.judge.specs.declared.held.Count.the-variants.{Live}
 use Rattle.judge.specs.declared.answer.Reply.the-variants as reply
 use Rattle.judge.specs.declared.monitor.Monitor.{Monitor}
 use Rattle.judge.specs.declared.monitor.Given.{Given}
-use Rattle.judge.specs.View.{blankRemainder, cut, heldOf, liveOf, seenOf, tagsBefore, sized}
-use Rattle.judge.specs.Unused.{KeepsNothing}
+use Rattle.judge.specs.View.{blankRemainder, heldOf, liveOf, seenOf, tagsBefore, sized}
 use Rattle.judge.specs.Lines.{smallLeads}
-use Rattle.judge.specs.Work.{addedAll, worked}
-use Rattle.judge.specs.Start.{firstOwing}
+use Rattle.judge.specs.Work.{worked}
 use Rattle.judge.specs.Answer.{replyOf, saidBy}
 
 -- the sheet's value, the remainders held, and what they say: the last answer
@@ -56,15 +53,6 @@ pub record Workable (m : Monitor) : Type 0 where
   pub room : m .instants < 4000
   pub leads : T (all smallLeads (liveOf (sheetBy m) (m .held)))
   pub fits : T (sized (m .held))
-
--- a monitor of no instant; where a ninth obligation has no room, nothing is said of its remainder
-pub record Begins (s : Sheet) (m : Monitor) : Type 0 where
-  pub sheet : m .sheet ≡ s
-  pub instants : m .instants ≡ 0
-  pub held : (os : List Obligation) → addedAll (flatMap owedAtStart (sheetValue s .lines)) [] ≡ some os
-      → heldBy m ≡ some (cut (sheetValue s) (firstOwing os) ∷ [])
-  pub fits : T (sized (m .held))
-  pub unused : KeepsNothing m
 
 -- a monitor after an accepted instant, with room for so many remainders, and its answer
 pub record Accepts (room : ℕ) (m : Monitor) (i : Instant) (r : Given) : Type 0 where

@@ -1,9 +1,26 @@
--- A remainder of no instant, in arrays: it owes these obligations, no clock leads, none is stopped.
-use mathlib.Core.Bool.{false}
-use mathlib.Core.List.{List}
-use lib.ListN.{replicate}
-use Rattle.tesl.specs.Fits.{Obligation}
-use Rattle.tesl.specs.Remainder.{Remainder}
+-- The remainder of no instant, in the first row of the first side: it owes what the sheet's lines owe from the start.
+use mathlib.Core.List.{List, [], _∷_}
+use mathlib.Core.Option.{some}
+use mathlib.Core.Path.{_≡_}
+use Prim.Native.Nat.{ℕ, _≤_, _<_}
+use lib.ListN.{length}
+use Rattle.records.specs.Sheet.{SheetValue}
+use Rattle.tesl.specs.Lists.{flatMap}
+use Rattle.tesl.specs.Fits.{Obligation, owedAtStart}
+use Rattle.tesl.specs.Remainder.{remainder}
+use Rattle.judge.specs.declared.held.Count.the-variants.{Live}
+use Rattle.judge.specs.Owed.{owing}
+use Rattle.judge.specs.Work.{addedAll}
+use Rattle.judge.specs.Rows.{leadsPart, width, words, headRows, word, rowsOf, Stays}
+use Rattle.judge.specs.Settle.{SmallIn}
 
-abbrev pub firstOwing : List Obligation → Remainder
-firstOwing os = record { owed = os; leads = replicate 16 0; stopped = replicate 8 false }
+-- row i, all words of it 0
+pub record BlankRow (rows : List ℕ) (i : ℕ) : Type 0 where
+  pub size : length rows ≡ words
+  pub blank : (p : ℕ) → p < width → word rows i p ≡ 0
+
+-- one remainder is held, and every other row stays; where a ninth obligation has no room, nothing is said of what it owes
+pub record BegunRows (v : SheetValue) (a b : List ℕ) : Type 0 where
+  pub stays : Stays headRows 0 leadsPart a b
+  pub small : SmallIn (Live 1) b headRows
+  pub first : v .clocks ≤ 8 → (os : List Obligation) → addedAll (flatMap owedAtStart (v .lines)) [] ≡ some os → rowsOf v b headRows 1 ≡ owing os (remainder v []) ∷ []

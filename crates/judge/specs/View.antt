@@ -19,8 +19,6 @@ use Rattle.theory.specs.Step.{nextLeads}
 use Rattle.judge.specs.declared.obligation.Obligation as code
 use Rattle.judge.specs.declared.line.Begun.{Begun}
 use Rattle.judge.specs.declared.line.Begun.the-variants.{Nothing, Owed}
-use Rattle.judge.specs.declared.owed.Owed as apart
-use Rattle.judge.specs.declared.owed.Added.{Added}
 use Rattle.judge.specs.declared.remainder.Remainder as arrays
 use Rattle.judge.specs.declared.held.Count.{Count}
 use Rattle.judge.specs.declared.held.Count.the-variants.{Exhausted, Live}
@@ -57,13 +55,6 @@ blankObligation = record { clock = 0; on = 0; due = pos 0 }
 -- nothing is owed, no line leads, no clock is stopped
 abbrev pub blankRemainder : arrays.Remainder
 blankRemainder = record { owed = 0; obligations = replicate 8 blankObligation; leads = replicate 16 0; stopped = replicate 8 false }
-
--- what is owed, apart from the rest
-abbrev pub owedIn : apart.Owed → List Obligation
-owedIn r = firstOf (r .count) (r .obligations)
-
-abbrev pub addedOf : Added → Option (List Obligation)
-addedOf s = cond (s .over) none (some (owedIn (s .owed)))
 
 -- ---- the places in use
 

@@ -115,7 +115,7 @@ fn row_owes(rows: &[u32; SIZE], i: usize, o: Obligation) -> bool
 }
 
 // Row i with one obligation more, which counts once. False: a ninth has no room.
-fn add_row(rows: &mut [u32; SIZE], i: usize, o: Obligation) -> bool
+pub(crate) fn add_row(rows: &mut [u32; SIZE], i: usize, o: Obligation) -> bool
     requires { ⌜ Row (now rows) i ⌝ }
     ensures { λ r. ⌜ AddedRow i (obligationOf o) r (now (rows .entry)) (now (rows .exit)) ⌝ }
 {

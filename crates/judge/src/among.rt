@@ -1,5 +1,6 @@
 // Rows compared: whether the row after those found is one of them.
-use crate::owed::owes;
+use crate::obligation::Obligation;
+use crate::obligation::same_obligation;
 use crate::rows::LEADS;
 use crate::rows::SIZE;
 use crate::rows::STOPPED;
@@ -15,7 +16,8 @@ ghost use lib.Dec.{eqb};
 ghost use lib.ListN.{getD};
 ghost use Rattle.records.specs.Sheet.{SheetValue};
 ghost use Rattle.tesl.specs.Lists.{any, below};
-ghost use Rattle.judge.specs.View.{cut};
+ghost use Rattle.tesl.specs.Remainder.{sameObligation};
+ghost use Rattle.judge.specs.View.{obligationOf, firstOf, cut};
 ghost use Rattle.judge.specs.Work.{sameCounted};
 ghost use Rattle.judge.specs.Rows.{height, rowLead, rowStop, rowOf, rowsOf, Small};
 ghost use Rattle.judge.specs.Plan.{Leading};
@@ -52,6 +54,21 @@ fn same_stopped(rows: &[u32; SIZE], i: usize, x: usize, clocks: usize) -> bool
         k += 1;
     }
     true
+}
+
+// One of the first n is o.
+fn owes(n: usize, obligations: [Obligation; 8], o: Obligation) -> bool
+    requires { ⌜ n ≤ 8 ⌝ }
+    ensures { λ r. ⌜ r ≡ any (sameObligation (obligationOf o)) (firstOf n obligations) ⌝ }
+{
+    let mut i = 0;
+    while i < n {
+        if same_obligation(o, obligations[i]) {
+            return true;
+        }
+        i += 1;
+    }
+    false
 }
 
 // Row first + n is one of the n rows from `first` on; the comparison stops at the first equal one.

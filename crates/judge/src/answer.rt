@@ -1,17 +1,12 @@
 // What the monitor answers.
 use crate::held::Count;
-use crate::held::Held;
-use crate::held::live_count;
-use crate::remainder::owed_count;
 use crate::rows::SIZE;
 use crate::rows::row_count;
 ghost use mathlib.Core.Path.{_≡_};
 ghost use Prim.Native.Nat.{_+_, _≤_};
-ghost use lib.Dec.{T};
 ghost use Rattle.records.specs.Sheet.{SheetValue};
 ghost use Rattle.tesl.specs.Lists.{any};
 ghost use Rattle.tesl.specs.Remainder.{isClear};
-ghost use Rattle.judge.specs.View.{heldOf, liveOf, sized};
 ghost use Rattle.judge.specs.Answer.{answerOf, saidBy};
 ghost use Rattle.judge.specs.Rows.{secondSide, height, rowsOf};
 ghost use Rattle.judge.specs.Settle.{foundIn, SmallIn};
@@ -27,43 +22,6 @@ pub enum Answer {
 pub enum Reply {
     Answered(Answer),
     Refused(u8),
-}
-
-// One of those held has no obligation.
-fn is_clear(h: Held) -> bool
-    requires { ⌜ T (sized h) ⌝ }
-    ensures { λ r. ⌜ ((v : SheetValue) → r ≡ any isClear (liveOf v h)) ⌝ }
-{
-    let n = live_count(h);
-    let mut i = 0;
-    while i < n {
-        let r = h.remainders[i];
-        let m = owed_count(r);
-        if m == 0 {
-            return true;
-        }
-        i += 1;
-    }
-    false
-}
-
-pub(crate) fn say(h: Held) -> Answer
-    requires { ⌜ T (sized h) ⌝ }
-    ensures { λ r. ⌜ ((v : SheetValue) → answerOf r ≡ saidBy (heldOf v h)) ⌝ }
-{
-    let count = h.count;
-    match count {
-        Count::Exhausted => Answer::Exhausted,
-        Count::Live(n) => {
-            if n == 0 {
-                return Answer::Broken;
-            }
-            Answer::Holding {
-                live: n,
-                clear: is_clear(h),
-            }
-        }
-    }
 }
 
 // One of n rows from row `from` on has no obligation.

@@ -18,7 +18,6 @@ mod list;
 pub mod log;
 pub mod monitor;
 pub mod obligation;
-mod owed;
 mod plan;
 pub mod remainder;
 mod rows;

@@ -1,6 +1,6 @@
 // The monitor: opened with a sheet, called instant by instant.
 use crate::answer::Reply;
-use crate::answer::say;
+use crate::answer::say_rows;
 use crate::held::Count;
 use crate::held::Held;
 use crate::kept::kept_of;
@@ -10,8 +10,9 @@ use crate::list::LIST;
 use crate::plan::NUMBERS;
 use crate::plan::plan_of;
 use crate::remainder::blank_remainder;
+use crate::rows::HEAD;
 use crate::rows::SIZE;
-use crate::start::first_remainder;
+use crate::start::begin_rows;
 use crate::stored::from_rows;
 use crate::stored::keep_held;
 use records::number;
@@ -19,10 +20,9 @@ use records::record::Answer;
 use records::sheet::Sheet;
 use records::sheet::read_sheet;
 ghost use mathlib.Core.Path.{_≡_};
-ghost use Prim.Native.Nat.{_≤_};
 ghost use Rattle.records.specs.Sheet.{readSheet};
 ghost use Rattle.judge.specs.Limits.{within};
-ghost use Rattle.judge.specs.Monitor.{Begins, blankMonitor, refusal};
+ghost use Rattle.judge.specs.Monitor.{blankMonitor, refusal};
 ghost use Rattle.judge.specs.Promises.{Opened, Observed};
 
 // Beside its remainders, of the instants only their number and the last tags; the last answer is what those held say.
@@ -37,27 +37,6 @@ pub struct Monitor {
 pub struct Given {
     pub reply: Reply,
     pub monitor: Monitor,
-}
-
-// A monitor of a sheet before the first instant.
-fn begin(sheet: Sheet) -> Monitor
-    requires { ⌜ sheet .count ≤ 16 ⌝ }
-    ensures { λ m. ⌜ Begins sheet m ⌝ }
-{
-    let blank = blank_remainder();
-    let mut remainders = [blank; 32];
-    remainders[0] = first_remainder(sheet);
-    let held = Held {
-        count: Count::Live(1),
-        remainders,
-    };
-    let tags = [0i16; 8];
-    Monitor {
-        sheet,
-        instants: 0,
-        tags,
-        held,
-    }
 }
 
 // What stands in a monitor's place where there is none.
@@ -89,9 +68,21 @@ pub fn open(bytes: &[u8]) -> Given
     match answer {
         Answer::Refused(n) => refuse(n, blank_monitor(sheet)),
         Answer::Done => {
-            let monitor = begin(sheet);
-            let held = monitor.held;
-            let opening = say(held);
+            let mut lines = [0u16; NUMBERS];
+            let plan = plan_of(sheet, &mut lines);
+            let mut rows = [0u32; SIZE];
+            begin_rows(&mut rows, sheet);
+            let count = Count::Live(1);
+            let opening = say_rows(&rows, HEAD, count);
+            let remainders = from_rows(&rows, HEAD, count, plan);
+            let held = Held { count, remainders };
+            let tags = [0i16; 8];
+            let monitor = Monitor {
+                sheet,
+                instants: 0,
+                tags,
+                held,
+            };
             Given {
                 reply: Reply::Answered(opening),
                 monitor,

@@ -1,9 +1,7 @@
 // A remainder: what it owes, at most eight obligations, the leads of the lines and the stopped clocks.
 use crate::obligation::Obligation;
 ghost use mathlib.Core.Path.{_≡_};
-ghost use Prim.Native.Nat.{_≤_};
-ghost use lib.ListN.{length};
-ghost use Rattle.judge.specs.View.{firstOf, owedOf, blankRemainder};
+ghost use Rattle.judge.specs.View.{blankRemainder};
 
 pub struct Remainder {
     pub owed: usize,
@@ -30,12 +28,4 @@ pub(crate) fn blank_remainder() -> Remainder
         leads,
         stopped,
     }
-}
-
-// How many obligations r owes, at most 8.
-pub(crate) fn owed_count(r: Remainder) -> usize
-    ensures { λ n. ⌜ (n ≤ 8) × ((length (r .obligations) ≡ 8) × (firstOf n (r .obligations) ≡ owedOf r)) ⌝ }
-{
-    let n = r.owed;
-    if n < 8 { n } else { 8 }
 }

@@ -1,26 +1,22 @@
 -- What an answer says of those held: one of them is clear where the code counts no obligation, and as many are live as the code holds. Assumes nothing.
 use mathlib.Core.Bool.{Bool, true, false, cond}
-use mathlib.Core.List.{List, [], _∷_, map}
+use mathlib.Core.List.{List, [], _∷_}
 use mathlib.Core.Path.{_≡_, refl, sym, ap, _∙_}
-use Prim.Native.Nat.{ℕ, _+_, _≤_, _<_}
+use Prim.Native.Nat.{ℕ, _+_, _<_}
 use native.Mathlib.Omega.{arith}
-use lib.Dec.{T, eqb, leb, leb→le}
-use lib.ListN.{length, length-map, take}
-use lib.Seq.{length-take-le}
+use lib.Dec.{eqb}
+use lib.ListN.{length}
 use borrow.Author.Tests.{eq-eqb, ne-eqb}
 use Rattle.records.specs.Lists.{listedFrom}
 use Rattle.records.specs.Sheet.{SheetValue}
 use Rattle.records.proofs.Lists.{length-listed, listed-snoc}
-use Rattle.tesl.specs.Lists.{all, any, distinct}
+use Rattle.tesl.specs.Lists.{any, distinct}
 use Rattle.tesl.specs.Remainder.{Remainder, sameObligation, owes, isClear}
 use Rattle.tesl.specs.Answer.{broken, holding, clear, owed, standing, judged}
-use Rattle.tesl.proofs.Tests.{and-l}
 use Rattle.theory.proofs.Lists.{any-snoc}
-use Rattle.judge.specs.declared.remainder.Remainder as arrays
 use Rattle.judge.specs.declared.held.Count.{Count}
 use Rattle.judge.specs.declared.held.Count.the-variants.{Live}
-use Rattle.judge.specs.declared.held.Held.{Held}
-use Rattle.judge.specs.View.{obligationOf, firstOf, owedOf, cut, viewOf, heldOf, liveOf, sizedIn, sized}
+use Rattle.judge.specs.View.{cut}
 use Rattle.judge.specs.Answer.{saidBy}
 use Rattle.judge.specs.Rows.{rowCount, rowObligation, rowOwed, rowOf, rowsOf}
 use Rattle.judge.specs.Settle.{foundIn}
@@ -39,27 +35,12 @@ distinct-none {A} same (x ∷ xs) = by-rest (distinct same xs) ∙ sym (ne-eqb (
         by-test true = ne-eqb (length (y ∷ ys)) 0 (λ e. omega arith)
         by-test false = ne-eqb (length (x ∷ (y ∷ ys))) 0 (λ e. omega arith)
 
--- as `owed_count` hands out m
-pub clear-at : (v : SheetValue) (r : arrays.Remainder) (m : ℕ) → (m ≤ 8) × ((length (r .obligations) ≡ 8) × (firstOf m (r .obligations) ≡ owedOf r)) → isClear (viewOf v r) ≡ eqb m 0
-unfolding owes isClear
-clear-at v r m h =
-    distinct-none sameObligation (owedOf r)
-    ∙ ap (λ k. eqb k 0) (ap length (sym (h .1 .1)) ∙ length-map (take m (r .obligations)) obligationOf ∙ length-take-le m (r .obligations) (omega (arith, h .0, h .1 .0)))
-
 -- ---- with one or more held
 
 judged-some : (rs : List Remainder) → (length rs ≡ 0 → ⊥) → judged rs ≡ holding (length rs) (standing rs)
 unfolding judged
 judged-some [] k = absurd (k refl)
 judged-some (r ∷ rs) k = refl
-
--- n of them, as the code counts
-pub said-some : (v : SheetValue) (h : Held) (n : ℕ) → h .count ≡ Live n → T (sized h) → length (h .remainders) ≡ 32 → (n ≡ 0 → ⊥) → (b : Bool) → b ≡ any isClear (liveOf v h) → holding n (cond b clear owed) ≡ saidBy (heldOf v h)
-said-some v h n e t l k b f =
-    let rs = take n (h .remainders) in
-    let s : T (sizedIn (Live n) (h .remainders)) = rw e at t in
-    let m : length (map (viewOf v) rs) ≡ n = length-map rs (viewOf v) ∙ length-take-le n (h .remainders) (omega (arith, leb→le n 32 (and-l (leb n 32) (all (λ (r : arrays.Remainder). leb (r .owed) 8) rs) s), l)) in
-    rw (f, e) (sym (judged-some (map (viewOf v) rs) (λ z. k (sym m ∙ z)) ∙ rw m))
 
 -- ---- in rows
 

@@ -1,11 +1,13 @@
--- A turn of the loop over what delay lines begin. Assumes nothing.
+-- A turn of a loop over lines, of which each begins an obligation or none; and of the loop over what delay lines begin. Assumes nothing.
 use mathlib.Core.Bool.{Bool, true, false, cond}
 use mathlib.Core.List.{List, [], _∷_, _++_}
 use mathlib.Core.Path.{_≡_, sym, _∙_}
-use Prim.Native.Nat.{ℕ, _+_, _<_, _≤_}
+use Prim.Native.Nat.{ℕ, _+_, _-_, _<_, _≤_}
+use native.Mathlib.Omega.{arith}
 use Rattle.records.specs.declared.line.Line.{Line}
+use Rattle.records.specs.Lists.{listedFrom, listed}
 use Rattle.records.proofs.Lists.{listed-cons, listed-end}
-use Rattle.tesl.specs.Lists.{any}
+use Rattle.tesl.specs.Lists.{any, flatMap}
 use Rattle.tesl.specs.Fits.{Obligation}
 use Rattle.tesl.specs.Remainder.{sameObligation}
 use Rattle.theory.specs.Adding.{insertAll}
@@ -14,20 +16,41 @@ use Rattle.judge.specs.declared.line.Begun.{Begun}
 use Rattle.judge.specs.declared.line.Begun.the-variants.{Nothing, Owed}
 use Rattle.judge.specs.View.{obligationOf, begunOf}
 use Rattle.judge.specs.Plan.{lineIn, delaysFrom}
-use Rattle.judge.proofs.owed.Laws.{begunFrom}
 
 -- delay line j
 abbrev pub delayIn : List ℕ → ℕ → Line
 delayIn lines j = lineIn lines (delaysFrom + j)
 
+-- ---- what lines begin: those from place i on
+module _ (begins : Line → List Obligation) (f : ℕ → Line) where
+  abbrev pub begunFrom : ℕ → ℕ → List Obligation
+  begunFrom n i = flatMap begins (listedFrom f i (n - i))
+
+  pub begun-start : (n : ℕ) → flatMap begins (listed f n) ≡ begunFrom n 0
+  begun-start n = let k : n - 0 ≡ n = omega arith in rw k
+
+  module _ (n i : ℕ) where
+    pub begun-end : n ≤ i → begunFrom n i ≡ []
+    begun-end h = rw (listed-end f n i h)
+
+    module _ (h : i < n) {l : Line} (e : l ≡ f i) (b : Begun) (g : begunOf b ≡ begins l) where
+      pub begun-line : begunFrom n i ≡ begunOf b ++ begunFrom n (i + 1)
+      begun-line = rw (listed-cons f n i h, g, e)
+
+      pub begun-nothing : b ≡ Nothing → begunFrom n i ≡ begunFrom n (i + 1)
+      begun-nothing k = begun-line ∙ rw k
+
+      pub begun-one : {o : code.Obligation} → b ≡ Owed o → begunFrom n i ≡ obligationOf o ∷ begunFrom n (i + 1)
+      begun-one k = begun-line ∙ rw k
+
 -- ---- what all lines begin, each once: what is begun so far, xs, with what those from i on begin
 module _ (begins : Line → List Obligation) (f : ℕ → Line) (n i : ℕ) (xs : List Obligation) {whole : List Obligation} (w : whole ≡ insertAll sameObligation xs (begunFrom begins f n i)) where
   pub joining-end : n ≤ i → xs ≡ whole
-  joining-end h = sym (w ∙ rw (listed-end f n i h))
+  joining-end h = sym (w ∙ rw (begun-end begins f n i h))
 
   module _ (h : i < n) (l : Line) (e : l ≡ f i) (b : Begun) (g : begunOf b ≡ begins l) where
     turn : whole ≡ insertAll sameObligation xs (begunOf b ++ begunFrom begins f n (i + 1))
-    turn = w ∙ rw (listed-cons f n i h, g, e)
+    turn = w ∙ rw (begun-line begins f n i h e b g)
 
     pub joining-nothing : b ≡ Nothing → whole ≡ insertAll sameObligation xs (begunFrom begins f n (i + 1))
     joining-nothing k = turn ∙ rw k

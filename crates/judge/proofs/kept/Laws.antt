@@ -7,7 +7,7 @@ use Prim.Native.Nat.{ℕ, zero, suc, _+_, _-_, _≤_}
 use native.Mathlib.Omega.{arith}
 use native.Mathlib.Numerals.{add-one}
 use lib.Dec.{T, eqb, leb, leb→le, le→leb}
-use lib.IntN.{ℤ}
+use lib.IntN.{ℤ, pos}
 use lib.ListN.{length, take}
 use lib.Seq.{take-length}
 use borrow.Author.Tests.{not-false}
@@ -34,6 +34,7 @@ use Rattle.judge.specs.declared.plan.Plan.{Plan}
 use Rattle.judge.specs.declared.kept.Kept.{Kept}
 use Rattle.judge.specs.declared.monitor.Monitor.{Monitor}
 use Rattle.judge.specs.View.{obligationOf, owedOf, viewOf, cut, heldOf, liveCount, live, seenOf, tagsBefore, sized}
+use Rattle.judge.specs.Unused.{BlankFrom, KeepsNothing}
 use Rattle.judge.specs.Lines.{smallLeads}
 use Rattle.judge.specs.Work.{worked}
 use Rattle.judge.specs.Answer.{answerOf, saidBy}
@@ -41,13 +42,13 @@ use Rattle.judge.specs.Limits.{sheetWithin, within, Limited}
 use Rattle.judge.specs.Plan.{numbers, Preparing, PlanOf}
 use Rattle.judge.specs.Rows.{words, rowCount, rowObligation, rowOwed, rowLeads, rowStopped, rowOf}
 use Rattle.judge.specs.Settle.{Side, foundIn, SmallIn}
-use Rattle.judge.specs.Stored.{KeepingHeld, KeptHeld}
+use Rattle.judge.specs.Stored.{KeepingHeld, KeptHeld, FromRows}
 use Rattle.judge.specs.Monitor.{sheetBy, heldBy, Accepts}
 use Rattle.judge.specs.Fill.{Working}
 use Rattle.judge.specs.Kept.{asStruct, rowRemainder, rowsHeld, keptMonitor, keptOf, given, Ready}
 use Rattle.judge.specs.Promises.{Follows}
 use Rattle.judge.proofs.Listing.{map-listed, one-of, all-of}
-use Rattle.judge.proofs.monitor.Limits.{held-limits, limits-of, within-limits}
+use Rattle.judge.proofs.monitor.Limits.{held-limits, limits-of, within-limits, leads-small}
 
 -- ---- places listed
 module _ {A : Type 0} (f : ℕ → A) where
@@ -159,6 +160,28 @@ module _ (s : Sheet) (n : ℕ) (tags : List ℤ) (h k : Held) (same : heldOf (sh
     owed = rw same (f .owed);
     limits = within-same (f .limits);
   }
+
+-- ---- a monitor in rows, read back
+abbrev pub readBack : Sheet → Kept → List arrays.Remainder → Monitor
+readBack s k rs = record { sheet = s; instants = k .instants; tags = k .tags; held = record { count = k .count; remainders = rs } }
+
+module _ {s : Sheet} {k : Kept} {p : Plan} {lines rows : List ℕ} (ready : Ready s k p lines rows) {rs : List arrays.Remainder} (back : FromRows p (k .count) (k .from) rs rows) where
+  abbrev after : Monitor
+  after = readBack s k rs
+
+  same-back : heldBy after ≡ heldBy (keptMonitor s k rows)
+  same-back =
+      back .held (sheetValue s) lines (ready .planned) (leads-rows s k rows (leads-small (keptMonitor s k rows) (limits-of (keptMonitor s k rows) (ready .value) (ready .limits))))
+      ∙ sym (held-rows rows (k .from) (sheetValue s) (k .count))
+
+  pub within-back : within after ≡ true
+  within-back = within-same s (k .instants) (k .tags) (rowsHeld (k .count) rows (k .from)) (after .held) same-back (back .fits) (ready .limits)
+
+  pub follows-back : {v : SheetValue} {run : List tesl.Instant} → Follows v run (keptMonitor s k rows) → Follows v run after
+  follows-back f = follows-same s (k .instants) (k .tags) (rowsHeld (k .count) rows (k .from)) (after .held) same-back (back .fits) f
+
+  pub nothing-back : BlankFrom (s .clocks) (pos 0) (k .tags) → KeepsNothing after
+  nothing-back tags = record { rest = back .rest; each = back .unused (sheetValue s) lines (ready .planned); tags = tags }
 
 -- ---- a monitor whose remainders are stored
 module _ (m : Monitor) {blank rows : List ℕ} (kept : KeptHeld (m .held .count) (m .held .remainders) blank rows) where

@@ -5,29 +5,25 @@ use mathlib.Core.Path.{_≡_, refl, sym, ap, _∙_}
 use Prim.Native.Nat.{ℕ}
 use native.Mathlib.Omega.{arith}
 use Rattle.records.specs.Outcome.{Outcome, taken, refused}
-use Rattle.records.specs.Sheet.{sheetValue}
 use Rattle.records.proofs.Lists.{refused-taken}
 use Rattle.tesl.specs.Run.{Instant}
 use Rattle.tesl.specs.Answer.{Answer}
 use Rattle.judge.specs.declared.answer.Answer as code
 use Rattle.judge.specs.declared.answer.Reply.the-variants as reply
 use Rattle.judge.specs.declared.remainder.Remainder as arrays
-use Rattle.judge.specs.declared.held.Held.{Held}
 use Rattle.judge.specs.declared.plan.Plan.{Plan}
 use Rattle.judge.specs.declared.kept.Kept.{Kept}
 use Rattle.judge.specs.declared.kept.Told.{Told}
 use Rattle.judge.specs.declared.monitor.Monitor.{Monitor}
 use Rattle.judge.specs.declared.monitor.Given.{Given}
-use Rattle.judge.specs.View.{heldOf}
 use Rattle.judge.specs.Answer.{replyOf}
 use Rattle.judge.specs.Limits.{within, Limited}
 use Rattle.judge.specs.Plan.{PlanOf}
 use Rattle.judge.specs.Stored.{KeptHeld, FindingRows, FromRows}
 use Rattle.judge.specs.Monitor.{refusal}
-use Rattle.judge.specs.Kept.{keptMonitor, keptOf, rowsHeld, given, Ready, Takes}
+use Rattle.judge.specs.Kept.{keptMonitor, keptOf, given, Ready, Takes}
 use Rattle.judge.specs.Promises.{observes, Called, Observed}
-use Rattle.judge.proofs.kept.Laws.{held-rows, leads-rows, within-same, follows-same, within-stored, follows-stored, ready-stored}
-use Rattle.judge.proofs.monitor.Limits.{Limits, limits-of, leads-small}
+use Rattle.judge.proofs.kept.Laws.{readBack, within-back, follows-back, nothing-back, within-stored, follows-stored, ready-stored}
 
 -- an answer is no refusal
 pub answered-refused : {X : Type 0} {a : code.Answer} {n : ℕ} → reply.Answered a ≡ reply.Refused n → X
@@ -77,24 +73,12 @@ module _ (m : Monitor) (l : Limited m true) {p : Plan} {lines : List ℕ} (plan 
       unused = λ i f. none-taken p f;
     }
 
-    -- the monitor to call next is within its limits
-    limits-next : Limits (keptMonitor (m .sheet) next out)
-    limits-next = limits-of (keptMonitor (m .sheet) next out) (ready .value) (ready .limits)
-
     pub found-next : FindingRows out (next .count) (next .from) p
     found-next = record { side = o .room .side .one; small = o .room .small; plan = o .room .plan }
 
     -- read back
     module _ {a : code.Answer} (q : t .reply ≡ reply.Answered a) {rs : List arrays.Remainder} (back : FromRows p (next .count) (next .from) rs out) where
-      abbrev held : Held
-      held = record { count = next .count; remainders = rs }
-
-      same-back : heldOf (sheetValue (m .sheet)) held ≡ heldOf (sheetValue (m .sheet)) (rowsHeld (next .count) out (next .from))
-      same-back =
-          back .held (sheetValue (m .sheet)) lines (ready .planned) (leads-rows (m .sheet) next out (leads-small (keptMonitor (m .sheet) next out) limits-next))
-          ∙ sym (held-rows out (next .from) (sheetValue (m .sheet)) (next .count))
-
-      pub answered-rows : Observed m bytes (given (t .reply) (record { sheet = m .sheet; instants = next .instants; tags = next .tags; held = held }))
+      pub answered-rows : Observed m bytes (given (t .reply) (readBack (m .sheet) next rs))
       answered-rows = record {
         called = record {
           refuses = λ n f. answered-refused (sym q ∙ replied f);
@@ -102,11 +86,9 @@ module _ (m : Monitor) (l : Limited m true) {p : Plan} {lines : List ℕ} (plan 
               let w = called .accepts i (sym (same-call bytes) ∙ f) in
               record {
                 answers = w .answers;
-                limits = within-same (m .sheet) (next .instants) (next .tags) (rowsHeld (next .count) out (next .from)) held same-back (back .fits) (ready .limits);
-                follows = λ s run g.
-                    let k = w .follows s run (follows-stored m kept g) in
-                    (k .0, follows-same (m .sheet) (next .instants) (next .tags) (rowsHeld (next .count) out (next .from)) held same-back (back .fits) (k .1));
+                limits = within-back ready back;
+                follows = λ s run g. let k = w .follows s run (follows-stored m kept g) in (k .0, follows-back ready back (k .1));
               };
         };
-        unused = λ i f. record { rest = back .rest; each = back .unused (sheetValue (m .sheet)) lines (ready .planned); tags = o .tags (m .sheet) starts _ q };
+        unused = λ i f. nothing-back ready back (o .tags (m .sheet) starts _ q);
       }

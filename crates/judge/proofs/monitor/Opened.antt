@@ -1,30 +1,29 @@
 -- A monitor of no instant: its one remainder is that of no filled instant, so it follows the sheet that was read. Beside a refusal there is none: what stands there has no clock, and is outside its limits. Assumes nothing.
-use mathlib.Core.Bool.{Bool, true, false, and-false}
-use mathlib.Core.List.{List, [], _∷_, map, append-nil}
+use mathlib.Core.Bool.{true, false}
+use mathlib.Core.List.{List, [], _∷_, append-nil}
 use mathlib.Core.Option.{Option, some}
 use mathlib.Core.Path.{_≡_, refl, sym, ap, _∙_, subst}
-use Prim.Native.Nat.{ℕ, zero, suc, _≤_}
+use Prim.Native.Nat.{ℕ}
 use native.Mathlib.Omega.{arith}
-use lib.Dec.{T, eqb}
-use lib.ListN.{take, replicate}
-use Rattle.records.specs.declared.line.Line.{Line}
-use Rattle.records.specs.declared.line.Line.the-variants.{Sporadic, Relation, Implies, Excludes, Delayed, Weakly, Strictly, Kills}
+use lib.Dec.{T}
+use lib.IntN.{pos}
+use lib.ListN.{length}
 use Rattle.records.specs.declared.record.Answer.the-variants as told
+use Rattle.records.specs.declared.sheet.Sheet.{Sheet}
 use Rattle.records.specs.declared.sheet.SheetRead.{SheetRead}
 use Rattle.records.specs.Outcome.{Outcome, taken, refused}
-use Rattle.records.specs.Sheet.{SheetValue, sheetValue, sheetOf, sheetRead, readSheet}
-use Rattle.records.specs.Types.{IsBytes}
+use Rattle.records.specs.Sheet.{SheetValue, sheetValue, sheetRead, readSheet}
+use Rattle.records.specs.Types.{IsBytes, IsSheet}
 use Rattle.records.proofs.Lists.{refused-taken}
 use Rattle.records.proofs.sheet.RoundTrip.{read-writes, sheetOf-value}
-use Rattle.tesl.specs.Lists.{all, any, flatMap, table}
+use Rattle.tesl.specs.Lists.{all, any, flatMap}
 use Rattle.tesl.specs.Fits.{Obligation, owedAtStart, unmet}
-use Rattle.tesl.specs.Remainder.{Remainder, leadOf, stops, remainder, sameObligation, sameRemainder}
+use Rattle.tesl.specs.Remainder.{Remainder, remainder, sameObligation, sameRemainder}
 use Rattle.tesl.specs.Answer.{answer, mostLive}
 use Rattle.tesl.proofs.Tests.{and-i}
 use Rattle.theory.specs.Sets.{apart, SameSet}
-use Rattle.theory.specs.Step.{nextLeads}
 use Rattle.theory.specs.Limits.{SheetLimits, withinLimits}
-use Rattle.theory.proofs.Lists.{filter-true, table-ext}
+use Rattle.theory.proofs.Lists.{filter-true}
 use Rattle.theory.proofs.Respect.{same-of, owed-equivalence}
 use Rattle.theory.proofs.Adding.{Adding, room, full, added-all}
 use Rattle.theory.proofs.Tidy.{owes-more}
@@ -33,52 +32,27 @@ use Rattle.theory.proofs.Limits.{same-within, start-within}
 use Rattle.theory.proofs.Opened.{read-limits, opening-owes, opening-answer}
 use Rattle.judge.specs.declared.answer.Answer as code
 use Rattle.judge.specs.declared.answer.Reply.the-variants as reply
+use Rattle.judge.specs.declared.remainder.Remainder as arrays
+use Rattle.judge.specs.declared.held.Count.the-variants.{Live}
+use Rattle.judge.specs.declared.plan.Plan.{Plan}
 use Rattle.judge.specs.declared.monitor.Monitor.{Monitor}
 use Rattle.judge.specs.declared.monitor.Given.{Given}
-use Rattle.judge.specs.View.{inUse, cut, live}
+use Rattle.judge.specs.View.{live, sized}
+use Rattle.judge.specs.Owed.{owing}
 use Rattle.judge.specs.Work.{addedAll}
-use Rattle.judge.specs.Start.{firstOwing}
 use Rattle.judge.specs.Answer.{answerOf, saidBy}
 use Rattle.judge.specs.Limits.{isTaken, sheetWithin, within}
-use Rattle.judge.specs.Monitor.{sheetBy, heldBy, blankMonitor, noMonitor, refusal, Begins}
+use Rattle.judge.specs.Plan.{numbers, Preparing, PlanOf}
+use Rattle.judge.specs.Rows.{headRows, rowsOf}
+use Rattle.judge.specs.Settle.{foundIn}
+use Rattle.judge.specs.Start.{BegunRows}
+use Rattle.judge.specs.Stored.{FromRows}
+use Rattle.judge.specs.Monitor.{sheetBy, heldBy, blankMonitor, noMonitor, refusal}
+use Rattle.judge.specs.Kept.{keptMonitor, keptFirst, given, Ready}
 use Rattle.judge.specs.Promises.{Follows, Opened}
+use Rattle.judge.proofs.rows.Placing.{blank-at}
 use Rattle.judge.proofs.monitor.Limits.{within-limits}
-
--- ---- nothing leads and nothing is stopped
-
-no-lead : (l : Line) → inUse l 0 ≡ leadOf [] l
-no-lead (Weakly A B) = refl
-no-lead (Strictly A B) = refl
-no-lead (Sporadic A B t) = refl
-no-lead (Relation A B p q) = refl
-no-lead (Implies A B) = refl
-no-lead (Excludes A B) = refl
-no-lead (Delayed A B D d) = refl
-no-lead (Kills A B) = refl
-
-no-leads : (ls : List Line) (n : ℕ) → nextLeads inUse ls (replicate n 0) ≡ map (leadOf []) ls
-no-leads [] n = refl
-no-leads (l ∷ ls) zero = rw (no-lead l, no-leads ls zero)
-no-leads (l ∷ ls) (suc n) = rw (no-lead l, no-leads ls n)
-
-no-stop : (k : ℕ) (l : Line) → stops [] k l ≡ false
-no-stop k (Kills A B) = and-false (eqb B k)
-no-stop k (Sporadic A B t) = refl
-no-stop k (Relation A B p q) = refl
-no-stop k (Implies A B) = refl
-no-stop k (Excludes A B) = refl
-no-stop k (Delayed A B D d) = refl
-no-stop k (Weakly A B) = refl
-no-stop k (Strictly A B) = refl
-
-no-stops : (k : ℕ) (ls : List Line) → any (stops [] k) ls ≡ false
-no-stops k [] = refl
-no-stops k (l ∷ ls) = rw (no-stop k l, no-stops k ls)
-
-take-false : (c n : ℕ) → c ≤ n → take c (replicate n false) ≡ table c (λ k. false)
-take-false zero n h = refl
-take-false (suc c) zero h = absurd (omega arith)
-take-false (suc c) (suc n) h = ap (λ (bs : List Bool). false ∷ bs) (take-false c n (omega arith))
+use Rattle.judge.proofs.kept.Laws.{held-rows, sized-rows, readBack, follows-back, nothing-back}
 
 -- ---- what is owed from the start has room, and is what no filled instant leaves
 
@@ -107,15 +81,11 @@ module _ (s : SheetValue) (l : SheetLimits s) where
 
   -- as the monitor holds it
   held : Remainder
-  held = cut s (firstOwing (first .owed))
+  held = owing (first .owed) (remainder s [])
 
   held-same : T (sameRemainder held (remainder s []))
   unfolding remainder held
-  held-same = same-of held (remainder s []) (record {
-    leads = no-leads (s .lines) 16;
-    stopped = take-false (s .clocks) 8 (l .clocks-most) ∙ sym (table-ext (s .clocks) (λ k. any (stops [] k) (s .lines)) (λ k. false) (λ k h. no-stops k (s .lines)));
-    owed = λ o. first .these o ∙ ap (any (sameObligation o)) (sym start-unmet);
-  })
+  held-same = same-of held (remainder s []) (record { leads = refl; stopped = refl; owed = λ o. first .these o ∙ ap (any (sameObligation o)) (sym start-unmet) })
 
 -- ---- a sheet that was read
 
@@ -123,41 +93,47 @@ module _ (b : List ℕ) (bytes : IsBytes b) (s : SheetValue) (e : readSheet b �
   l : SheetLimits s
   l = read-limits b bytes e
 
-  module _ (m : Monitor) (begins : Begins (sheetOf s) m) where
-    same-sheet : sheetBy m ≡ s
-    same-sheet = ap sheetValue (begins .sheet) ∙ sheetOf-value s
-
-    holds : heldBy m ≡ some (held s l ∷ [])
-    unfolding held
-    holds =
-        subst (λ (v : SheetValue). (os : List Obligation) → addedAll (flatMap owedAtStart (v .lines)) [] ≡ some os → heldBy m ≡ some (cut v (firstOwing os) ∷ []))
-        (sheetOf-value s) (begins .held) (first s l .owed) (first s l .found)
-
+  -- a monitor that holds the remainder of no instant
+  module _ (m : Monitor) (same : sheetBy m ≡ s) (none : m .instants ≡ 0) (holds : heldBy m ≡ some (held s l ∷ [])) (fits : T (sized (m .held))) where
     said : saidBy (heldBy m) ≡ answer s []
     said = rw holds (sym (opening-answer mostLive (omega arith) s l (held s l) (held-same s l)))
 
     sheet-within : T (sheetWithin (sheetBy m))
     unfolding sheetWithin
     sheet-within =
-        subst (λ (v : SheetValue). T (sheetWithin v)) (sym same-sheet)
+        subst (λ (v : SheetValue). T (sheetWithin v)) (sym same)
         (subst (λ (o : Outcome SheetValue). T (isTaken o)) (sym (read-writes b bytes e .checks)) tt)
 
     views : T (all (withinLimits (m .sheet .clocks) (m .instants)) (live (heldBy m)))
-    views = rw (holds, ap (λ (v : SheetValue). v .clocks) same-sheet, begins .instants)
+    views = rw (holds, ap (λ (v : SheetValue). v .clocks) same, none)
         (and-i (withinLimits (s .clocks) 0 (held s l)) true
         (subst T (sym (same-within (s .clocks) 0 (held s l) (remainder s []) (held-same s l))) (start-within s (l .clocks-below) (l .values))) tt)
 
     follows : Follows s [] m
     unfolding held
     follows = record {
-      sheet = same-sheet;
-      instants = begins .instants;
-      last = rw (begins .instants);
+      sheet = same;
+      instants = none;
+      last = rw none;
       said = said;
       held = λ n. rw holds (held-start s (held-same s l));
       owed = rw holds (first s l .once, tt);
-      limits = within-limits m sheet-within (omega (arith, begins .instants)) (begins .fits) views;
+      limits = within-limits m sheet-within (omega (arith, none)) fits views;
     }
+
+  -- begun in rows
+  module _ (sheet : Sheet) (same : sheetValue sheet ≡ s) {blank rows : List ℕ} (begun : BegunRows (sheetValue sheet) blank rows) where
+    holds-begun : heldBy (keptMonitor sheet keptFirst rows) ≡ some (held s l ∷ [])
+    unfolding held
+    holds-begun =
+        held-rows rows headRows (sheetValue sheet) (Live 1)
+        ∙ ap some (subst (λ (v : SheetValue). BegunRows v blank rows → rowsOf v rows headRows 1 ≡ owing (first s l .owed) (remainder s []) ∷ []) (sym same) (λ b. b .first (l .clocks-most) (first s l .owed) (first s l .found)) begun)
+
+    pub follows-begun : Follows s [] (keptMonitor sheet keptFirst rows)
+    follows-begun = follows (keptMonitor sheet keptFirst rows) same refl holds-begun (sized-rows rows headRows (Live 1) (begun .small))
+
+    pub ready-begun : {p : Plan} {lines : List ℕ} → PlanOf sheet p lines → Ready sheet keptFirst p lines rows
+    ready-begun plan = record { value = subst IsSheet (sym same) (read-writes b bytes e .value); planned = plan .planned; limits = follows-begun .limits }
 
 -- ---- a refused one: no clock is within the limits
 
@@ -171,12 +147,12 @@ refused-done e = let z : _≡_ {A = ℕ} 0 1 = cc in absurd (omega arith)
 -- ---- as the code has them: what was read, and the monitor begun
 
 module _ (b : List ℕ) (x : SheetRead) (e : x ≡ sheetRead (readSheet b)) where
-  pub few-lines : IsBytes b → x .sheet .count ≤ 16
-  few-lines bytes = by-outcome (readSheet b) refl
+  pub prepares-read : IsBytes b → {lines : List ℕ} → length lines ≡ numbers → Preparing (x .sheet) lines
+  prepares-read bytes {lines} size = by-outcome (readSheet b) refl
     where
-      by-outcome : (o : Outcome SheetValue) → readSheet b ≡ o → x .sheet .count ≤ 16
-      by-outcome (taken s) h = rw (e, h) (read-limits b bytes h .lines-most)
-      by-outcome (refused n) h = rw (e, h) (omega arith)
+      by-outcome : (o : Outcome SheetValue) → readSheet b ≡ o → Preparing (x .sheet) lines
+      by-outcome (taken s) h = let l = read-limits b bytes h in rw (e, h) (record { few-lines = l .lines-most; few-clocks = l .clocks-most; size = size })
+      by-outcome (refused n) h = rw (e, h) (record { few-lines = omega arith; few-clocks = omega arith; size = size })
 
   pub opened-refused : {n : ℕ} → x .answer ≡ told.Refused n → (r : Given) → r ≡ refusal n (blankMonitor (x .sheet)) → Opened readSheet b r
   unfolding noMonitor
@@ -186,14 +162,19 @@ module _ (b : List ℕ) (x : SheetRead) (e : x ≡ sheetRead (readSheet b)) wher
       by-outcome (taken s) h a g = refused-done (sym a)
       by-outcome (refused k) h a g = record { refuses = λ j f. let z : n ≡ j = cc in rw (← z) g; opens = λ s f. refused-taken (sym h ∙ f); unused = λ s f. refused-taken (sym h ∙ f) }
 
-  module _ (m : Monitor) (begins : Begins (x .sheet) m) where
-    pub opened-done : IsBytes b → x .answer ≡ told.Done → (y : code.Answer) → answerOf y ≡ saidBy (heldBy m) → Opened readSheet b (record { reply = reply.Answered y; monitor = m })
-    opened-done bytes a y w = by-outcome (readSheet b) refl (ap (λ (z : SheetRead). z .answer) (sym e) ∙ a) (subst (λ (z : SheetRead). Begins (z .sheet) m) e begins)
+  -- begun in rows, and read back
+  module _ {p : Plan} {lines blank rows : List ℕ} {rs : List arrays.Remainder} (plan : PlanOf (x .sheet) p lines) (begun : BegunRows (sheetValue (x .sheet)) blank rows) (back : FromRows p (Live 1) headRows rs rows) where
+    pub opened-done : IsBytes b → x .answer ≡ told.Done → {y : code.Answer} → ((v : SheetValue) → answerOf y ≡ saidBy (foundIn v (Live 1) rows headRows)) → Opened readSheet b (given (reply.Answered y) (readBack (x .sheet) keptFirst rs))
+    opened-done bytes a {y} w = by-outcome (readSheet b) refl (ap (λ (z : SheetRead). z .answer) (sym e) ∙ a)
       where
-        by-outcome : (o : Outcome SheetValue) → readSheet b ≡ o → sheetRead o .answer ≡ told.Done → Begins (sheetRead o .sheet) m → Opened readSheet b (record { reply = reply.Answered y; monitor = m })
-        by-outcome (refused n) h a g = refused-done a
-        by-outcome (taken s) h a g = record {
-          refuses = λ n f. refused-taken (sym f ∙ h);
-          opens = λ v f. let z : s ≡ v = cc in let k = subst (λ (v : SheetValue). Begins (sheetOf v) m) z g in (ap taken (w ∙ said b bytes v f m k), follows b bytes v f m k);
-          unused = λ v f. begins .unused;
-        }
+        by-outcome : (o : Outcome SheetValue) → readSheet b ≡ o → sheetRead o .answer ≡ told.Done → Opened readSheet b (given (reply.Answered y) (readBack (x .sheet) keptFirst rs))
+        by-outcome (refused n) h a = refused-done a
+        by-outcome (taken s) h a =
+            record {
+              refuses = λ n f. refused-taken (sym f ∙ h);
+              opens = λ v f. let same = same-sheet f in (ap taken (w (sheetValue (x .sheet)) ∙ ap saidBy (sym (held-rows rows headRows (sheetValue (x .sheet)) (Live 1))) ∙ follows-begun b bytes v f (x .sheet) same begun .said), follows-back (ready-begun b bytes v f (x .sheet) same begun plan) back (follows-begun b bytes v f (x .sheet) same begun));
+              unused = λ v f. nothing-back (ready-begun b bytes v f (x .sheet) (same-sheet f) begun plan) back (λ k l. blank-at (pos 0) 8 k);
+            }
+          where
+            same-sheet : {v : SheetValue} → readSheet b ≡ taken v → sheetValue (x .sheet) ≡ v
+            same-sheet {v} f = ap (λ (z : SheetRead). sheetValue (z .sheet)) (e ∙ ap sheetRead f) ∙ sheetOf-value v

@@ -1,18 +1,107 @@
--- What a line owes from the start, and what all lines owe, before the loop that adds it. Assumes nothing.
-use mathlib.Core.List.{List, []}
-use mathlib.Core.Option.{Option}
-use mathlib.Core.Path.{_≡_}
-use Rattle.records.specs.declared.sheet.Sheet.{Sheet}
-use Rattle.records.specs.Sheet.{lineAt, sheetValue}
-use Rattle.tesl.specs.Lists.{flatMap}
+-- The remainder of no instant in a row that was blank: no line leads, no clock is stopped, and it owes what was added. Assumes nothing.
+use mathlib.Core.Bool.{Bool, true, false, and-false}
+use mathlib.Core.List.{List, [], _∷_, map}
+use mathlib.Core.Option.{some}
+use mathlib.Core.Path.{_≡_, refl, sym, ap, _∙_}
+use Prim.Native.Nat.{ℕ, zero, suc, _+_, _≤_}
+use native.Mathlib.Omega.{arith}
+use lib.Dec.{eqb}
+use lib.ListN.{take, replicate, length-replicate}
+use Rattle.records.specs.declared.line.Line.{Line}
+use Rattle.records.specs.declared.line.Line.the-variants.{Sporadic, Relation, Implies, Excludes, Delayed, Weakly, Strictly, Kills}
+use Rattle.records.specs.Lists.{listedFrom}
+use Rattle.records.specs.Sheet.{SheetValue}
+use Rattle.tesl.specs.Lists.{any, flatMap, table}
 use Rattle.tesl.specs.Fits.{Obligation, owedAtStart}
+use Rattle.tesl.specs.Remainder.{leadOf, stops, remainder}
+use Rattle.theory.specs.Step.{nextLeads}
+use Rattle.theory.proofs.Lists.{table-ext}
+use Rattle.judge.specs.Word.{flagOf}
+use Rattle.judge.specs.View.{inUse, cut}
+use Rattle.judge.specs.Owed.{owing}
 use Rattle.judge.specs.Work.{addedAll}
-use Rattle.judge.proofs.owed.Laws.{begunFrom, begun-start}
+use Rattle.judge.specs.Rows.{leadsPart, stoppedPart, headRows, rowCount, rowOwed, rowLead, rowLeads, rowStop, rowStopped, rowOf, provided, Row, BegunRow}
+use Rattle.judge.specs.Start.{BlankRow, BegunRows}
+use Rattle.judge.proofs.rows.Placing.{blank-at, listed-is}
+use Rattle.judge.proofs.advance.Row.{same-remainder}
 
--- what all lines owe is added once what those from 0 on owe is added
-module _ (s : Sheet) where
-  abbrev pub allAdded : Option (List Obligation)
-  allAdded = addedAll (flatMap owedAtStart (sheetValue s .lines)) []
+-- ---- nothing leads and nothing is stopped
 
-  pub first-start : {q : List Obligation} → q ≡ [] → allAdded ≡ addedAll (begunFrom owedAtStart (lineAt s) (s .count) 0) q
-  first-start e = rw (e, begun-start owedAtStart (lineAt s) (s .count))
+no-lead : (l : Line) → inUse l 0 ≡ leadOf [] l
+no-lead (Weakly A B) = refl
+no-lead (Strictly A B) = refl
+no-lead (Sporadic A B t) = refl
+no-lead (Relation A B p q) = refl
+no-lead (Implies A B) = refl
+no-lead (Excludes A B) = refl
+no-lead (Delayed A B D d) = refl
+no-lead (Kills A B) = refl
+
+no-leads : (ls : List Line) (n : ℕ) → nextLeads inUse ls (replicate n 0) ≡ map (leadOf []) ls
+no-leads [] n = refl
+no-leads (l ∷ ls) zero = rw (no-lead l, no-leads ls zero)
+no-leads (l ∷ ls) (suc n) = rw (no-lead l, no-leads ls n)
+
+no-stop : (k : ℕ) (l : Line) → stops [] k l ≡ false
+no-stop k (Kills A B) = and-false (eqb B k)
+no-stop k (Sporadic A B t) = refl
+no-stop k (Relation A B p q) = refl
+no-stop k (Implies A B) = refl
+no-stop k (Excludes A B) = refl
+no-stop k (Delayed A B D d) = refl
+no-stop k (Weakly A B) = refl
+no-stop k (Strictly A B) = refl
+
+no-stops : (k : ℕ) (ls : List Line) → any (stops [] k) ls ≡ false
+no-stops k [] = refl
+no-stops k (l ∷ ls) = rw (no-stop k l, no-stops k ls)
+
+take-false : (c n : ℕ) → c ≤ n → take c (replicate n false) ≡ table c (λ k. false)
+take-false zero n h = refl
+take-false (suc c) zero h = absurd (omega arith)
+take-false (suc c) (suc n) h = ap (λ (bs : List Bool). false ∷ bs) (take-false c n (omega arith))
+
+none-stopped : (v : SheetValue) → v .clocks ≤ 8 → take (v .clocks) (replicate 8 false) ≡ table (v .clocks) (λ k. any (stops [] k) (v .lines))
+none-stopped v h = take-false (v .clocks) 8 h ∙ sym (table-ext (v .clocks) (λ k. any (stops [] k) (v .lines)) (λ k. false) (λ k l. no-stops k (v .lines)))
+
+-- ---- a row that was blank
+
+-- what there is, if it is
+provided-some : {A : Type 0} (r : Bool) {x y : A} → provided r x ≡ some y → x ≡ y
+provided-some true e = cc
+provided-some false e = let z : _≡_ {A = ℕ} 0 1 = cc in absurd (omega arith)
+
+module _ {a : List ℕ} (z : BlankRow a headRows) where
+  blank-count : rowCount a headRows ≡ 0
+  blank-count = z .blank 0 (omega arith)
+
+  pub blank-row : Row a headRows
+  blank-row = record { size = z .size; row = omega arith; few = omega (arith, blank-count) }
+
+  blank-owes : rowOwed a headRows ≡ []
+  unfolding listedFrom
+  blank-owes = rw blank-count
+
+  module _ (v : SheetValue) {r : Bool} {b : List ℕ} (w : BegunRow headRows (flatMap owedAtStart (v .lines)) r a b) where
+    leads : rowLeads b headRows ≡ replicate 16 0
+    leads = listed-is 0 (rowLead b headRows) 16 (replicate 16 0) (length-replicate {A = ℕ} 16 0)
+        (λ k h. w .stays .same headRows (leadsPart + k) (omega arith) (λ e x y. omega arith) ∙ z .blank (leadsPart + k) (omega arith) ∙ sym (blank-at {A = ℕ} 0 16 k))
+
+    stopped : rowStopped b headRows ≡ replicate 8 false
+    stopped = listed-is false (rowStop b headRows) 8 (replicate 8 false) (length-replicate 8 false)
+        (λ k h. ap flagOf (w .stays .same headRows (stoppedPart + k) (omega arith) (λ e x y. omega arith) ∙ z .blank (stoppedPart + k) (omega arith)) ∙ sym (blank-at false 8 k))
+
+    first : v .clocks ≤ 8 → (os : List Obligation) → addedAll (flatMap owedAtStart (v .lines)) [] ≡ some os → cut v (rowOf b headRows) ≡ owing os (remainder v [])
+    unfolding remainder
+    first h os e =
+        same-remainder (provided-some r (w .owed ∙ ap (addedAll (flatMap owedAtStart (v .lines))) blank-owes ∙ e))
+        (ap (nextLeads inUse (v .lines)) leads ∙ no-leads (v .lines) 16)
+        (ap (take (v .clocks)) stopped ∙ none-stopped v h)
+
+    pub begun-rows : BegunRows v a b
+    unfolding listedFrom
+    begun-rows = record {
+      stays = w .stays;
+      small = (omega arith, λ k h. let e : k ≡ 0 = omega arith in rw e (w .few));
+      first = λ h os e. ap (λ x. x ∷ []) (first h os e);
+    }

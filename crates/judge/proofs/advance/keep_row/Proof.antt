@@ -13,7 +13,7 @@ use Rattle.tesl.specs.Fits.{Obligation}
 use Rattle.judge.specs.View.{obligationOf, filledOf}
 use Rattle.judge.specs.Owed.{kept}
 use Rattle.judge.specs.Rows.{leadsPart, words, rowCount, rowObligation, rowOwed, Stays}
-use Rattle.judge.proofs.owed.Laws.{keptFrom, keeping-start, keeping-end, keeping-met, keeping-late, keeping-more}
+use Rattle.judge.proofs.advance.Keeping.{keptFrom, keeping-start, keeping-end, keeping-met, keeping-late, keeping-more}
 use Rattle.judge.proofs.rows.Laws.{stays-all, stays-put, stays-wide, stays-on, obligation-stays, owed-next, owed-put, count-put}
 use Rattle.judge.proofs.advance.keep_row.Statement.{statement}
 use Rattle.judge.proofs.advance.keep_row.Tie as tie

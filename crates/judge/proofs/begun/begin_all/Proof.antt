@@ -14,8 +14,7 @@ use Rattle.judge.specs.declared.obligation.Obligation as code
 use Rattle.judge.specs.View.{obligationOf, filledOf, firstOf, blankObligation}
 use Rattle.judge.specs.Plan.{linesIn, delaysFrom}
 use Rattle.judge.proofs.Places.{first-set}
-use Rattle.judge.proofs.owed.Laws.{begunFrom, begun-start}
-use Rattle.judge.proofs.begun.Laws.{delayIn, joining-end, joining-nothing, joining-again, joining-more}
+use Rattle.judge.proofs.begun.Laws.{begunFrom, begun-start, delayIn, joining-end, joining-nothing, joining-again, joining-more}
 use Rattle.judge.proofs.begun.begin_all.Statement.{statement}
 use Rattle.judge.proofs.begun.begin_all.Tie as tie
 

@@ -1,61 +1,58 @@
--- `open` meets its contract: what was read decides the reply, and the monitor beside it. Assumes nothing.
+-- `open` meets its contract: what was read decides the reply and the monitor beside it, which is begun in rows and read back. Assumes nothing.
 use mathlib.Core.Path.{ap, _∙_}
+use Prim.Native.Nat.{ℕ, _+_, _*_}
+use native.Mathlib.Omega.{arith}
+use lib.ListN.{length-replicate}
 use borrow.Author.Needs.{needs}
 use Rattle.records.specs.Types.{IsBytes}
-use Rattle.judge.specs.Monitor.{sheetBy, refusal}
+use Rattle.judge.specs.Plan.{numbers}
+use Rattle.judge.specs.Rows.{width, words, headRows}
+use Rattle.judge.specs.Monitor.{refusal}
+use Rattle.judge.proofs.rows.Placing.{blank-at}
 use Rattle.judge.proofs.monitor.Bytes.{all-bytes}
-use Rattle.judge.proofs.monitor.Opened.{few-lines, opened-refused, opened-done}
+use Rattle.judge.proofs.monitor.Opened.{prepares-read, opened-refused, opened-done}
 use Rattle.judge.proofs.monitor.open.Statement.{statement}
 use Rattle.judge.proofs.monitor.open.Tie as tie
 
-read-sheet-requires : tie.Need-read-sheet-requires
-read-sheet-requires c κs = search needs
-
 read-bytes : (c : tie.After-shared-slice-known) → IsBytes (c .before .args .bytes .now)
 read-bytes c = all-bytes (c .before .args .bytes .now) (λ i. c .shared-slice-known .given i .fits)
-
-enum-known-answer : tie.Need-enum-known-answer
-enum-known-answer c = search needs
-
-blank-monitor-requires : tie.Need-blank-monitor-requires
-blank-monitor-requires c κs = search needs
-
-refuse-requires : tie.Need-refuse-requires
-refuse-requires c κs = search needs
-
-enum-told : tie.Need-enum-told
-enum-told c = search needs
-
-begin-requires : tie.Need-begin-requires
-begin-requires c κs =
-    let read = c .before .before .before in
-    few-lines _ (read .read-sheet .result) (read .read-sheet .ensures) (read-bytes (read .before))
-
-say-requires : tie.Need-say-requires
-say-requires c κs = search needs
 
 returns : tie.Need-returns
 returns c =
     let r = c .before .before .before .before .before .before .read-sheet in
     opened-refused _ (r .result) (r .ensures) (c .before .before .before .answer .given .1) _ (c .refuse .ensures ∙ ap (refusal _) (c .before .blank-monitor .ensures))
 
+-- ---- the places: what was read, its plan, and the rows begun
+abbrev read : tie.After-enum-told → tie.After-read-sheet
+read t = t .before .before .before
+
+plan-of-requires : tie.Need-plan-of-requires
+plan-of-requires c κs = let r = read (c .before) in prepares-read _ (r .read-sheet .result) (r .read-sheet .ensures) (read-bytes (r .before)) (length-replicate {A = ℕ} numbers 0)
+
+begin-rows-requires : tie.Need-begin-rows-requires
+begin-rows-requires c κs = record { size = length-replicate {A = ℕ} words 0; blank = λ p h. blank-at {A = ℕ} 0 words (width * headRows + p) }
+
+abbrev planned : tie.After-begin-rows → tie.After-plan-of
+planned b = b .before .before
+
+say-rows-requires : tie.Need-say-rows-requires
+say-rows-requires c κs = (omega arith, c .before .begin-rows .ensures .small)
+
+from-rows-requires : tie.Need-from-rows-requires
+from-rows-requires c κs =
+    let b = c .before .before .before in
+    record { side = omega arith; small = b .begin-rows .ensures .small; plan = planned b .plan-of .ensures .fits }
+
 returns-2 : tie.Need-returns-2
 returns-2 c =
-    let read = c .before .before .before .before .before .before in
-    let r = read .read-sheet in
-    let m = c .before .before .begin in
-    opened-done _ (r .result) (r .ensures) (m .result) (m .ensures) (read-bytes (read .before)) (c .before .before .before .enum-told .given .1) (c .say .result) (c .say .ensures (sheetBy (m .result)))
+    let s = c .before .before in
+    let b = s .before .before in
+    let p = planned b in
+    let t = p .before .before in
+    let r = read t in
+    opened-done _ (r .read-sheet .result) (r .read-sheet .ensures) (p .plan-of .ensures) (b .begin-rows .ensures) (c .from-rows .ensures) (read-bytes (r .before)) (t .enum-told .given .1) (s .say-rows .ensures)
 
 pub open-spec : {M : Type 1} → statement M
 open-spec =
-    tie.close
-    (tie.spec
-    read-sheet-requires
-    enum-known-answer
-    blank-monitor-requires
-    refuse-requires
-    enum-told
-    begin-requires
-    say-requires
-    returns
-    returns-2)
+    tie.close (tie.spec (λ c κs. search needs) (λ c. search needs) (λ c κs. search needs) (λ c κs. search needs)
+    (λ c. search needs) plan-of-requires begin-rows-requires say-rows-requires from-rows-requires returns returns-2)
