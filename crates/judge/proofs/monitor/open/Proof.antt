@@ -36,12 +36,12 @@ abbrev planned : tie.After-begin-rows → tie.After-plan-of
 planned b = b .before .before
 
 say-rows-requires : tie.Need-say-rows-requires
-say-rows-requires c κs = (omega arith, c .before .begin-rows .ensures .small)
+say-rows-requires c κs = let b = c .before .begin-rows .ensures in (omega arith, (omega arith, λ k h. b .small .1 k (omega arith)))
 
 from-rows-requires : tie.Need-from-rows-requires
 from-rows-requires c κs =
     let b = c .before .before .before in
-    record { side = omega arith; small = b .begin-rows .ensures .small; plan = planned b .plan-of .ensures .fits }
+    record { side = omega arith; small = (omega arith, λ k h. b .begin-rows .ensures .small .1 k (omega arith)); plan = planned b .plan-of .ensures .fits }
 
 returns-2 : tie.Need-returns-2
 returns-2 c =
