@@ -15,7 +15,6 @@ use Rattle.records.specs.declared.instant.Tick.{Tick}
 use Rattle.records.specs.declared.instant.Tick.the-variants.{Idle, Ticks, Unseen}
 use Rattle.records.specs.declared.line.Line.{Line}
 use Rattle.records.specs.declared.line.Line.the-variants.{Sporadic, Relation, Implies, Excludes, Delayed, Weakly, Strictly, Kills}
-use Rattle.records.specs.Lists.{listedFrom}
 use Rattle.records.specs.Sheet.{SheetValue}
 use Rattle.records.specs.Types.{All}
 use Rattle.records.proofs.Lists.{neither}
@@ -29,14 +28,12 @@ use Rattle.theory.proofs.Lists.{any-append, any-snoc}
 use Rattle.theory.proofs.Respect.{remainder-equivalence}
 use Rattle.theory.specs.Adding.{addedTo}
 use Rattle.judge.specs.Advanced.{Advanced, fails, over, onto}
-use Rattle.judge.specs.View.{filledOf, cut, live, isNone}
+use Rattle.judge.specs.View.{filledOf, live, isNone}
 use Rattle.judge.specs.Questions.{tickIn, ticksHold, carriedHolds, leadAfter, stoppedAfter}
 use Rattle.judge.specs.Lines.{allStopped}
 use Rattle.judge.specs.Owed.{owing, left, kept}
-use Rattle.judge.specs.Rows.{rowObligation, rowCount, rowOf, rowsOf}
-use Rattle.judge.specs.Heed.{namedBy, rowClocks, rowsClocks, flagged, heeds, tickHeeded, heeded}
+use Rattle.judge.specs.Heed.{namedBy, flagged, heeds, tickHeeded, heeded}
 use Rattle.judge.specs.Work.{carried, withBegun, withKept, addedAll, advanced, sameCounted, inserted, took, settledAll, filling, fillFrom}
-use Rattle.judge.proofs.Listing.{map-listed}
 
 abbrev Found : Type 0
 Found = Option (List Remainder)
@@ -177,7 +174,7 @@ module _ (room : ℕ) where
       fill-heeded k (t ∷ seen) ticks found = by-flag (p k) k refl t (heeded p (k + 1) seen) seen (fill-heeded (k + 1) seen) ticks found
 
 -- the clocks that a remainder owes a tick of
-abbrev clocksOf : Remainder → List ℕ
+abbrev pub clocksOf : Remainder → List ℕ
 clocksOf r = map (λ (o : Obligation). o .clock) (r .owed)
 
 -- ---- lines and obligations that don't name clock k don't tell ticks t and u apart
@@ -326,28 +323,17 @@ unflagged ks flags k h = (none-of ks flags h, by-flag (getD flags k true) (flags
         other true f = absurd (true≢false (sym (flags-stay ks (set flags a true) k (ap (λ (j : ℕ). getD (set flags j true) k true) (sym (f refl)) ∙ set-here flags k)) ∙ h))
         other false f = refl
 
--- ---- rows
-flat-listed : {A B : Type 0} (f : A → List B) (g : ℕ → List B) (at : ℕ → A) → ((i : ℕ) → f (at i) ≡ g i) → (i n : ℕ) → flatMap f (listedFrom at i n) ≡ flatMap g (listedFrom (λ j. j) i n)
-unfolding listedFrom
-flat-listed f g at e i zero = refl
-flat-listed f g at e i (suc n) = rw (e i, flat-listed f g at e (i + 1) n)
+-- ---- an instant, where the remainders held owe a tick of these clocks
+module _ (room : ℕ) (v : SheetValue) (tags : List ℤ) (rs : List Remainder) {owed : List ℕ} (e : flatMap clocksOf rs ≡ owed) where
+  ignores : (k : ℕ) → heeds (v .lines) owed k ≡ false → Ignores room (filling room v tags rs) (filling-takes room v tags rs) k
+  ignores k h p q ticks w =
+      let named = flagged (flatMap namedBy (v .lines)) (replicate 8 false) in
+      let by-owed = unflagged owed named k h in
+      let by-lines = unflagged (flatMap namedBy (v .lines)) (replicate 8 false) k (by-owed .1) in
+      let other : (a : ℕ) → eqb k a ≡ false → tickIn (set ticks k true) a ≡ tickIn ticks a = λ a d. getD-set-other ticks k a true false (λ z. true≢false (sym (eq-eqb k a (sym z)) ∙ d)) in
+      filling-less k ticks (set ticks k true) other v (same-all k ticks (set ticks k true) other (v .lines) (by-lines .0)) tags (λ stopped. overlap-more ticks stopped k) room rs p q
+      (ap (any (eqb k)) e ∙ by-owed .0) w
 
-rows-clocks : (v : SheetValue) (from n : ℕ) (rows : List ℕ) → flatMap clocksOf (rowsOf v rows from n) ≡ rowsClocks rows from n
-rows-clocks v from n rows =
-    flat-listed clocksOf (λ i. rowClocks rows (from + i)) (λ i. cut v (rowOf rows (from + i)))
-    (λ i. map-listed (rowObligation rows (from + i)) (λ (o : Obligation). o .clock) (rowCount rows (from + i))) 0 n
-
--- ---- an instant
-pub heeded-enough : (room : ℕ) (v : SheetValue) (tags : List ℤ) (from n : ℕ) (rows : List ℕ) (seen : List Tick) (ticks : List Bool) (found : Found)
-    → fillFrom (filling room v tags (rowsOf v rows from n)) 0 seen ticks found ≡ fillFrom (filling room v tags (rowsOf v rows from n)) 0 (heeded (heeds (v .lines) (rowsClocks rows from n)) 0 seen) ticks found
-heeded-enough room v tags from n rows seen ticks found =
-    fill-heeded room (filling room v tags (rowsOf v rows from n)) (filling-takes room v tags (rowsOf v rows from n)) (heeds (v .lines) (rowsClocks rows from n)) ignores 0 seen ticks found
-  where
-    ignores : (k : ℕ) → heeds (v .lines) (rowsClocks rows from n) k ≡ false → Ignores room (filling room v tags (rowsOf v rows from n)) (filling-takes room v tags (rowsOf v rows from n)) k
-    ignores k h p q ticks w =
-        let named = flagged (flatMap namedBy (v .lines)) (replicate 8 false) in
-        let owed = unflagged (rowsClocks rows from n) named k h in
-        let lines = unflagged (flatMap namedBy (v .lines)) (replicate 8 false) k (owed .1) in
-        let other : (a : ℕ) → eqb k a ≡ false → tickIn (set ticks k true) a ≡ tickIn ticks a = λ a e. getD-set-other ticks k a true false (λ z. true≢false (sym (eq-eqb k a (sym z)) ∙ e)) in
-        filling-less k ticks (set ticks k true) other v (same-all k ticks (set ticks k true) other (v .lines) (lines .0)) tags (λ stopped. overlap-more ticks stopped k) room (rowsOf v rows from n) p q
-        (ap (any (eqb k)) (rows-clocks v from n rows) ∙ owed .0) w
+  pub heeded-enough : (seen : List Tick) (ticks : List Bool) (found : Found)
+      → fillFrom (filling room v tags rs) 0 seen ticks found ≡ fillFrom (filling room v tags rs) 0 (heeded (heeds (v .lines) owed) 0 seen) ticks found
+  heeded-enough seen ticks found = fill-heeded room (filling room v tags rs) (filling-takes room v tags rs) (heeds (v .lines) owed) ignores 0 seen ticks found

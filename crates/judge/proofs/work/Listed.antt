@@ -1,7 +1,7 @@
 -- What an instant makes of the remainders held, by its listed fillings: those that the rules allow, at most 256. Assumes nothing.
 use mathlib.Core.Bool.{Bool, true, false, cond, _&&_}
 use mathlib.Core.List.{List, [], _∷_, _++_}
-use mathlib.Core.Option.{Option, none, some}
+use mathlib.Core.Option.{Option, some}
 use mathlib.Core.Path.{_≡_, refl, sym, ap, _∙_}
 use Prim.Native.Nat.{ℕ, zero, suc, _+_, _<_, _≤_}
 use native.Mathlib.Nat.{zero-add, le-trans}
@@ -14,24 +14,19 @@ use Rattle.records.specs.declared.instant.TickSlot.{TickSlot}
 use Rattle.records.specs.declared.line.Line.{Line}
 use Rattle.records.specs.Lists.{listedFrom}
 use Rattle.records.specs.Sheet.{SheetValue}
-use Rattle.records.proofs.Lists.{length-listed}
 use Rattle.tesl.specs.Lists.{all, filter, flatMap}
 use Rattle.tesl.specs.Fits.{noneFalls}
 use Rattle.tesl.specs.Remainder.{Remainder}
-use Rattle.judge.specs.declared.held.Count.{Count}
-use Rattle.judge.specs.declared.held.Count.the-variants.{Exhausted, Live}
-use Rattle.judge.specs.View.{cut, seenOf}
+use Rattle.judge.specs.View.{seenOf}
 use Rattle.judge.specs.Questions.{tagsHold}
 use Rattle.judge.specs.Plan.{isRelation, isRule}
 use Rattle.judge.specs.Rules.{allowed}
 use Rattle.judge.specs.Fillings.{fillingsFrom, fillingsIn, takenBy, settling}
-use Rattle.judge.specs.Rows.{rowOf, rowsOf}
-use Rattle.judge.specs.Settle.{foundIn}
 use Rattle.judge.specs.Fill.{fillingsLeft}
-use Rattle.judge.specs.Heed.{namedBy, rowsClocks, flagged, heeds, heeded}
+use Rattle.judge.specs.Heed.{namedBy, flagged, heeds, heeded}
 use Rattle.judge.specs.Work.{filling, fillFrom, worked}
 use Rattle.judge.proofs.plan.Parts.{relations-enough, rules-enough}
-use Rattle.judge.proofs.work.Heed.{heeded-enough}
+use Rattle.judge.proofs.work.Heed.{clocksOf, heeded-enough}
 
 -- ---- the fillings, one after the other
 module _ {R : Type 0} (g : R → List Bool → R) where
@@ -109,39 +104,24 @@ module _ (room : ℕ) (v : SheetValue) (last : Option (List ℤ)) (ticks : List 
   work-some [] h = absurd (omega arith)
   work-some (r ∷ rs) h = refl
 
-  module _ (count : Count) (rows : List ℕ) (from : ℕ) where
-    abbrev after : Option (List Remainder)
-    after = worked room v last seen tags (foundIn v count rows from)
+  -- the tags by the relations alone
+  module _ (rs : List Remainder) (many : 0 < length rs) {clocks : ℕ} (c : clocks ≡ v .clocks) {relations : List Line} (d : relations ≡ filter isRelation (v .lines)) {q : Bool}
+      (f : q ≡ (noneFalls clocks last tags && all (tagsHold tags) relations)) where
+    by-tags : {b : Bool} → q ≡ b → worked room v last seen tags (some rs) ≡ cond b (fillFrom (filling room v tags rs) 0 seen (replicate 8 false) (some [])) (some [])
+    by-tags g =
+        let fit : (noneFalls (v .clocks) last tags && all (tagsHold tags) (v .lines)) ≡ q = sym (f ∙ rw (c, d, relations-enough tags (v .lines))) in
+        work-some rs many ∙ rw (fit, g)
 
-    pub work-exhausted : count ≡ Exhausted → none ≡ after
-    unfolding worked
-    work-exhausted e = rw e
+    pub worked-no : q ≡ false → worked room v last seen tags (some rs) ≡ some []
+    worked-no g = by-tags g
 
-    module _ {n : ℕ} (e : count ≡ Live n) where
-      pub work-broken : n ≡ 0 → (out : List ℕ) (to : ℕ) → some (rowsOf v out to 0) ≡ after
-      unfolding worked listedFrom
-      work-broken z out to = rw (e, z)
-
-      -- the tags by the relations alone
-      module _ (z : n ≡ 0 → ⊥) {clocks : ℕ} (c : clocks ≡ v .clocks) {relations : List Line} (d : relations ≡ filter isRelation (v .lines)) {q : Bool}
-          (f : q ≡ (noneFalls clocks last tags && all (tagsHold tags) relations)) where
-        by-tags : {b : Bool} → q ≡ b → after ≡ cond b (fillFrom (filling room v tags (rowsOf v rows from n)) 0 seen (replicate 8 false) (some [])) (some [])
-        by-tags g =
-            let fit : (noneFalls (v .clocks) last tags && all (tagsHold tags) (v .lines)) ≡ q = sym (f ∙ rw (c, d, relations-enough tags (v .lines))) in
-            let many : 0 < length (rowsOf v rows from n) = omega (arith, z, length-listed (λ i. cut v (rowOf rows (from + i))) n) in
-            rw e (work-some (rowsOf v rows from n) many ∙ rw (fit, g))
-
-        pub work-no : q ≡ false → (out : List ℕ) (to : ℕ) → some (rowsOf v out to 0) ≡ after
-        unfolding listedFrom
-        work-no g out to = sym (by-tags g)
-
-        pub work-yes : q ≡ true → {flags : List Bool} → flags ≡ flagged (rowsClocks rows from n) (flagged (flatMap namedBy (v .lines)) (replicate 8 false)) → {rules : List Line} → rules ≡ filter isRule (v .lines)
-            → (list : List Bool) {fillings : List (List Bool)} → fillings ≡ fillingsIn list 0 ++ filter (allowed rules) (fillingsLeft flags ticks clocks 0 (replicate 8 false))
-            → {found : Option (List Remainder)} → found ≡ takenBy (settling room v tags (rowsOf v rows from n)) fillings (some []) → found ≡ after
-        unfolding listedFrom
-        work-yes g s k list l p =
-            p
-            ∙ rw (l, s, k, c)
-            (sym
-            (by-tags g ∙ heeded-enough room v tags from n rows seen (replicate 8 false) (some [])
-            ∙ filled-listed room v tags (rowsOf v rows from n) (heeded (heeds (v .lines) (rowsClocks rows from n)) 0 seen) (replicate 8 false) (some [])))
+    pub worked-yes : q ≡ true → {owed : List ℕ} → flatMap clocksOf rs ≡ owed → {flags : List Bool} → flags ≡ flagged owed (flagged (flatMap namedBy (v .lines)) (replicate 8 false)) → {rules : List Line} → rules ≡ filter isRule (v .lines)
+        → (list : List Bool) {fillings : List (List Bool)} → fillings ≡ fillingsIn list 0 ++ filter (allowed rules) (fillingsLeft flags ticks clocks 0 (replicate 8 false))
+        → {found : Option (List Remainder)} → found ≡ takenBy (settling room v tags rs) fillings (some []) → found ≡ worked room v last seen tags (some rs)
+    unfolding listedFrom
+    worked-yes g {owed = owed} o s k list l p =
+        p
+        ∙ rw (l, s, k, c)
+        (sym
+        (by-tags g ∙ heeded-enough room v tags rs o seen (replicate 8 false) (some [])
+        ∙ filled-listed room v tags rs (heeded (heeds (v .lines) owed) 0 seen) (replicate 8 false) (some [])))

@@ -19,7 +19,8 @@ use Rattle.judge.specs.Rows.{rowsOf, Small, RowsStay}
 use Rattle.judge.specs.Settle.{SmallIn, foundIn, builtRows}
 use Rattle.judge.specs.Fill.{workedRows}
 use Rattle.judge.proofs.rows.Laws.{rows-stay-all}
-use Rattle.judge.proofs.work.Listed.{at-most-256, few-listed, work-exhausted, work-broken, work-no, work-yes}
+use Rattle.judge.proofs.work.Listed.{at-most-256, few-listed}
+use Rattle.judge.proofs.fill.Instant.{work-exhausted, work-broken, work-no, work-yes}
 use Rattle.judge.proofs.fill.work_rows.Statement.{statement}
 use Rattle.judge.proofs.fill.work_rows.Tie as tie
 
