@@ -43,3 +43,5 @@ pub mod Fill
 pub mod Start
 pub mod Stored
 pub mod Kept
+-- a whole monitor in one array of words
+pub mod State

@@ -25,5 +25,6 @@ mod rules;
 mod settle;
 mod settle_all;
 mod start;
+mod state;
 mod stored;
 mod word;
