@@ -68,7 +68,7 @@ pub fn open(bytes: &[u8]) -> Given
     match answer {
         Answer::Refused(n) => refuse(n, blank_monitor(sheet)),
         Answer::Done => {
-            let mut lines = [0u16; NUMBERS];
+            let mut lines = [0u32; NUMBERS];
             let plan = plan_of(sheet, &mut lines);
             let mut rows = [0u32; SIZE];
             begin_rows(&mut rows, sheet);
