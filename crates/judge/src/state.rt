@@ -1,24 +1,31 @@
 // A whole monitor in a lent array of words: the words of its head, in rows 0 to 2, read and stored. Its remainders stand behind the head, a row each.
 use crate::held::Count;
 use crate::kept::Kept;
+use crate::line_words::LineWords;
+use crate::line_words::line_of_words;
+use crate::line_words::words_of_line;
 use crate::rows::HEAD;
 use crate::rows::SIDES;
 use crate::rows::SIZE;
 use crate::rows::put_word;
 use crate::rows::word_at;
 use crate::word::count_in;
+use crate::word::number_in;
+use records::line::Line;
+use records::line::Slot;
+use records::sheet::Sheet;
+use records::sheet::line_at;
 use records::word::raw_of;
 use records::word::tag_of;
 ghost use mathlib.Core.Path.{_≡_};
 ghost use mathlib.Core.Bool.{_&&_, _||_, not};
-ghost use Prim.Native.Nat.{_+_, _%_, _*_, _≤_, _<_};
-ghost use lib.Dec.{ltb};
-ghost use lib.ListN.{length, set};
+ghost use Prim.Native.Nat.{_%_, _≤_, _<_};
+ghost use lib.ListN.{length};
 ghost use Rattle.records.specs.Lists.{listed};
+ghost use Rattle.records.specs.Line.{blankLine};
 ghost use Rattle.records.specs.Word.{tagOf};
-ghost use Rattle.tesl.specs.Lists.{below};
-ghost use Rattle.judge.specs.Rows.{width, words};
-ghost use Rattle.judge.specs.State.{format, countBy, stateCount, stateTag, stateKept, isSide, isCase, isKind, hasKinds, isState, FewIn, PutCount, PutTags, PuttingKept, PutKept};
+ghost use Rattle.judge.specs.Rows.{words};
+ghost use Rattle.judge.specs.State.{stateWords, clocksBy, stateSlot, stateSheet, countBy, stateTag, stateKept, hasFormat, isKind, kindsBelow, hasKinds, isSide, isCase, isState, PutFormat, FewIn, PutCount, PutTags, PuttingKept, PutKept, PutWords, noWords, SlotWords, PutLines, PutSheet};
 
 // The format and its version.
 pub(crate) const FORMAT: u32 = 1279655937;
@@ -27,6 +34,13 @@ pub(crate) const FORMAT: u32 = 1279655937;
 const EXHAUSTED: u32 = 1;
 
 const LIVE: u32 = 2;
+
+// The lines' rows, their kinds and clocks and their numbers, and the places in a row that sixteen lines take.
+const KINDS: usize = 1;
+
+const NUMBERS: usize = 2;
+
+const PLACES: usize = 16;
 
 // The words of row 0, the top: the format, the clocks and the lines of the sheet, the instants, the first row of the side in use, the answer's case, live, and the last tags of eight clocks.
 const TOP: usize = 0;
@@ -56,16 +70,10 @@ fn small_word(n: usize) -> u32
     n as u32
 }
 
-fn raw_in(w: u32) -> u16
-    ensures { λ r. ⌜ r ≡ w % 65536 ⌝ }
-{
-    (w % 65536) as u16
-}
-
 fn tag_in(w: u32) -> i16
     ensures { λ r. ⌜ r ≡ tagOf (w % 65536) ⌝ }
 {
-    tag_of(raw_in(w))
+    tag_of(number_in(w))
 }
 
 fn tag_word(t: i16) -> u32
@@ -106,7 +114,134 @@ fn is_kind(w: u32) -> bool
     if 16 <= w { w <= 23 } else { false }
 }
 
+fn clocks_by(w: u32) -> u8
+    ensures { λ r. ⌜ r ≡ clocksBy w ⌝ }
+{
+    if w < 256 { w as u8 } else { 255 }
+}
+
 // ---- read
+
+fn has_kind(used: bool, kind: u32) -> bool
+    ensures { λ r. ⌜ r ≡ (not used || isKind kind) ⌝ }
+{
+    if used { is_kind(kind) } else { true }
+}
+
+// Whether each of the first n lines has a kind.
+fn kinds_below(state: &[u32; SIZE], n: usize) -> bool
+    ensures { λ r. ⌜ r ≡ kindsBelow n (now (state .entry)) ⌝ }
+{
+    let mut k = 0;
+    while k < PLACES {
+        if has_kind(k < n, word_at(state, KINDS, k)) {
+            k += 1;
+        } else {
+            return false;
+        }
+    }
+    true
+}
+
+fn has_format(state: &[u32; SIZE]) -> bool
+    ensures { λ r. ⌜ r ≡ hasFormat (now (state .entry)) ⌝ }
+{
+    let w = word_at(state, TOP, FORMAT_AT);
+    w == FORMAT
+}
+
+// Whether the format is known and each line in use has a kind.
+fn has_lines(state: &[u32; SIZE]) -> bool
+    ensures { λ r. ⌜ r ≡ (hasFormat (now (state .entry)) && hasKinds (now (state .entry))) ⌝ }
+{
+    let n = count_in(word_at(state, TOP, LINES_AT));
+    if has_format(state) {
+        kinds_below(state, n)
+    } else {
+        false
+    }
+}
+
+// Whether an array of words is a state.
+pub(crate) fn is_state(state: &[u32; SIZE]) -> bool
+    ensures { λ r. ⌜ r ≡ isState (now (state .entry)) ⌝ }
+{
+    let from = count_in(word_at(state, TOP, SIDE_AT));
+    let case = word_at(state, TOP, CASE_AT);
+    if has_lines(state) {
+        if is_side(from) { is_case(case) } else { false }
+    } else {
+        false
+    }
+}
+
+// The six words of line k.
+fn words_at(state: &[u32; SIZE], k: usize) -> LineWords
+    requires { ⌜ k < 16 ⌝ }
+    ensures { λ r. ⌜ r ≡ stateWords (now (state .entry)) k ⌝ }
+{
+    let kind = word_at(state, KINDS, k);
+    let a = word_at(state, KINDS, PLACES + k);
+    let b = word_at(state, KINDS, 2 * PLACES + k);
+    let d = word_at(state, KINDS, 3 * PLACES + k);
+    let x = word_at(state, NUMBERS, k);
+    let y = word_at(state, NUMBERS, PLACES + k);
+    LineWords {
+        kind,
+        a,
+        b,
+        d,
+        x,
+        y,
+    }
+}
+
+fn blank_line() -> Line
+    ensures { λ r. ⌜ r ≡ blankLine ⌝ }
+{
+    Line::Sporadic { a: 0, b: 0, t: 0 }
+}
+
+// Line k of n lines; the blank line past them.
+fn slot_line(state: &[u32; SIZE], n: usize, k: usize) -> Line
+    requires { ⌜ k < 16 ⌝ }
+    ensures { λ r. ⌜ r ≡ stateSlot n (now (state .entry)) k .line ⌝ }
+{
+    if k < n {
+        line_of_words(words_at(state, k))
+    } else {
+        blank_line()
+    }
+}
+
+// The n lines of a state, and blank ones past them.
+fn lines_in(state: &[u32; SIZE], n: usize) -> [Slot; 16]
+    ensures { λ r. ⌜ r ≡ listed (stateSlot n (now (state .entry))) 16 ⌝ }
+{
+    let blank = blank_line();
+    let mut lines = [Slot { line: blank }; 16];
+    let mut k = 0;
+    while k < PLACES {
+        let line = slot_line(state, n, k);
+        lines[k] = Slot { line };
+        k += 1;
+    }
+    lines
+}
+
+// The sheet of a state.
+pub(crate) fn sheet_in(state: &[u32; SIZE]) -> Sheet
+    ensures { λ r. ⌜ r ≡ stateSheet (now (state .entry)) ⌝ }
+{
+    let clocks = clocks_by(word_at(state, TOP, CLOCKS_AT));
+    let count = count_in(word_at(state, TOP, LINES_AT));
+    let lines = lines_in(state, count);
+    Sheet {
+        clocks,
+        count,
+        lines,
+    }
+}
 
 fn tags_in(state: &[u32; SIZE]) -> [i16; 8]
     ensures { λ r. ⌜ r ≡ listed (stateTag (now (state .entry))) 8 ⌝ }
@@ -142,7 +277,8 @@ pub(crate) fn kept_in(state: &[u32; SIZE]) -> Kept
 // ---- stored
 
 pub(crate) fn put_format(state: &mut [u32; SIZE])
-    ensures { λ _. ⌜ now (state .exit) ≡ set (now (state .entry)) 0 format ⌝ }
+    requires { ⌜ length (now state) ≡ words ⌝ }
+    ensures { λ _. ⌜ PutFormat (now (state .entry)) (now (state .exit)) ⌝ }
 {
     put_word(state, TOP, FORMAT_AT, FORMAT);
 }
@@ -187,4 +323,79 @@ pub(crate) fn put_kept(state: &mut [u32; SIZE], kept: Kept)
     put_count(state, count);
     let tags = kept.tags;
     put_tags(state, tags);
+}
+
+// Stores six words in the places of line k.
+fn put_words(state: &mut [u32; SIZE], k: usize, w: LineWords)
+    requires { ⌜ (length (now state) ≡ words) × (k < 16) ⌝ }
+    ensures { λ _. ⌜ PutWords k w (now (state .entry)) (now (state .exit)) ⌝ }
+{
+    let kind = w.kind;
+    let a = w.a;
+    let b = w.b;
+    let d = w.d;
+    let x = w.x;
+    let y = w.y;
+    put_word(state, KINDS, k, kind);
+    put_word(state, KINDS, PLACES + k, a);
+    put_word(state, KINDS, 2 * PLACES + k, b);
+    put_word(state, KINDS, 3 * PLACES + k, d);
+    put_word(state, NUMBERS, k, x);
+    put_word(state, NUMBERS, PLACES + k, y);
+}
+
+fn no_words() -> LineWords
+    ensures { λ r. ⌜ r ≡ noWords ⌝ }
+{
+    LineWords {
+        kind: 0,
+        a: 0,
+        b: 0,
+        d: 0,
+        x: 0,
+        y: 0,
+    }
+}
+
+// The words of place k of a sheet: zeros past its lines.
+fn slot_words(s: Sheet, k: usize) -> LineWords
+    ensures { λ r. ⌜ SlotWords s k r ⌝ }
+{
+    let n = s.count;
+    if k < n {
+        words_of_line(line_at(s, k))
+    } else {
+        no_words()
+    }
+}
+
+// Stores the lines of a sheet, and zeros past them.
+fn put_lines(state: &mut [u32; SIZE], sheet: Sheet)
+    requires { ⌜ length (now state) ≡ words ⌝ }
+    ensures { λ _. ⌜ PutLines sheet (now (state .entry)) (now (state .exit)) ⌝ }
+{
+    let mut k = 0;
+    while k < PLACES {
+        let w = slot_words(sheet, k);
+        put_words(state, k, w);
+        k += 1;
+    }
+}
+
+fn clocks_word(clocks: u8) -> u32
+    ensures { λ r. ⌜ (r ≡ clocks) × (r < 256) ⌝ }
+{
+    clocks as u32
+}
+
+// Stores a sheet.
+pub(crate) fn put_sheet(state: &mut [u32; SIZE], sheet: Sheet)
+    requires { ⌜ (length (now state) ≡ words) × (sheet .count ≤ 16) ⌝ }
+    ensures { λ _. ⌜ PutSheet sheet (now (state .entry)) (now (state .exit)) ⌝ }
+{
+    put_lines(state, sheet);
+    let clocks = sheet.clocks;
+    put_word(state, TOP, CLOCKS_AT, clocks_word(clocks));
+    let count = sheet.count;
+    put_word(state, TOP, LINES_AT, small_word(count));
 }

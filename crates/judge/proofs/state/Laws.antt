@@ -1,20 +1,23 @@
 -- The head of a state: what is stored in it is read there, and what stays is read as before. Assumes nothing.
-use mathlib.Core.Bool.{Bool, true, _&&_, _||_, not, and-true}
+use mathlib.Core.Bool.{Bool, true, false, _&&_, _||_, not, and-true}
 use mathlib.Core.List.{List}
-use mathlib.Core.Path.{_≡_, refl, ap, ap₂, _∙_}
-use Prim.Native.Nat.{ℕ, _+_, _*_, _≤_, _<_}
+use mathlib.Core.Logic.{⊎-elim}
+use mathlib.Core.Path.{_≡_, refl, sym, ap, ap₂, _∙_}
+use Prim.Native.Nat.{ℕ, _+_, _-_, _*_, _≤_, _<_}
+use native.Mathlib.Nat.{eq-or-lt-of-le}
 use native.Mathlib.Omega.{arith}
 use lib.Dec.{T, eqb, ltb}
 use lib.IntN.{ℤ}
 use lib.ListN.{length, set, length-set}
-use borrow.Author.Tests.{eqb-true}
+use borrow.Author.Tests.{eqb-true, eqb-false, ltb-true, ltb-false}
 use Rattle.records.specs.Lists.{listed}
 use Rattle.tesl.proofs.Tests.{or-e, T→≡}
 use Rattle.judge.specs.declared.held.Count.{Count}
 use Rattle.judge.specs.declared.held.Count.the-variants.{Live}
 use Rattle.judge.specs.declared.kept.Kept.{Kept}
 use Rattle.judge.specs.Rows.{width, words, word, Stays}
-use Rattle.judge.specs.State.{countBy, stateCount, stateTag, stateKept, isSide, isCase, isKind, hasKinds, hasFormat, isState, FewIn, PutCount, PutTags, PutKept}
+use Rattle.judge.specs.Settle.{Side}
+use Rattle.judge.specs.State.{countBy, stateCount, stateTag, stateKept, isSide, isCase, isKind, hasKinds, hasFormat, isState, format, PutFormat, FewIn, PutCount, PutTags, PutKept}
 use Rattle.judge.proofs.Below.{below-ext}
 use Rattle.judge.proofs.Listing.{listed-same}
 use Rattle.judge.proofs.rows.Laws.{stored, stored-other, stays-all, stays-put, stays-wide, stays-on}
@@ -26,9 +29,44 @@ side-small from t =
     (λ p. let e = eqb-true from 6 (T→≡ (eqb from 6) p) in omega arith)
     (λ p. let e = eqb-true from 39 (T→≡ (eqb from 39) p) in omega arith)
 
+pub side-of : (from : ℕ) → T (isSide from) → Side from
+side-of from t =
+    or-e (eqb from 6) (eqb from 39) t
+    (λ p. let e = eqb-true from 6 (T→≡ (eqb from 6) p) in record { one = omega arith; other = omega arith; past = omega arith; apart = λ k l g h z. omega arith })
+    (λ p. let e = eqb-true from 39 (T→≡ (eqb from 39) p) in record { one = omega arith; other = omega arith; past = omega arith; apart = λ k l g h z. omega arith })
+
+pub side-is : (from : ℕ) → Side from → T (isSide from)
+side-is from s = by-tests (eqb from 6) (eqb from 39) (ltb from 23) refl refl refl
+  where
+    by-tests : (b c d : Bool) → eqb from 6 ≡ b → eqb from 39 ≡ c → ltb from 23 ≡ d → T (b || c)
+    by-tests true c d e f g = tt
+    by-tests false true d e f g = tt
+    by-tests false false true e f g =
+        let l = ltb-true from 23 g in
+        let o = s .other in
+        ⊎-elim
+        (λ (z : 6 ≡ from). eqb-false from 6 e (sym z))
+        (λ (z : 6 < from). s .apart (45 - from - from) 0 (omega arith) (omega arith) (omega arith))
+        (eq-or-lt-of-le (omega arith))
+    by-tests false false false e f g =
+        let l = ltb-false from 23 g in
+        let o = s .one in
+        ⊎-elim
+        (eqb-false from 39 f)
+        (λ (z : from < 39). s .apart 0 (from + from - 45) (omega arith) (omega arith) (omega arith))
+        (eq-or-lt-of-le (omega arith))
+
 -- ---- what stays
 pub kinds-same : (a b : List ℕ) → word b 0 2 ≡ word a 0 2 → ((k : ℕ) → k < 16 → word b 1 k ≡ word a 1 k) → hasKinds b ≡ hasKinds a
 kinds-same a b e f = below-ext 16 _ _ (λ k h. ap₂ (λ (n w : ℕ). not (ltb k n) || isKind w) e (f k h))
+
+-- ---- the format
+pub format-put : (a : List ℕ) → length a ≡ words → PutFormat a (set a (width * 0 + 0) format)
+format-put a size =
+    record {
+      stays = stays-put (stays-all 0 0 1 a) 0 format (omega arith) (omega arith) (omega arith);
+      format = ap (λ (w : ℕ). eqb w format) (stored a 0 0 format (omega arith));
+    }
 
 -- ---- how many are held
 pub few-live : {c : Count} {n : ℕ} → c ≡ Live n → FewIn c → n ≤ 32

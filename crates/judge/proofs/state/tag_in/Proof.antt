@@ -7,7 +7,7 @@ use Rattle.judge.proofs.state.tag_in.Statement.{statement}
 use Rattle.judge.proofs.state.tag_in.Tie as tie
 
 returns : tie.Need-returns
-returns c = back (c .tag-of .ok) (c .tag-of .ensures) ∙ ap tagOf (c .before .raw-in .ensures)
+returns c = back (c .tag-of .ok) (c .tag-of .ensures) ∙ ap tagOf (c .before .number-in .ensures)
 
 pub tag-in-spec : {M : Type 1} → statement M
 tag-in-spec = tie.close (tie.spec (λ c κs. search needs) (λ c κs. search needs) returns)

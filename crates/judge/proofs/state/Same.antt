@@ -1,0 +1,56 @@
+-- What is read of a head whose words stay: the sheet, the monitor beside it, and whether it is a state. Assumes nothing.
+use mathlib.Core.Bool.{cond, _&&_}
+use mathlib.Core.List.{List}
+use mathlib.Core.Path.{_≡_, ap, ap₂, _∙_}
+use Prim.Native.Nat.{ℕ, _+_, _%_, _<_, _≤_}
+use native.Mathlib.Omega.{arith}
+use lib.Dec.{eqb, ltb}
+use Rattle.records.specs.declared.line.Line.{Line}
+use Rattle.records.specs.Line.{blankLine}
+use Rattle.records.specs.Sheet.{slotOf}
+use Rattle.records.specs.Word.{tagOf}
+use Rattle.judge.specs.LineWords.{lineOfWords}
+use Rattle.judge.specs.Rows.{width, word, Stays, HeadStays}
+use Rattle.judge.specs.State.{format, clocksBy, stateWords, stateSlot, stateSheet, countBy, stateKept, isSide, isCase, isState}
+use Rattle.judge.proofs.Listing.{listed-same}
+use Rattle.judge.proofs.state.Laws.{kinds-same, same-kept}
+use Rattle.judge.proofs.state.Words.{words-same}
+use Rattle.judge.proofs.state.Sheet.{same-sheet}
+
+module _ (a b : List ℕ) where
+  -- the sheet, where rows 1 and 2 and its words in row 0 stay
+  pub sheet-same : word b 0 1 ≡ word a 0 1 → word b 0 2 ≡ word a 0 2 → ((k : ℕ) → k < 16 → stateWords b k ≡ stateWords a k) → stateSheet b ≡ stateSheet a
+  sheet-same c n f =
+      same-sheet (ap clocksBy c) n
+      (listed-same 16 (λ k h. ap₂ (λ (m : ℕ) (l : Line). slotOf (cond (ltb k m) l blankLine)) n (ap lineOfWords (f k h))))
+
+  -- the monitor beside it
+  pub kept-same : ((p : ℕ) → 3 ≤ p → p < 16 → word b 0 p ≡ word a 0 p) → stateKept b ≡ stateKept a
+  kept-same f =
+      same-kept (f 3 (omega arith) (omega arith))
+      (listed-same 8 (λ k h. ap (λ (w : ℕ). tagOf (w % 65536)) (f (8 + k) (omega arith) (omega arith))))
+      (ap₂ countBy (f 5 (omega arith) (omega arith)) (f 6 (omega arith) (omega arith)))
+      (f 4 (omega arith) (omega arith))
+
+  -- the sheet once another monitor is stored beside it
+  pub sheet-beside : Stays 0 3 16 a b → stateSheet b ≡ stateSheet a
+  sheet-beside s =
+      sheet-same (s .same 0 1 (omega arith) (λ e x y. omega arith)) (s .same 0 2 (omega arith) (λ e x y. omega arith))
+      (words-same a b (λ h p l q m. s .same h p m (λ e x y. omega arith)))
+
+  -- all of it, where the head stays
+  module _ (s : HeadStays a b) where
+    pub sheet-stays : stateSheet b ≡ stateSheet a
+    sheet-stays =
+        sheet-same (s 0 1 (omega arith) (omega arith)) (s 0 2 (omega arith) (omega arith))
+        (words-same a b (λ h p l m n. s h p (omega arith) n))
+
+    pub kept-stays : stateKept b ≡ stateKept a
+    kept-stays = kept-same (λ p l h. s 0 p (omega arith) (omega arith))
+
+    pub state-stays : isState b ≡ isState a
+    unfolding isState
+    state-stays =
+        ap₂ _&&_
+        (ap₂ _&&_ (ap (λ (w : ℕ). eqb w format) (s 0 0 (omega arith) (omega arith))) (kinds-same a b (s 0 2 (omega arith) (omega arith)) (λ k h. s 1 k (omega arith) (omega arith))))
+        (ap₂ _&&_ (ap isSide (s 0 4 (omega arith) (omega arith))) (ap isCase (s 0 5 (omega arith) (omega arith))))
