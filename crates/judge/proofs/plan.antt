@@ -1,3 +1,3 @@
 pub mod Parts
 pub mod Rows
-pub mod Gathered
+pub mod Sorted

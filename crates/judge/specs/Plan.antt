@@ -1,6 +1,6 @@
 -- A sheet's lines in an array of words, a row to each, and what is found out about a sheet once.
-use mathlib.Core.Bool.{Bool, true, false, _&&_}
-use mathlib.Core.List.{List}
+use mathlib.Core.Bool.{Bool, true, false, cond, _&&_}
+use mathlib.Core.List.{List, [], _∷_, _++_}
 use mathlib.Core.Path.{_≡_}
 use Prim.Native.Nat.{ℕ, _+_, _*_, _≤_, _<_}
 use lib.Dec.{ltb}
@@ -13,8 +13,6 @@ use Rattle.records.specs.Line.{blankLine, ofRelation, ofDelayed, ofPrecedes}
 use Rattle.records.specs.Sheet.{SheetValue, sheetValue}
 use Rattle.tesl.specs.Lists.{filter, flatMap}
 use Rattle.judge.specs.declared.plan.Plan.{Plan}
-use Rattle.judge.specs.declared.plan.Part.{Part}
-use Rattle.judge.specs.declared.plan.Part.the-variants.{All, Relations, Rules, Delays}
 use Rattle.judge.specs.LineWords.{wordsAt, lineOfWords}
 use Rattle.judge.specs.Heed.{namedBy, flagged}
 
@@ -39,12 +37,6 @@ isDelay l = ofDelayed false (λ A B D d. true) l
 
 abbrev pub isPrecedes : Line → Bool
 isPrecedes l = ofPrecedes false (λ A B. true) l
-
-abbrev pub belongs : Part → Line → Bool
-belongs All l = true
-belongs Relations l = isRelation l
-belongs Rules l = isRule l
-belongs Delays l = isDelay l
 
 -- ---- lines in words
 
@@ -101,36 +93,28 @@ pub record Planned (v : SheetValue) (p : Plan) (lines : List ℕ) : Type 0 where
   pub leading : Leading v (p .reach) (p .precede)
   pub named : p .named ≡ flagged (flatMap namedBy (v .lines)) (replicate 8 false)
 
--- ---- gathered from a sheet
-
--- no precedes line stands past place r
-pub record Reaches (s : Sheet) (r : ℕ) : Type 0 where
-  pub within : r ≤ s .count
-  pub past : (i : ℕ) → r ≤ i → isPrecedes (getD (sheetValue s .lines) i blankLine) ≡ false
+-- ---- found out about a sheet
 
 -- a row of the plan
 pub record LineRow (lines : List ℕ) (j : ℕ) : Type 0 where
   pub size : length lines ≡ numbers
   pub row : j < planRows
 
--- a line in row j; the rows before stay
+-- b is a but for row j
+pub record RowsStay (j : ℕ) (a b : List ℕ) : Type 0 where
+  pub size : length b ≡ numbers
+  pub same : (h : ℕ) → (h ≡ j → ⊥) → lineIn b h ≡ lineIn a h
+
+-- a line in row j
 pub record PutLine (j : ℕ) (l : Line) (a b : List ℕ) : Type 0 where
-  pub size : length b ≡ numbers
+  pub stays : RowsStay j a b
   pub there : lineIn b j ≡ l
-  pub before : (h : ℕ) → h < j → lineIn b h ≡ lineIn a h
 
--- lines that have room from row `from` on
-pub record Gathering (s : Sheet) (lines : List ℕ) (from : ℕ) : Type 0 where
-  pub few : s .count ≤ 16
-  pub size : length lines ≡ numbers
-  pub room : from ≤ delaysFrom
-
--- the r lines of a part from row `from` on; the rows before stay
-pub record GatheredPart (s : Sheet) (part : Part) (from r : ℕ) (a b : List ℕ) : Type 0 where
-  pub size : length b ≡ numbers
-  pub few : r ≤ 16
-  pub lines : linesIn b from r ≡ filter (belongs part) (sheetValue s .lines)
-  pub before : (h : ℕ) → h < from → lineIn b h ≡ lineIn a h
+-- a part's r lines from row `from` on: the `count` before, and l if it belongs there
+pub record PutPart (from count : ℕ) (belongs : Bool) (l : Line) (r : ℕ) (a b : List ℕ) : Type 0 where
+  pub stays : RowsStay (from + count) a b
+  pub few : r ≤ count + 1
+  pub rows : linesIn b from r ≡ linesIn a from count ++ cond belongs (l ∷ []) []
 
 -- a sheet within its limits, and room for its lines
 pub record Preparing (s : Sheet) (lines : List ℕ) : Type 0 where

@@ -6,14 +6,9 @@ use crate::rows::row_count;
 use crate::rows::word_at;
 use crate::word::byte_in;
 use records::line::Line;
-use records::sheet::Sheet;
 ghost use mathlib.Core.Path.{_≡_};
-ghost use mathlib.Core.Bool.{false};
 ghost use mathlib.Core.List.{_∷_, []};
 ghost use Prim.Native.Nat.{_+_, _≤_, _<_};
-ghost use lib.ListN.{replicate};
-ghost use Rattle.records.specs.Sheet.{sheetValue};
-ghost use Rattle.tesl.specs.Lists.{flatMap};
 ghost use Rattle.judge.specs.Rows.{height, rowCount, Small};
 ghost use Rattle.judge.specs.Heed.{namedBy, rowClocks, rowsClocks, flagged};
 
@@ -25,7 +20,7 @@ fn flag_both(flags: [bool; 8], a: u8, b: u8) -> [bool; 8]
 }
 
 // The flags of the clocks whose ticks a line asks about.
-fn flag_line(l: Line, flags: [bool; 8]) -> [bool; 8]
+pub(crate) fn flag_line(l: Line, flags: [bool; 8]) -> [bool; 8]
     ensures { λ r. ⌜ r ≡ flagged (namedBy l) flags ⌝ }
 {
     match l {
@@ -43,23 +38,6 @@ fn flag_line(l: Line, flags: [bool; 8]) -> [bool; 8]
         Line::Sporadic { .. } => flags,
         Line::Relation { .. } => flags,
     }
-}
-
-pub(crate) fn flag_lines(s: Sheet) -> [bool; 8]
-    requires { ⌜ s .count ≤ 16 ⌝ }
-    ensures { λ r. ⌜ r ≡ flagged (flatMap namedBy (sheetValue s .lines)) (replicate 8 false) ⌝ }
-{
-    let n = s.count;
-    let mut flags = [false; 8];
-    let mut i = 0;
-    while i < n {
-        let slot = s.lines[i];
-        let l = slot.line;
-        let next = flag_line(l, flags);
-        flags = next;
-        i += 1;
-    }
-    flags
 }
 
 // The flags of the clocks that row i owes a tick of.

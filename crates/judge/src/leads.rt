@@ -1,20 +1,15 @@
-// Which lines of a sheet have leads: once per sheet. What a filling asks of the leads and makes of them: once per filling.
+// Which lines have leads, and what a filling asks of the leads and makes of them: once per filling.
 use crate::clock::ticks_at;
 use crate::plan::NUMBERS;
 use crate::plan::line_in;
 use records::line::Line;
-use records::sheet::Sheet;
 ghost use mathlib.Core.Path.{_≡_};
-ghost use mathlib.Core.Bool.{false};
-ghost use Prim.Native.Nat.{ℕ, _-_, _≤_};
-ghost use lib.ListN.{getD};
-ghost use Rattle.records.specs.Line.{blankLine};
-ghost use Rattle.records.specs.Sheet.{sheetValue};
+ghost use Prim.Native.Nat.{_-_, _≤_};
 ghost use Rattle.theory.specs.Step.{bit};
-ghost use Rattle.judge.specs.Plan.{isPrecedes, Reaches};
+ghost use Rattle.judge.specs.Plan.{isPrecedes};
 ghost use Rattle.judge.specs.Filling.{AskedLead, AskedLeads};
 
-fn precedes(l: Line) -> bool
+pub(crate) fn precedes(l: Line) -> bool
     ensures { λ r. ⌜ r ≡ isPrecedes l ⌝ }
 {
     match l {
@@ -27,40 +22,6 @@ fn precedes(l: Line) -> bool
         Line::Delayed { .. } => false,
         Line::Kills { .. } => false,
     }
-}
-
-// Where the last precedes line stands, from 1; 0 without one.
-pub(crate) fn reach_of(s: Sheet) -> usize
-    requires { ⌜ s .count ≤ 16 ⌝ }
-    ensures { λ r. ⌜ Reaches s r ⌝ }
-{
-    let mut k = s.count;
-    while 0 < k {
-        let slot = s.lines[k - 1];
-        let l = slot.line;
-        if precedes(l) {
-            return k;
-        }
-        k -= 1;
-    }
-    0
-}
-
-// A flag for each precedes line.
-pub(crate) fn leading_of(s: Sheet) -> [bool; 16]
-    requires { ⌜ s .count ≤ 16 ⌝ }
-    ensures { λ r. ⌜ ((i : ℕ) → getD r i false ≡ isPrecedes (getD (sheetValue s .lines) i blankLine)) ⌝ }
-{
-    let n = s.count;
-    let mut leading = [false; 16];
-    let mut i = 0;
-    while i < n {
-        let slot = s.lines[i];
-        let l = slot.line;
-        leading[i] = precedes(l);
-        i += 1;
-    }
-    leading
 }
 
 fn one(b: bool) -> u16

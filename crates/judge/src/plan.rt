@@ -1,16 +1,17 @@
 // A sheet's lines in a lent array of words, a row to each, and what is found out about the sheet once. All lines stand in the sheet's order from row 0 on; its relations, its rules and its delay lines once more, from rows 16, 32 and 48 on.
-use crate::heed::flag_lines;
+use crate::heed::flag_line;
 use crate::held::clocks_of;
-use crate::leads::leading_of;
-use crate::leads::reach_of;
+use crate::leads::precedes;
 use crate::line_words::LineWords;
 use crate::line_words::line_of_words;
 use crate::line_words::words_of_line;
 use records::line::Line;
 use records::sheet::Sheet;
+ghost use mathlib.Core.Bool.{cond};
 ghost use mathlib.Core.Path.{_≡_};
-ghost use Prim.Native.Nat.{_<_};
-ghost use Rattle.judge.specs.Plan.{isRelation, isRule, isDelay, belongs, planRows, lineIn, LineRow, PutLine, Gathering, GatheredPart, Preparing, PlanOf};
+ghost use Prim.Native.Nat.{_+_, _<_};
+ghost use Rattle.judge.specs.LineWords.{lineOfWords};
+ghost use Rattle.judge.specs.Plan.{isRelation, isRule, isDelay, planRows, lineIn, LineRow, PutLine, PutPart, Preparing, PlanOf};
 
 // Words of a row, six of them used; rows; words in all.
 const LINE_WIDTH: usize = 8;
@@ -35,14 +36,6 @@ pub struct Plan {
     pub reach: usize,
     pub precede: [bool; 16],
     pub named: [bool; 8],
-}
-
-// The lines that are gathered together.
-pub(crate) enum Part {
-    All,
-    Relations,
-    Rules,
-    Delays,
 }
 
 fn is_relation(l: Line) -> bool
@@ -91,17 +84,6 @@ fn is_delay(l: Line) -> bool
     }
 }
 
-fn is_part(part: Part, l: Line) -> bool
-    ensures { λ r. ⌜ r ≡ belongs part l ⌝ }
-{
-    match part {
-        Part::All => true,
-        Part::Relations => is_relation(l),
-        Part::Rules => is_rule(l),
-        Part::Delays => is_delay(l),
-    }
-}
-
 // The line of row j.
 pub(crate) fn line_in(lines: &[u32; NUMBERS], j: usize) -> Line
     requires { ⌜ j < planRows ⌝ }
@@ -118,12 +100,11 @@ pub(crate) fn line_in(lines: &[u32; NUMBERS], j: usize) -> Line
     })
 }
 
-// Stores a line in row j; the rows before stay.
-fn put_line(lines: &mut [u32; NUMBERS], j: usize, l: Line)
+// Stores six words in row j; the other rows stay.
+fn put_words(lines: &mut [u32; NUMBERS], j: usize, w: LineWords)
     requires { ⌜ LineRow (now lines) j ⌝ }
-    ensures { λ _. ⌜ PutLine j l (now (lines .entry)) (now (lines .exit)) ⌝ }
+    ensures { λ _. ⌜ PutLine j (lineOfWords w) (now (lines .entry)) (now (lines .exit)) ⌝ }
 {
-    let w = words_of_line(l);
     let at = LINE_WIDTH * j;
     lines[at] = w.kind;
     lines[at + 1] = w.a;
@@ -133,40 +114,61 @@ fn put_line(lines: &mut [u32; NUMBERS], j: usize, l: Line)
     lines[at + 5] = w.y;
 }
 
-// Gathers the lines of a part from row `from` on, in the sheet's order; the rows before stay.
-fn gather(s: Sheet, part: Part, lines: &mut [u32; NUMBERS], from: usize) -> usize
-    requires { ⌜ Gathering s (now lines) from ⌝ }
-    ensures { λ r. ⌜ GatheredPart s part from r (now (lines .entry)) (now (lines .exit)) ⌝ }
+// Stores a line's words behind the `count` rows of a part, from row `from` on, if it belongs there; tells how many rows the part has then.
+fn put_part(
+    lines: &mut [u32; NUMBERS],
+    from: usize,
+    count: usize,
+    belongs: bool,
+    w: LineWords,
+) -> usize
+    requires { ⌜ LineRow (now lines) (from + count) ⌝ }
+    ensures { λ r. ⌜ PutPart from count belongs (lineOfWords w) r (now (lines .entry)) (now (lines .exit)) ⌝ }
 {
-    let n = s.count;
-    let mut count = 0;
-    let mut i = 0;
-    while i < n {
-        let slot = s.lines[i];
-        let l = slot.line;
-        i += 1;
-        if !is_part(part, l) {
-            continue;
-        }
-        put_line(lines, from + count, l);
-        count += 1;
+    if !belongs {
+        return count;
     }
-    count
+    put_words(lines, from + count, w);
+    count + 1
 }
 
-// What is found out about a sheet once.
+// Where the last precedes line stands, from 1, with line i besides.
+fn reach_with(reach: usize, i: usize, leads: bool) -> usize
+    requires { ⌜ i < 16 ⌝ }
+    ensures { λ r. ⌜ r ≡ cond leads (i + 1) reach ⌝ }
+{
+    if leads { i + 1 } else { reach }
+}
+
+// What is found out about a sheet once, in one pass over its lines.
 pub(crate) fn plan_of(s: Sheet, lines: &mut [u32; NUMBERS]) -> Plan
     requires { ⌜ Preparing s (now lines) ⌝ }
     ensures { λ r. ⌜ PlanOf s r (now (lines .exit)) ⌝ }
 {
     let clocks = clocks_of(s);
-    let _all = gather(s, Part::All, lines, 0);
-    let relations = gather(s, Part::Relations, lines, RELATIONS);
-    let rules = gather(s, Part::Rules, lines, RULES);
-    let delays = gather(s, Part::Delays, lines, DELAYS);
-    let reach = reach_of(s);
-    let precede = leading_of(s);
-    let named = flag_lines(s);
+    let n = s.count;
+    let mut relations = 0;
+    let mut rules = 0;
+    let mut delays = 0;
+    let mut reach = 0;
+    let mut precede = [false; 16];
+    let mut named = [false; 8];
+    let mut i = 0;
+    while i < n {
+        let slot = s.lines[i];
+        let l = slot.line;
+        let w = words_of_line(l);
+        put_words(lines, i, w);
+        relations = put_part(lines, RELATIONS, relations, is_relation(l), w);
+        rules = put_part(lines, RULES, rules, is_rule(l), w);
+        delays = put_part(lines, DELAYS, delays, is_delay(l), w);
+        let leads = precedes(l);
+        precede[i] = leads;
+        reach = reach_with(reach, i, leads);
+        let flags = flag_line(l, named);
+        named = flags;
+        i += 1;
+    }
     Plan {
         clocks,
         relations,

@@ -25,7 +25,7 @@ module _ (at : ℕ → ℕ) (n i : ℕ) (flags : List Bool) where
 pub flags-start : (at : ℕ → ℕ) (n : ℕ) (flags : List Bool) → flagged (listed at n) flags ≡ flaggedFrom at n 0 flags
 flags-start at n flags = let k : n - 0 ≡ n = omega arith in rw k
 
-flagged-append : (ks ls : List ℕ) (flags : List Bool) → flagged (ks ++ ls) flags ≡ flagged ls (flagged ks flags)
+pub flagged-append : (ks ls : List ℕ) (flags : List Bool) → flagged (ks ++ ls) flags ≡ flagged ls (flagged ks flags)
 flagged-append [] ls flags = refl
 flagged-append (k ∷ ks) ls flags = flagged-append ks ls (set flags k true)
 

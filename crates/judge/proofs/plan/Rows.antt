@@ -1,21 +1,47 @@
--- A line stored in a row: it is read there, and the rows before stay. Assumes nothing.
-use mathlib.Core.List.{List}
-use mathlib.Core.Path.{_≡_, ap, _∙_}
+-- Lines stored in rows: a line is read in its row, the other rows stay, and a part has one line more or not. Assumes nothing.
+use mathlib.Core.Bool.{true, false}
+use mathlib.Core.List.{List, append-nil}
+use mathlib.Core.Path.{_≡_, refl, sym, ap, _∙_}
 use Prim.Native.Nat.{ℕ, _+_, _*_, _<_}
 use native.Mathlib.Omega.{arith}
-use lib.ListN.{getD}
+use lib.ListN.{length, getD}
 use Rattle.records.specs.declared.line.Line.{Line}
 use Rattle.judge.specs.declared.line_words.LineWords.{LineWords}
-use Rattle.judge.specs.LineWords.{lineOfWords, WordsOf}
-use Rattle.judge.specs.Plan.{lineWidth, LineRow, PutLine}
+use Rattle.judge.specs.LineWords.{lineOfWords}
+use Rattle.judge.specs.Plan.{lineWidth, numbers, linesIn, LineRow, RowsStay, PutLine, PutPart}
+use Rattle.judge.proofs.Listing.{listed-same, listed-next}
 use Rattle.judge.proofs.line_words.Stored.{stored, stored-length, stored-other, stored-there}
 
-module _ {lines : List ℕ} {j : ℕ} (r : LineRow lines j) where
-  pub put-there : {l : Line} {w : LineWords} → WordsOf l w → PutLine j l lines (stored lines (lineWidth * j) w)
-  put-there {l} {w} o =
-      let before : (p : ℕ) → p < lineWidth * j → getD (stored lines (lineWidth * j) w) p 0 ≡ getD lines p 0 = λ p m. stored-other lines (lineWidth * j) w p (λ k n. omega arith) in
-      record {
-        size = stored-length lines (lineWidth * j) w ∙ r .size;
-        there = ap lineOfWords (stored-there lines (lineWidth * j) w (omega arith)) ∙ o .line;
-        before = λ h m. rw (before (lineWidth * h) (omega arith), before (lineWidth * h + 1) (omega arith), before (lineWidth * h + 2) (omega arith), before (lineWidth * h + 3) (omega arith), before (lineWidth * h + 4) (omega arith), before (lineWidth * h + 5) (omega arith));
-      }
+-- six words stored in row j
+module _ {lines : List ℕ} {j : ℕ} (r : LineRow lines j) (w : LineWords) where
+  abbrev after : List ℕ
+  after = stored lines (lineWidth * j) w
+
+  -- words 0 to 5 of another row
+  other : (h k : ℕ) → k < 6 → (h ≡ j → ⊥) → getD after (lineWidth * h + k) 0 ≡ getD lines (lineWidth * h + k) 0
+  other h k m apart = stored-other lines (lineWidth * j) w (lineWidth * h + k) (λ p q. apart (omega arith))
+
+  first : (h : ℕ) → (h ≡ j → ⊥) → getD after (lineWidth * h) 0 ≡ getD lines (lineWidth * h) 0
+  first h apart = stored-other lines (lineWidth * j) w (lineWidth * h) (λ p q. apart (omega arith))
+
+  pub put-there : PutLine j (lineOfWords w) lines after
+  put-there = record {
+    stays = record {
+      size = stored-length lines (lineWidth * j) w ∙ r .size;
+      same = λ h apart. rw (first h apart, other h 1 (omega arith) apart, other h 2 (omega arith) apart, other h 3 (omega arith) apart, other h 4 (omega arith) apart, other h 5 (omega arith) apart);
+    };
+    there = ap lineOfWords (stored-there lines (lineWidth * j) w (omega arith));
+  }
+
+-- rows that j is not among
+pub rows-stay : {j : ℕ} {a b : List ℕ} → RowsStay j a b → (from n : ℕ) → ((k : ℕ) → k < n → from + k ≡ j → ⊥) → linesIn b from n ≡ linesIn a from n
+rows-stay r from n apart = listed-same n (λ k m. r .same (from + k) (apart k m))
+
+-- ---- a part
+pub part-same : {lines : List ℕ} (from count : ℕ) (l : Line) → length lines ≡ numbers → PutPart from count false l count lines lines
+part-same {lines} from count l e =
+    record { stays = record { size = e; same = λ h apart. refl }; few = omega arith; rows = sym (append-nil (linesIn lines from count)) }
+
+pub part-more : {l : Line} {a b : List ℕ} (from count : ℕ) → PutLine (from + count) l a b → PutPart from count true l (count + 1) a b
+part-more from count p =
+    record { stays = p .stays; few = omega arith; rows = listed-next count (λ k m. p .stays .same (from + k) (λ e. omega arith)) (p .there) refl }

@@ -1,44 +1,51 @@
--- `plan_of` meets its contract: later parts are gathered in higher rows, which leaves the earlier parts as they are. Assumes nothing.
-use mathlib.Core.Path.{_∙_}
+-- `plan_of` meets its contract. The invariant: rows and flags are those of the first i lines. Assumes nothing.
+use mathlib.Core.Path.{_≡_}
+use Prim.Native.Nat.{_-_, _≤_}
 use native.Mathlib.Omega.{arith}
 use borrow.Author.Needs.{needs}
-use Rattle.judge.specs.Plan.{relationsFrom, rulesFrom}
-use Rattle.judge.proofs.leads.Leading.{leading}
-use Rattle.judge.proofs.plan.Gathered.{rows-kept, all-gathered}
+use Rattle.records.specs.Lists.{listed}
+use Rattle.records.specs.Sheet.{lineAt}
+use Rattle.judge.proofs.plan.Sorted.{Sorted, planBy, sorted-none, sorted-more, sorted-next, sorted-all}
 use Rattle.judge.proofs.plan.plan_of.Statement.{statement}
 use Rattle.judge.proofs.plan.plan_of.Tie as tie
 
-returns : tie.Need-returns
-returns c =
+abbrev Inv-loop : tie.InvT-loop
+Inv-loop lines₀ s clocks n relations₀ rules₀ delays₀ reach₀ precede₀ named₀ i₀ lines relations rules delays reach precede named i =
+    (i ≤ n) × Sorted (listed (lineAt s) i) i (planBy clocks relations rules delays reach precede named) lines
+
+abbrev μ-loop : tie.MeasureT-loop
+μ-loop lines₀ s clocks n relations₀ rules₀ delays₀ reach₀ precede₀ named₀ i₀ lines relations rules delays reach precede named i = n - i
+
+loop-holds : tie.Need-loop-holds Inv-loop μ-loop
+loop-holds c = let s = c .before in (omega arith, sorted-none (s .args .t1) (c .clocks-of .result) (s .args .lines .now) (s .pre .size))
+
+loop-again : tie.Need-loop-again Inv-loop μ-loop
+loop-again c =
     let delays = c .before .before .before in
-    let rules = delays .before .before in
-    let relations = rules .before .before in
-    let all = relations .before .before in
-    let clocks = all .before .before in
-    let s = clocks .before in
-    let a = all .gather .ensures in
-    let b = relations .gather2 .ensures in
-    let d = rules .gather3 .ensures in
-    let e = delays .gather4 .ensures in
-    let far = c .before .before .reach-of in
-    let led = leading (s .args .s) (far .result) (c .before .leading-of .result) (s .pre .few-lines) (far .ensures) (c .before .leading-of .ensures) in
-    record {
-      size = e .size;
-      fits = record { clocks = rw (clocks .clocks-of .ensures) (s .pre .few-clocks); reach = led .0; few-relations = b .few; few-rules = d .few; few-delays = e .few };
-      planned = record {
-        as-many = clocks .clocks-of .ensures;
-        few-clocks = s .pre .few-clocks;
-        all = λ k h. e .before k (omega (arith, led .0)) ∙ d .before k (omega (arith, led .0)) ∙ b .before k (omega (arith, led .0)) ∙ all-gathered a k (omega (arith, far .ensures .within));
-        relations = rows-kept e relationsFrom _ (omega (arith, b .few)) ∙ rows-kept d relationsFrom _ (omega (arith, b .few)) ∙ b .lines;
-        rules = rows-kept e rulesFrom _ (omega (arith, d .few)) ∙ d .lines;
-        delays = e .lines;
-        leading = led;
-        named = c .flag-lines .ensures;
-      };
-    }
+    let rules = delays .before .before .before in
+    let relations = rules .before .before .before in
+    let row = relations .before .before .before in
+    let words = row .before .before in
+    let at = words .before .before .before in
+    let s = at .before .before in
+    let m = at .loop in
+    let more = sorted-more (m .inv .1) (omega (arith, s .pre .few-lines)) (words .words-of-line .ensures .line)
+    (row .put-words .ensures) (relations .put-part .ensures) (rules .put-part2 .ensures) (delays .put-part3 .ensures)
+    (relations .before .is-relation .ensures) (rules .before .is-rule .ensures) (delays .before .is-delay .ensures)
+    (c .before .before .precedes .ensures) (c .before .reach-with .ensures) (c .flag-line .ensures) in
+    (omega arith, sorted-next (s .args .t1) (m .i) more)
+
+returns : tie.Need-returns Inv-loop μ-loop
+returns c =
+    let at = c .before in
+    let s = at .before .before in
+    let all : at .loop .i ≡ s .args .t1 .count = omega arith in
+    sorted-all (s .args .t1) (s .pre) (at .before .clocks-of .ensures) (rw all at (at .loop .inv .1))
 
 pub plan-of-spec : {M : Type 1} → statement M
 plan-of-spec =
-    tie.close (tie.spec
-    (λ c κs. search needs) (λ c κs. search needs) (λ c κs. search needs) (λ c κs. search needs) (λ c κs. search needs)
-    (λ c κs. search needs) (λ c κs. search needs) (λ c κs. search needs) returns)
+    tie.close (tie.spec Inv-loop μ-loop
+    (λ c κs. search needs) loop-holds (λ c. search needs) (λ c. search needs)
+    (λ c κs. search needs) (λ c κs. search needs) (λ c κs. search needs) (λ c κs. search needs) (λ c κs. search needs) (λ c κs. search needs)
+    (λ c κs. search needs) (λ c κs. search needs) (λ c κs. search needs)
+    (λ c. search needs) (λ c κs. search needs) (λ c κs. search needs) (λ c. search needs) (λ c. search needs) loop-again returns)

@@ -1,15 +1,15 @@
--- `put_line` meets its contract: the line's six words are stored one behind the other. Assumes nothing.
+-- `put_words` meets its contract: six words stored one behind the other. Assumes nothing.
 use borrow.Author.Needs.{needs}
 use Rattle.judge.proofs.plan.Rows.{put-there}
-use Rattle.judge.proofs.plan.put_line.Statement.{statement}
-use Rattle.judge.proofs.plan.put_line.Tie as tie
+use Rattle.judge.proofs.plan.put_words.Statement.{statement}
+use Rattle.judge.proofs.plan.put_words.Tie as tie
 
 returns : tie.Need-returns
-returns c = put-there (c .before .pre) (c .words-of-line .ensures)
+returns c = put-there (c .pre) (c .args .w)
 
-pub put-line-spec : {M : Type 1} → statement M
-put-line-spec =
-    tie.close (tie.spec (λ c κs. search needs) (λ c. search needs)
+pub put-words-spec : {M : Type 1} → statement M
+put-words-spec =
+    tie.close (tie.spec (λ c. search needs)
     (λ c. search needs) (λ c. search needs)
     (λ c. search needs) (λ c. search needs) (λ c. search needs) (λ c. search needs) (λ c. search needs) (λ c. search needs)
     (λ c. search needs) (λ c. search needs) (λ c. search needs) (λ c. search needs) (λ c. search needs) (λ c. search needs)
