@@ -7,10 +7,10 @@ use native.Mathlib.Nat.{add-zero, zero-add}
 use native.Mathlib.Numerals.{add-one}
 use native.Mathlib.Omega.{arith}
 use lib.Dec.{T}
-use lib.ListN.{length, getD, set, take, length-set, List·getD-eq-default}
+use lib.ListN.{length, getD, set, take, length-set}
 use lib.Seq.{getD-set-same, getD-set-other, take-suc, take-all}
 use Rattle.records.specs.Lists.{listedFrom, listed}
-use Rattle.records.proofs.Lists.{listed-snoc, length-listed}
+use Rattle.records.proofs.Lists.{listed-snoc}
 use Rattle.tesl.specs.Lists.{all, any, below}
 use Rattle.tesl.proofs.FormulaLists.{all-append, below-at, below-of}
 use Rattle.theory.proofs.Lists.{any-snoc}
@@ -21,7 +21,7 @@ or-not true b = sym (Bool·not-not b)
 or-not false b = refl
 
 module _ {A : Type 0} (f : ℕ → A) where
-  -- ---- what stands at a place; d past the end
+  -- ---- what stands at a place
   module _ (d : A) where
     from-at : (i n k : ℕ) → k < n → getD (listedFrom f i n) k d ≡ f (i + k)
     unfolding listedFrom
@@ -31,9 +31,6 @@ module _ {A : Type 0} (f : ℕ → A) where
 
     pub listed-at : (n k : ℕ) → k < n → getD (listed f n) k d ≡ f k
     listed-at n k h = from-at 0 n k h ∙ ap f (zero-add k)
-
-    pub listed-past : (n k : ℕ) → n ≤ k → getD (listed f n) k d ≡ d
-    listed-past n k h = List·getD-eq-default (listed f n) d {n = k} (omega (arith, length-listed f n))
 
   -- ---- each seen through g
   map-from : {B : Type 0} (g : A → B) (i n : ℕ) → map g (listedFrom f i n) ≡ listedFrom (λ j. g (f j)) i n
