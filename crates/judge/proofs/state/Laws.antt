@@ -10,16 +10,14 @@ use lib.Dec.{T, eqb, ltb}
 use lib.IntN.{ℤ}
 use lib.ListN.{length, set, length-set}
 use borrow.Author.Tests.{eqb-true, eqb-false, ltb-true, ltb-false}
-use Rattle.records.specs.Lists.{listed}
 use Rattle.tesl.proofs.Tests.{or-e, T→≡}
 use Rattle.judge.specs.declared.held.Count.{Count}
 use Rattle.judge.specs.declared.held.Count.the-variants.{Live}
 use Rattle.judge.specs.declared.kept.Kept.{Kept}
 use Rattle.judge.specs.Rows.{width, words, word, Stays}
 use Rattle.judge.specs.Settle.{Side}
-use Rattle.judge.specs.State.{countBy, stateCount, stateTag, stateKept, isSide, isCase, isKind, hasKinds, hasFormat, isState, format, PutFormat, FewIn, PutCount, PutTags, PutKept}
+use Rattle.judge.specs.State.{countBy, stateCount, isSide, isCase, isKind, hasKinds, hasFormat, isState, format, PutFormat, FewIn, PutCount, PutTags, PutKept}
 use Rattle.judge.proofs.Below.{below-ext}
-use Rattle.judge.proofs.Listing.{listed-same}
 use Rattle.judge.proofs.rows.Laws.{stored, stored-other, stays-all, stays-put, stays-wide, stays-on}
 
 -- ---- sides

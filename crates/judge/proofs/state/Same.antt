@@ -1,17 +1,19 @@
 -- What is read of a head whose words stay: the sheet, the monitor beside it, and whether it is a state. Assumes nothing.
-use mathlib.Core.Bool.{cond, _&&_}
+use mathlib.Core.Bool.{true, cond, _&&_}
 use mathlib.Core.List.{List}
 use mathlib.Core.Path.{_≡_, ap, ap₂, _∙_}
 use Prim.Native.Nat.{ℕ, _+_, _%_, _<_, _≤_}
 use native.Mathlib.Omega.{arith}
 use lib.Dec.{eqb, ltb}
 use Rattle.records.specs.declared.line.Line.{Line}
+use Rattle.records.specs.declared.sheet.Sheet.{Sheet}
 use Rattle.records.specs.Line.{blankLine}
-use Rattle.records.specs.Sheet.{slotOf}
+use Rattle.records.specs.Sheet.{slotOf, sheetValue}
 use Rattle.records.specs.Word.{tagOf}
+use Rattle.judge.specs.declared.kept.Kept.{Kept}
 use Rattle.judge.specs.LineWords.{lineOfWords}
-use Rattle.judge.specs.Rows.{width, word, Stays, HeadStays}
-use Rattle.judge.specs.State.{format, clocksBy, stateWords, stateSlot, stateSheet, countBy, stateKept, isSide, isCase, isState}
+use Rattle.judge.specs.Rows.{word, Stays, HeadStays}
+use Rattle.judge.specs.State.{format, clocksBy, stateWords, stateSheet, countBy, stateKept, isSide, isCase, isState, PutFormat, PutKept, PutSheet}
 use Rattle.judge.proofs.Listing.{listed-same}
 use Rattle.judge.proofs.state.Laws.{kinds-same, same-kept}
 use Rattle.judge.proofs.state.Words.{words-same}
@@ -54,3 +56,13 @@ module _ (a b : List ℕ) where
         ap₂ _&&_
         (ap₂ _&&_ (ap (λ (w : ℕ). eqb w format) (s 0 0 (omega arith) (omega arith))) (kinds-same a b (s 0 2 (omega arith) (omega arith)) (λ k h. s 1 k (omega arith) (omega arith))))
         (ap₂ _&&_ (ap isSide (s 0 4 (omega arith) (omega arith))) (ap isCase (s 0 5 (omega arith) (omega arith))))
+
+-- ---- format, sheet and monitor stored in turn
+module _ {s : Sheet} {k : Kept} {b c d : List ℕ} (sheet : PutSheet s b c) (kept : PutKept k c d) where
+  pub state-made : {a : List ℕ} → PutFormat a b → isState d ≡ true
+  state-made f =
+      kept .state
+      ∙ ap₂ _&&_ (ap (λ (w : ℕ). eqb w format) (sheet .top 0 (omega arith) (λ e. omega arith) (λ e. omega arith)) ∙ f .format) (sheet .kinds)
+
+  pub value-made : sheetValue (stateSheet d) ≡ sheetValue s
+  value-made = ap sheetValue (sheet-beside c d (kept .stays)) ∙ sheet .value

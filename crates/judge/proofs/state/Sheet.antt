@@ -1,12 +1,12 @@
 -- A sheet in the head of a state: its lines are read in their places, and its value is read back. Assumes nothing.
-use mathlib.Core.Bool.{Bool, true, false, cond, not, _||_, _&&_}
+use mathlib.Core.Bool.{Bool, true, false, cond, not, _||_}
 use mathlib.Core.List.{List}
 use mathlib.Core.Logic.{⊎-elim}
-use mathlib.Core.Path.{_≡_, refl, sym, ap, ap₂, _∙_}
+use mathlib.Core.Path.{_≡_, refl, ap, ap₂, _∙_}
 use Prim.Native.Nat.{ℕ, _+_, _*_, _<_, _≤_}
 use native.Mathlib.Nat.{eq-or-lt-of-le}
 use native.Mathlib.Omega.{arith}
-use lib.Dec.{T, ltb, leb}
+use lib.Dec.{T, ltb}
 use lib.ListN.{length, set, length-set}
 use borrow.Author.Tests.{lt-ltb, le-ltb, le-leb, ltb-true}
 use Rattle.records.specs.declared.line.Line.{Line}
@@ -14,13 +14,13 @@ use Rattle.records.specs.declared.line.Slot.{Slot}
 use Rattle.records.specs.declared.sheet.Sheet.{Sheet}
 use Rattle.records.specs.Lists.{listed}
 use Rattle.records.specs.Line.{blankLine}
-use Rattle.records.specs.Sheet.{SheetValue, sheetValue, slotOf, lineAt}
+use Rattle.records.specs.Sheet.{SheetValue, slotOf, lineAt}
 use Rattle.tesl.proofs.FormulaLists.{below-of}
 use Rattle.tesl.proofs.Tests.{≡→T, T→≡}
 use Rattle.judge.specs.declared.line_words.LineWords.{LineWords}
 use Rattle.judge.specs.LineWords.{lineOfWords, wordsOf, WordsOf}
 use Rattle.judge.specs.Rows.{width, words, word}
-use Rattle.judge.specs.State.{stateWords, stateLine, clocksBy, stateSlot, stateSheet, isKind, hasKinds, OthersStay, PutWords, noWords, slotWords, SlotWords, PutLines, PutSheet}
+use Rattle.judge.specs.State.{stateWords, stateLine, clocksBy, stateSlot, stateSheet, isKind, hasKinds, OthersStay, PutWords, noWords, SlotWords, PutLines, PutSheet}
 use Rattle.judge.proofs.Listing.{listed-at, listed-same}
 use Rattle.judge.proofs.rows.Laws.{stored, stored-other}
 use Rattle.judge.proofs.state.Words.{words-same}

@@ -1,5 +1,4 @@
 -- `is_state` meets its contract: one test after the other. Assumes nothing.
-use mathlib.Core.Bool.{Bool, true}
 use mathlib.Core.Path.{_≡_, sym, ap, _∙_}
 use borrow.Author.Needs.{needs}
 use Rattle.judge.specs.Rows.{word}

@@ -1,5 +1,5 @@
 -- `put_count` meets its contract: two words for each case. Assumes nothing.
-use mathlib.Core.Path.{refl, sym, _∙_}
+use mathlib.Core.Path.{refl, sym}
 use native.Mathlib.Omega.{arith}
 use borrow.Author.Needs.{needs}
 use Rattle.judge.proofs.state.Laws.{few-live, count-put}

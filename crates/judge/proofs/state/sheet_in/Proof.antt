@@ -1,5 +1,5 @@
 -- `sheet_in` meets its contract: field by field. Assumes nothing.
-use mathlib.Core.Path.{_≡_, ap, _∙_}
+use mathlib.Core.Path.{ap, _∙_}
 use Prim.Native.Nat.{ℕ}
 use borrow.Author.Needs.{needs}
 use Rattle.records.specs.Lists.{listed}
