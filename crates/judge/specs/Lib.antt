@@ -43,5 +43,6 @@ pub mod Fill
 pub mod Start
 pub mod Stored
 pub mod Kept
--- a whole monitor in one array of words
+-- a whole monitor in one array of words, and the limits of its remainders
 pub mod State
+pub mod RowsLimits

@@ -21,6 +21,7 @@ pub mod obligation;
 mod plan;
 pub mod remainder;
 mod rows;
+mod rows_limits;
 mod rules;
 mod settle;
 mod settle_all;

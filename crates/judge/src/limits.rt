@@ -29,7 +29,7 @@ fn due_within(due: i32) -> bool
     if -32768 <= due { due <= 98302 } else { false }
 }
 
-fn obligation_within(clocks: u8, o: Obligation) -> bool
+pub(crate) fn obligation_within(clocks: u8, o: Obligation) -> bool
     ensures { λ r. ⌜ r ≡ obligationWithin clocks (obligationOf o) ⌝ }
 {
     if o.clock < clocks {

@@ -1,0 +1,44 @@
+-- The limits of remainders in rows, refusal 11, tested where they stand.
+use mathlib.Core.Bool.{Bool, false, not, _||_}
+use mathlib.Core.List.{List}
+use mathlib.Core.Path.{_≡_}
+use Prim.Native.Nat.{ℕ, _+_, _≤_, _<_}
+use lib.Dec.{leb}
+use lib.ListN.{getD}
+use Rattle.records.specs.Sheet.{SheetValue}
+use Rattle.tesl.specs.Lists.{below}
+use Rattle.judge.specs.declared.held.Count.{Count}
+use Rattle.judge.specs.declared.plan.Plan.{Plan}
+use Rattle.judge.specs.Limits.{obligationWithin, remainderWithin, heldWithin}
+use Rattle.judge.specs.Plan.{Fitting, Planned}
+use Rattle.judge.specs.Rows.{secondSide, height, rowObligation, rowLead}
+use Rattle.judge.specs.Kept.{rowRemainder, rowsHeld}
+
+-- obligation j of row i, and the lead of line k, which only precedes lines have
+abbrev pub owedFits : ℕ → List ℕ → ℕ → ℕ → Bool
+owedFits clocks rows i j = obligationWithin clocks (rowObligation rows i j)
+
+abbrev pub leadFits : List Bool → ℕ → List ℕ → ℕ → ℕ → Bool
+leadFits precede instants rows i k = not (getD precede k false) || leb (rowLead rows i k) instants
+
+-- row i, for a plan
+pub record Testing (i : ℕ) (p : Plan) : Type 0 where
+  pub row : i < height
+  pub plan : Fitting p
+
+-- rows from `from` on, of a side, for a plan
+pub record TestingAll (from : ℕ) (p : Plan) : Type 0 where
+  pub side : from ≤ secondSide
+  pub plan : Fitting p
+
+-- whether row i is within its limits, for every sheet that the plan is of
+abbrev pub RowWithin : Plan → ℕ → List ℕ → ℕ → Bool → Type 0
+RowWithin p instants rows i r = (v : SheetValue) (lines : List ℕ) → Planned v p lines → r ≡ remainderWithin v instants (rowRemainder rows i)
+
+-- n rows
+abbrev pub EachRowWithin : Plan → ℕ → List ℕ → ℕ → ℕ → Bool → Type 0
+EachRowWithin p instants rows from n r = (v : SheetValue) (lines : List ℕ) → Planned v p lines → r ≡ below n (λ k. remainderWithin v instants (rowRemainder rows (from + k)))
+
+-- those held
+abbrev pub RowsWithin : Plan → ℕ → List ℕ → ℕ → Count → Bool → Type 0
+RowsWithin p instants rows from count r = (v : SheetValue) (lines : List ℕ) → Planned v p lines → r ≡ heldWithin v instants count (rowsHeld count rows from .remainders)

@@ -1,0 +1,126 @@
+// The limits of remainders in rows, refusal 11, tested where they stand.
+use crate::held::Count;
+use crate::limits::obligation_within;
+use crate::plan::Plan;
+use crate::rows::LEADS;
+use crate::rows::SIZE;
+use crate::rows::obligation_at;
+use crate::rows::row_count;
+use crate::rows::word_at;
+use crate::word::count_in;
+use records::number;
+ghost use mathlib.Core.Path.{_≡_};
+ghost use mathlib.Core.Bool.{not, _||_};
+ghost use Prim.Native.Nat.{_≤_, _<_};
+ghost use lib.Dec.{leb};
+ghost use Rattle.tesl.specs.Lists.{below};
+ghost use Rattle.judge.specs.Rows.{height};
+ghost use Rattle.judge.specs.RowsLimits.{owedFits, leadFits, Testing, TestingAll, RowWithin, EachRowWithin, RowsWithin};
+
+// The first n obligations of row i.
+fn row_owed_within(rows: &[u32; SIZE], i: usize, n: usize, clocks: u8) -> bool
+    requires { ⌜ (i < height) × (n ≤ 8) ⌝ }
+    ensures { λ r. ⌜ r ≡ below n (owedFits clocks (now (rows .entry)) i) ⌝ }
+{
+    let mut j = 0;
+    while j < n {
+        let o = obligation_at(rows, i, j);
+        if obligation_within(clocks, o) {
+            j += 1;
+        } else {
+            return false;
+        }
+    }
+    true
+}
+
+// A lead in use is at most the instants.
+fn lead_fits(used: bool, lead: u32, instants: usize) -> bool
+    ensures { λ r. ⌜ r ≡ (not used || leb lead instants) ⌝ }
+{
+    if used {
+        count_in(lead) <= instants
+    } else {
+        true
+    }
+}
+
+// The leads of row i that precedes lines have: before `reach`, where there is a flag.
+fn row_leads_within(
+    rows: &[u32; SIZE],
+    i: usize,
+    reach: usize,
+    precede: [bool; 16],
+    instants: usize,
+) -> bool
+    requires { ⌜ (i < height) × (reach ≤ 16) ⌝ }
+    ensures { λ r. ⌜ r ≡ below reach (leadFits precede instants (now (rows .entry)) i) ⌝ }
+{
+    let mut k = 0;
+    while k < reach {
+        let used = precede[k];
+        if lead_fits(used, word_at(rows, i, LEADS + k), instants) {
+            k += 1;
+        } else {
+            return false;
+        }
+    }
+    true
+}
+
+// Row i; its obligations are read only if there are at most eight.
+fn row_within(rows: &[u32; SIZE], i: usize, plan: Plan, instants: usize) -> bool
+    requires { ⌜ Testing i plan ⌝ }
+    ensures { λ r. ⌜ RowWithin plan instants (now (rows .entry)) i r ⌝ }
+{
+    let n = row_count(rows, i);
+    if number::MAX_OWED < n {
+        return false;
+    }
+    let clocks = plan.clocks as u8;
+    if row_owed_within(rows, i, n, clocks) {
+        let reach = plan.reach;
+        let precede = plan.precede;
+        row_leads_within(rows, i, reach, precede, instants)
+    } else {
+        false
+    }
+}
+
+// Each of n rows from row `from` on.
+fn each_row_within(rows: &[u32; SIZE], from: usize, n: usize, plan: Plan, instants: usize) -> bool
+    requires { ⌜ TestingAll from plan × (n ≤ 32) ⌝ }
+    ensures { λ r. ⌜ EachRowWithin plan instants (now (rows .entry)) from n r ⌝ }
+{
+    let mut k = 0;
+    while k < n {
+        if row_within(rows, from + k, plan, instants) {
+            k += 1;
+        } else {
+            return false;
+        }
+    }
+    true
+}
+
+// Those held, in the rows from row `from` on.
+pub(crate) fn rows_within(
+    rows: &[u32; SIZE],
+    from: usize,
+    count: Count,
+    plan: Plan,
+    instants: usize,
+) -> bool
+    requires { ⌜ TestingAll from plan ⌝ }
+    ensures { λ r. ⌜ RowsWithin plan instants (now (rows .entry)) from count r ⌝ }
+{
+    match count {
+        Count::Exhausted => true,
+        Count::Live(n) => {
+            if number::MAX_LIVE < n {
+                return false;
+            }
+            each_row_within(rows, from, n, plan, instants)
+        }
+    }
+}
