@@ -35,12 +35,17 @@ const EXHAUSTED: u32 = 1;
 
 const LIVE: u32 = 2;
 
-// The lines' rows, their kinds and clocks and their numbers, and the places in a row that sixteen lines take.
-const KINDS: usize = 1;
+// The rows of the lines' kinds and clocks and of their numbers, and the words that a part of sixteen lines takes.
+const LINES_ROW: usize = 1;
 
-const NUMBERS: usize = 2;
+const NUMBERS_ROW: usize = 2;
 
 const PLACES: usize = 16;
+
+// Kinds of lines, from sporadic to kills.
+const FIRST_KIND: u32 = 16;
+
+const LAST_KIND: u32 = 23;
 
 // The words of row 0, the top: the format, the clocks and the lines of the sheet, the instants, the first row of the side in use, the answer's case, live, and the last tags of eight clocks.
 const TOP: usize = 0;
@@ -111,7 +116,11 @@ fn is_case(w: u32) -> bool
 fn is_kind(w: u32) -> bool
     ensures { λ r. ⌜ r ≡ isKind w ⌝ }
 {
-    if 16 <= w { w <= 23 } else { false }
+    if FIRST_KIND <= w {
+        w <= LAST_KIND
+    } else {
+        false
+    }
 }
 
 fn clocks_by(w: u32) -> u8
@@ -134,7 +143,7 @@ fn kinds_below(state: &[u32; SIZE], n: usize) -> bool
 {
     let mut k = 0;
     while k < PLACES {
-        if has_kind(k < n, word_at(state, KINDS, k)) {
+        if has_kind(k < n, word_at(state, LINES_ROW, k)) {
             k += 1;
         } else {
             return false;
@@ -180,12 +189,12 @@ fn words_at(state: &[u32; SIZE], k: usize) -> LineWords
     requires { ⌜ k < 16 ⌝ }
     ensures { λ r. ⌜ r ≡ stateWords (now (state .entry)) k ⌝ }
 {
-    let kind = word_at(state, KINDS, k);
-    let a = word_at(state, KINDS, PLACES + k);
-    let b = word_at(state, KINDS, 2 * PLACES + k);
-    let d = word_at(state, KINDS, 3 * PLACES + k);
-    let x = word_at(state, NUMBERS, k);
-    let y = word_at(state, NUMBERS, PLACES + k);
+    let kind = word_at(state, LINES_ROW, k);
+    let a = word_at(state, LINES_ROW, PLACES + k);
+    let b = word_at(state, LINES_ROW, 2 * PLACES + k);
+    let d = word_at(state, LINES_ROW, 3 * PLACES + k);
+    let x = word_at(state, NUMBERS_ROW, k);
+    let y = word_at(state, NUMBERS_ROW, PLACES + k);
     LineWords {
         kind,
         a,
@@ -336,12 +345,12 @@ fn put_words(state: &mut [u32; SIZE], k: usize, w: LineWords)
     let d = w.d;
     let x = w.x;
     let y = w.y;
-    put_word(state, KINDS, k, kind);
-    put_word(state, KINDS, PLACES + k, a);
-    put_word(state, KINDS, 2 * PLACES + k, b);
-    put_word(state, KINDS, 3 * PLACES + k, d);
-    put_word(state, NUMBERS, k, x);
-    put_word(state, NUMBERS, PLACES + k, y);
+    put_word(state, LINES_ROW, k, kind);
+    put_word(state, LINES_ROW, PLACES + k, a);
+    put_word(state, LINES_ROW, 2 * PLACES + k, b);
+    put_word(state, LINES_ROW, 3 * PLACES + k, d);
+    put_word(state, NUMBERS_ROW, k, x);
+    put_word(state, NUMBERS_ROW, PLACES + k, y);
 }
 
 fn no_words() -> LineWords
