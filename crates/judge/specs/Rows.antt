@@ -128,9 +128,9 @@ pub record PutObligation (i j : ℕ) (o : Obligation) (a b : List ℕ) : Type 0 
   pub here : rowObligation b i j ≡ o
   pub others : (k : ℕ) → k < 8 → (k ≡ j → ⊥) → rowObligation b i k ≡ rowObligation a i k
 
--- those owed, and nothing past them
+-- the first n of row i, and nothing past them
 pub record ObligationsAt (i n : ℕ) (os : List code.Obligation) (rows : List ℕ) : Type 0 where
-  pub owed : firstOf n os ≡ rowOwed rows i
+  pub first : firstOf n os ≡ listed (rowObligation rows i) n
   pub rest : BlankFrom n blankObligation os
 
 -- row `to` owes what an instant leaves of what row i owes, unless one of it is late

@@ -82,9 +82,9 @@ pub(crate) fn put_obligation(rows: &mut [u32; SIZE], i: usize, j: usize, o: Obli
     put_word(rows, i, DUES + j, due_word(due));
 }
 
-// The n obligations of row i, at the front of eight places; blank ones past them.
+// The first n obligations of row i, at the front of eight places; blank ones past them.
 pub(crate) fn obligations_at(rows: &[u32; SIZE], i: usize, n: usize) -> [Obligation; 8]
-    requires { ⌜ (i < height) × ((n ≤ 8) × (n ≡ rowCount (now rows) i)) ⌝ }
+    requires { ⌜ (i < height) × (n ≤ 8) ⌝ }
     ensures { λ r. ⌜ ObligationsAt i n r (now (rows .entry)) ⌝ }
 {
     let none = Obligation {

@@ -1,13 +1,14 @@
 -- A remainder stored and read back part by part: what it owes, its leads, its stopped clocks. Assumes nothing.
 use mathlib.Core.Bool.{Bool, true, false, cond, _&&_}
 use mathlib.Core.List.{List, []}
-use mathlib.Core.Path.{_≡_, refl, sym, _∙_}
+use mathlib.Core.Path.{_≡_, refl, sym, ap, _∙_}
 use Prim.Native.Nat.{ℕ, _<_, _≤_}
 use native.Mathlib.Omega.{arith}
 use lib.Dec.{T, ltb}
 use lib.ListN.{length, getD, take}
 use lib.Seq.{ext-getD, getD-take, length-take-le}
 use borrow.Author.Tests.{ltb-true, ltb-false}
+use Rattle.records.specs.Lists.{listed}
 use Rattle.records.specs.Sheet.{SheetValue}
 use Rattle.records.proofs.Lists.{both, length-listed}
 use Rattle.theory.specs.Step.{nextLeads}
@@ -18,7 +19,7 @@ use Rattle.judge.specs.View.{owedOf, inUse, cut, viewOf}
 use Rattle.judge.specs.Unused.{NothingUnused}
 use Rattle.judge.specs.Lines.{smallLeads}
 use Rattle.judge.specs.Plan.{isPrecedes, Planned}
-use Rattle.judge.specs.Rows.{partsEnd, rowCount, rowOwed, rowLead, rowLeads, rowStop, rowStopped, rowOf, ObligationsAt}
+use Rattle.judge.specs.Rows.{partsEnd, rowCount, rowObligation, rowOwed, rowLead, rowLeads, rowStop, rowStopped, rowOf, ObligationsAt}
 use Rattle.judge.specs.Stored.{PutObligations, PutLeads, PutStopped, PutRemainder, LeadsAt, StoppedAt, RemainderAt}
 use Rattle.judge.proofs.Listing.{listed-at, listed-same}
 use Rattle.judge.proofs.rows.Laws.{stays-wide, stays-on, owed-stays}
@@ -109,7 +110,7 @@ module _ {p : Plan} {i : ℕ} (r : arrays.Remainder) {rows : List ℕ} (count : 
           (λ k h. stopped .first k (omega arith) ∙ sym (listed-at (rowStop rows i) false 8 k (omega arith)))
 
       pub read-view : viewOf v r ≡ cut v (rowOf rows i)
-      read-view = same-remainder (owed .owed) leads-read stopped-read
+      read-view = same-remainder (owed .first ∙ ap (listed (rowObligation rows i)) count) leads-read stopped-read
 
   pub remainder-read : RemainderAt p i r rows
   remainder-read = record { few = rw count few; view = λ v lines planned. read-view planned; unused = λ v lines planned. nothing-unused planned }

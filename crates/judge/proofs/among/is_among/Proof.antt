@@ -5,11 +5,12 @@ use Prim.Native.Nat.{ℕ, _+_, _-_, _≤_}
 use native.Mathlib.Omega.{arith}
 use borrow.Author.Needs.{needs}
 use borrow.Author.Tests.{not-true, not-false}
+use Rattle.records.specs.Lists.{listed}
 use Rattle.records.specs.Sheet.{SheetValue}
 use Rattle.tesl.specs.Lists.{any, below}
 use Rattle.judge.specs.View.{cut}
 use Rattle.judge.specs.Work.{sameCounted}
-use Rattle.judge.specs.Rows.{rowCount, rowOf, rowsOf}
+use Rattle.judge.specs.Rows.{rowCount, rowObligation, rowOf, rowsOf}
 use Rattle.judge.specs.Plan.{Leading}
 use Rattle.judge.proofs.Below.{below-next, below-miss}
 use Rattle.judge.proofs.among.Laws.{owesAt, owes-here, sameRow, noneSame, other-count, other-stops, other-leads, other-owed, equal, among}
@@ -60,8 +61,9 @@ owed-here : (c : tie.After-owes Inv-loop μ-loop Inv-held μ-held)
 owed-here c =
     let lo = c .before .before .before in
     let at = held lo in
+    let o = at .before .before in
     let a = start at .args in
-    owes-here (a .rows .now) (a .first + a .n) (a .first + at .before .held .k) (lo .loop .j) (c .before .obligation-at .ensures) (at .before .before .obligations-at .ensures .owed) (c .owes .ensures)
+    owes-here (a .rows .now) (a .first + a .n) (a .first + at .before .held .k) (lo .loop .j) (c .before .obligation-at .ensures) (o .obligations-at .ensures .first ∙ ap (listed (rowObligation (a .rows .now) (a .first + a .n))) (o .before .row-count .ensures)) (c .owes .ensures)
 
 returns : tie.Need-returns Inv-loop μ-loop Inv-held μ-held
 returns c v e h = let s = c .before in sym (found s v e h ∙ ap (λ (m : ℕ). not (below m (λ j. not (same s j)))) (c .if1 .taken))

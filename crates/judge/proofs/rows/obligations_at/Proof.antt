@@ -30,7 +30,7 @@ returns c =
     let at = c .before in
     let w = at .loop .inv .1 in
     record {
-      owed = rw (← at .before .pre .1 .1) (first-listed _ _ blankObligation _ (at .before .args .n) (omega (arith, w .size)) (λ j h. w .places j (omega arith)));
+      first = first-listed _ _ blankObligation _ (at .before .args .n) (omega (arith, w .size)) (λ j h. w .places j (omega arith));
       rest = λ j h. w .rest j (omega arith);
     }
 
