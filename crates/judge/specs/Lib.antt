@@ -36,12 +36,14 @@ pub mod Rows
 pub mod Heed
 pub mod LineWords
 pub mod Plan
--- an instant: what depends on a filling alone, the rows by a filling and by all of them, the fillings listed; the remainder of no instant; remainders stored in rows and read back; and a monitor kept in rows
+-- an instant: what depends on a filling alone, the rows by a filling and by all of them, the fillings listed; the remainder of no instant; remainders stored in rows and read back; words that no remainder uses, and how they are cleared; and a monitor kept in rows
 pub mod Filling
 pub mod Settle
 pub mod Fill
 pub mod Start
 pub mod Stored
+pub mod UnusedWords
+pub mod Cleared
 pub mod Kept
 -- a whole monitor in one array of words, and the limits of its remainders
 pub mod State

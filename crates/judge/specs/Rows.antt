@@ -107,6 +107,12 @@ pub record RowsStay (first n : ℕ) (a b : List ℕ) : Type 0 where
   pub size : length b ≡ length a
   pub same : (h p : ℕ) → p < width → (first ≤ h → h < first + n → ⊥) → word b h p ≡ word a h p
 
+-- the words from place k to the one before `end` are zero, the others stay
+pub record ClearedWords (k end : ℕ) (a b : List ℕ) : Type 0 where
+  pub size : length b ≡ length a
+  pub zero : (q : ℕ) → k ≤ q → q < end → getD b q 0 ≡ 0
+  pub same : (q : ℕ) → (k ≤ q → q < end → ⊥) → getD b q 0 ≡ getD a q 0
+
 -- ---- contracts: of one row, and of a row that gives another; r tells whether there is one
 
 -- row i, of at most eight obligations

@@ -2,6 +2,7 @@
 use crate::remainder::Remainder;
 use records::sheet::Sheet;
 ghost use mathlib.Core.Path.{_≡_};
+ghost use Rattle.judge.specs.View.{liveCount};
 
 // Exhausted, when none is held; or how many are: none when broken.
 pub enum Count {
@@ -19,4 +20,14 @@ pub(crate) fn clocks_of(s: Sheet) -> usize
 {
     let c = s.clocks;
     c as usize
+}
+
+// How many are held; none once exhausted, nor when broken.
+pub(crate) fn live_in(count: Count) -> usize
+    ensures { λ n. ⌜ n ≡ liveCount count ⌝ }
+{
+    match count {
+        Count::Exhausted => 0,
+        Count::Live(n) => n,
+    }
 }

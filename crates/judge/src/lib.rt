@@ -28,4 +28,5 @@ mod settle_all;
 mod start;
 mod state;
 mod stored;
+mod unused;
 mod word;

@@ -9,7 +9,7 @@ ghost use mathlib.Core.Path.{_≡_};
 ghost use Prim.Native.Nat.{_+_, _*_, _<_, _≤_};
 ghost use lib.ListN.{length, set};
 ghost use Rattle.judge.specs.View.{obligationOf};
-ghost use Rattle.judge.specs.Rows.{height, width, words, word, rowCount, rowObligation, PutObligation, ObligationsAt};
+ghost use Rattle.judge.specs.Rows.{height, width, words, word, rowCount, rowObligation, ClearedWords, PutObligation, ObligationsAt};
 
 // All words, and those of a row.
 pub(crate) const SIZE: usize = 4608;
@@ -18,6 +18,9 @@ pub(crate) const WIDTH: usize = 64;
 
 // The rows of the head: the first side begins after them.
 pub(crate) const HEAD: usize = 6;
+
+// The rows of a side: 32, and one to build the next in.
+pub(crate) const SIDE: usize = 33;
 
 // The first rows of the two sides, 6 and 39, together.
 pub(crate) const SIDES: usize = 45;
@@ -48,6 +51,18 @@ pub(crate) fn put_word(rows: &mut [u32; SIZE], i: usize, p: usize, w: u32)
     ensures { λ _. ⌜ now (rows .exit) ≡ set (now (rows .entry)) (width * i + p) w ⌝ }
 {
     rows[WIDTH * i + p] = w;
+}
+
+// Clears the words from place k to the one before `end`.
+pub(crate) fn clear_words(rows: &mut [u32; SIZE], k: usize, end: usize)
+    requires { ⌜ end ≤ words ⌝ }
+    ensures { λ _. ⌜ ClearedWords k end (now (rows .entry)) (now (rows .exit)) ⌝ }
+{
+    let mut q = k;
+    while q < end {
+        rows[q] = 0;
+        q += 1;
+    }
 }
 
 // How many obligations row i has.

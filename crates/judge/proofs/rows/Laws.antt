@@ -1,10 +1,10 @@
 -- Words stored in a row: what was stored is read there, and every other word stays. Assumes nothing.
 use mathlib.Core.List.{List, [], _∷_, _++_}
 use mathlib.Core.Path.{_≡_, refl, ap, _∙_}
-use Prim.Native.Nat.{ℕ, _+_, _*_, _%_, _<_, _≤_}
+use Prim.Native.Nat.{ℕ, zero, suc, _+_, _*_, _%_, _<_, _≤_}
 use native.Mathlib.Omega.{arith}
 use lib.IntN.{ℤ}
-use lib.ListN.{length, set, length-set}
+use lib.ListN.{length, getD, set, length-set}
 use lib.Seq.{getD-set-same, getD-set-other}
 use Rattle.records.specs.Lists.{listed}
 use Rattle.tesl.specs.Fits.{Obligation}
@@ -19,6 +19,12 @@ module _ (a : List ℕ) (i p w : ℕ) where
 
   pub stored-other : (h q : ℕ) → p < width → q < width → (h ≡ i → q ≡ p → ⊥) → word (set a (width * i + p) w) h q ≡ word a h q
   stored-other h q l m f = getD-set-other a (width * i + p) (width * h + q) w 0 (λ e. f (omega arith) (omega arith))
+
+-- a zero, or past the end
+pub stored-zero : (a : List ℕ) (q : ℕ) → getD (set a q 0) q 0 ≡ 0
+stored-zero [] q = refl
+stored-zero (w ∷ a) zero = refl
+stored-zero (w ∷ a) (suc q) = stored-zero a q
 
 -- ---- what stays
 pub stays-all : (i lo hi : ℕ) (a : List ℕ) → Stays i lo hi a a
@@ -48,9 +54,12 @@ pub rows-stay-one : {i lo hi : ℕ} {a b : List ℕ} → Stays i lo hi a b → (
 rows-stay-one s first n l m = record { size = s .size; same = λ h p k f. s .same h p k (λ e x y. f (omega arith) (omega arith)) }
 
 module _ {first n : ℕ} {a b : List ℕ} (s : RowsStay first n a b) where
-  -- but for more rows
+  -- but for more rows, and more from the first on
+  pub rows-stay-among : (f m : ℕ) → f ≤ first → first + n ≤ f + m → RowsStay f m a b
+  rows-stay-among f m l j = record { size = s .size; same = λ h p k g. s .same h p k (λ x y. g (omega arith) (omega arith)) }
+
   pub rows-stay-wide : (m : ℕ) → n ≤ m → RowsStay first m a b
-  rows-stay-wide m l = record { size = s .size; same = λ h p k f. s .same h p k (λ x y. f x (omega arith)) }
+  rows-stay-wide m l = rows-stay-among first m (omega arith) (omega arith)
 
   pub rows-stay-on : {c : List ℕ} → RowsStay first n b c → RowsStay first n a c
   rows-stay-on t = record { size = t .size ∙ s .size; same = λ h p k f. t .same h p k f ∙ s .same h p k f }

@@ -53,7 +53,7 @@ module _ {i : ℕ} (r : arrays.Remainder) (few : r .owed ≤ 8) {a b c d : List 
 -- ---- read back
 
 -- the first n of two arrays
-take-same : {A : Type 0} (d : A) (n : ℕ) (xs ys : List A) → n ≤ length xs → n ≤ length ys → ((k : ℕ) → k < n → getD xs k d ≡ getD ys k d) → take n xs ≡ take n ys
+pub take-same : {A : Type 0} (d : A) (n : ℕ) (xs ys : List A) → n ≤ length xs → n ≤ length ys → ((k : ℕ) → k < n → getD xs k d ≡ getD ys k d) → take n xs ≡ take n ys
 take-same d n xs ys h l p =
     let m = length-take-le n xs h in
     ext-getD d (take n xs) (take n ys) (m ∙ sym (length-take-le n ys l))

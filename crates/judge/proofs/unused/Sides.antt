@@ -1,0 +1,205 @@
+-- Rows cleared one by one, those of a side, and those of both after an instant. Assumes nothing.
+use mathlib.Core.Bool.{Bool, true, false}
+use mathlib.Core.List.{List}
+use mathlib.Core.Logic.{⊎-elim}
+use mathlib.Core.Option.{some}
+use mathlib.Core.Path.{_≡_, refl, ap, _∙_}
+use Prim.Native.Nat.{ℕ, _+_, _-_, _≤_, _<_}
+use native.Mathlib.Nat.{eq-or-lt-of-le}
+use native.Mathlib.Omega.{arith}
+use lib.Dec.{ltb}
+use borrow.Author.Tests.{ltb-true, ltb-false, eq-eqb, ne-eqb}
+use Rattle.records.specs.Sheet.{SheetValue}
+use Rattle.judge.specs.declared.plan.Plan.{Plan}
+use Rattle.judge.specs.declared.held.Count.{Count}
+use Rattle.judge.specs.declared.held.Count.the-variants.{Exhausted, Live}
+use Rattle.judge.specs.View.{cut, liveCount}
+use Rattle.judge.specs.Rows.{width, height, word, rowCount, Small, RowsStay}
+use Rattle.judge.specs.Settle.{Side, foundIn, SmallIn, builtRows}
+use Rattle.judge.specs.Fill.{workedRows}
+use Rattle.judge.specs.UnusedWords.{NothingInRow, NothingBeside}
+use Rattle.judge.specs.Cleared.{ClearedRows, ClearedRow, ClearedUnused, ClearedEach, ClearedFound, Tidied}
+use Rattle.judge.proofs.Listing.{listed-same}
+use Rattle.judge.proofs.rows.Laws.{rows-stay-all, rows-stay-one, rows-stay-among, rows-stay-wide, rows-stay-on}
+use Rattle.judge.proofs.settle.Laws.{row-same}
+
+-- row h is one of n rows from `first` on, or none of them
+among-rows : {X : Type 0} (h first n : ℕ) → (first ≤ h → h < first + n → X) → ((first ≤ h → h < first + n → ⊥) → X) → X
+among-rows {X} h first n among apart = by-tests (ltb h first) refl (ltb h (first + n)) refl
+  where
+    by-tests : (b : Bool) → ltb h first ≡ b → (d : Bool) → ltb h (first + n) ≡ d → X
+    by-tests true e d g = apart (λ l m. omega (arith, ltb-true h first e))
+    by-tests false e true g = among (ltb-false h first e) (ltb-true h (first + n) g)
+    by-tests false e false g = apart (λ l m. omega (arith, ltb-false h (first + n) g))
+
+-- ---- a row
+
+-- whose words are the same
+nothing-same : {p : Plan} (a b : List ℕ) (i : ℕ) → ((q : ℕ) → q < width → word b i q ≡ word a i q) → NothingInRow p a i → NothingInRow p b i
+nothing-same a b i same n =
+    let e = same 0 (omega arith) in
+    record {
+      clocks = λ j l m. same (1 + j) (omega arith) ∙ n .clocks j (omega arith) m;
+      on-clocks = λ j l m. same (9 + j) (omega arith) ∙ n .on-clocks j (omega arith) m;
+      dues = λ j l m. same (17 + j) (omega arith) ∙ n .dues j (omega arith) m;
+      leads = λ k l f. same (25 + k) (omega arith) ∙ n .leads k l f;
+      rest = λ q l m. same q m ∙ n .rest q l m;
+    }
+
+-- of zeros
+nothing-zero : (p : Plan) (rows : List ℕ) (i : ℕ) → ((q : ℕ) → q < width → word rows i q ≡ 0) → NothingInRow p rows i
+nothing-zero p rows i zero =
+    record {
+      clocks = λ j l m. zero (1 + j) (omega arith);
+      on-clocks = λ j l m. zero (9 + j) (omega arith);
+      dues = λ j l m. zero (17 + j) (omega arith);
+      leads = λ k l f. zero (25 + k) (omega arith);
+      rest = λ q l m. zero q m;
+    }
+
+-- cleared after, or before, other rows
+module _ {p : Plan} {i : ℕ} where
+  cleared-on : (a b : List ℕ) {c : List ℕ} → rowCount a i ≤ 8 → ((q : ℕ) → q < width → word b i q ≡ word a i q) → ClearedRow p i b c → ClearedRow p i a c
+  cleared-on a b few same w = record { count = w .count ∙ same 0 (omega arith); row = λ v lines planned. w .row v lines planned ∙ ap (cut v) (row-same a b i few same); nothing = w .nothing }
+
+  cleared-stays : (b c : List ℕ) {a : List ℕ} → rowCount a i ≤ 8 → ((q : ℕ) → q < width → word c i q ≡ word b i q) → ClearedRow p i a b → ClearedRow p i a c
+  cleared-stays b c few same w =
+      let e = w .count in
+      record {
+        count = same 0 (omega arith) ∙ w .count;
+        row = λ v lines planned. ap (cut v) (row-same b c i (omega arith) same) ∙ w .row v lines planned;
+        nothing = nothing-same b c i same (w .nothing);
+      }
+
+-- ---- rows one by one: the first k are cleared
+pub record Clearing (p : Plan) (from n : ℕ) (was rows : List ℕ) (k : ℕ) : Type 0 where
+  pub turns : k ≤ n
+  pub stays : RowsStay from k was rows
+  pub each : (j : ℕ) → j < k → ClearedRow p (from + j) was rows
+
+module _ {p : Plan} {from n : ℕ} {was : List ℕ} where
+  pub clearing-start : Clearing p from n was was 0
+  clearing-start = record { turns = omega arith; stays = rows-stay-all from 0 was; each = λ j l. absurd (omega arith) }
+
+  module _ {rows : List ℕ} {k : ℕ} (small : Small was from n) (w : Clearing p from n was rows k) (h : k < n) where
+    -- the next row is as it was
+    next-word : (q : ℕ) → q < width → word rows (from + k) q ≡ word was (from + k) q
+    next-word q l = w .stays .same (from + k) q l (λ x y. omega arith)
+
+    pub next-few : rowCount rows (from + k) ≤ 8
+    next-few = rw (next-word 0 (omega arith)) (small k h)
+
+    pub clearing-more : {after : List ℕ} → ClearedUnused p (from + k) rows after → Clearing p from n was after (k + 1)
+    clearing-more {after} c =
+        record {
+          turns = omega arith;
+          stays = rows-stay-on (rows-stay-wide (w .stays) (k + 1) (omega arith)) (rows-stay-one (c .stays) from (k + 1) (omega arith) (omega arith));
+          each = λ j l. ⊎-elim
+              (λ (e : j ≡ k). rw e (cleared-on was rows (small k h) next-word (c .cleared)))
+              (λ (g : j < k). cleared-stays rows after (small j (omega arith)) (λ q m. c .stays .same (from + j) q m (λ e x y. omega arith)) (w .each j g))
+              (eq-or-lt-of-le (omega arith));
+        }
+
+  pub clearing-end : {rows : List ℕ} {k : ℕ} → Clearing p from n was rows k → n ≤ k → ClearedEach p from n was rows
+  clearing-end w h = record { stays = rows-stay-wide (w .stays) n (omega (arith, w .turns)); each = λ j l. w .each j (omega arith) }
+
+-- ---- those found
+
+-- where their words are the same
+module _ (a b : List ℕ) (to : ℕ) where
+  abbrev SameRows : ℕ → Type 0
+  SameRows n = (k q : ℕ) → k < n → q < width → word b (to + k) q ≡ word a (to + k) q
+
+  pub small-same : (count : Count) → SameRows (liveCount count) → SmallIn count a to → SmallIn count b to
+  small-same Exhausted same s = tt
+  small-same (Live n) same s = (s .0, λ k l. rw (same k 0 l (omega arith)) (s .1 k l))
+
+  found-same : (v : SheetValue) (count : Count) → SameRows (liveCount count) → SmallIn count a to → foundIn v count b to ≡ foundIn v count a to
+  found-same v Exhausted same s = refl
+  found-same v (Live n) same s = ap some (listed-same n (λ k l. ap (cut v) (row-same a b (to + k) (s .1 k l) (λ q m. same k q l m))))
+
+pub few-live : (count : Count) (rows : List ℕ) (to : ℕ) → SmallIn count rows to → liveCount count ≤ 32
+few-live Exhausted rows to s = omega arith
+few-live (Live n) rows to s = s .0
+
+-- the row after them is cleared
+module _ (to n : ℕ) {a b : List ℕ} (c : ClearedRows (to + n) 1 a b) where
+  first-same : SameRows a b to n
+  first-same k q l m = c .stays .same (to + k) q m (λ x y. omega arith)
+
+  pub small-first : Small a to n → Small b to n
+  small-first small k l = rw (first-same k 0 l (omega arith)) (small k l)
+
+module _ {p : Plan} {to : ℕ} {count : Count} {a b : List ℕ} where
+  pub found-exhausted : count ≡ Exhausted → ClearedRows to 33 a b → ClearedFound p to count a b
+  found-exhausted e c =
+      rw e
+      (record { stays = c .stays; small = tt; found = λ v lines planned. refl; others = λ h q l m k f. c .zero h q l m k; each = λ k l. absurd (omega arith) })
+
+  pub found-live : {n : ℕ} {m : List ℕ} → count ≡ Live n → n ≤ 32 → Small a to n → ClearedRows (to + n) 1 a m → ClearedEach p to n m b → ClearedFound p to count a b
+  found-live {n} {m} e few small c w =
+      let same = first-same to n c in
+      rw e
+      (record {
+        stays = rows-stay-on (rows-stay-among (c .stays) to (n + 1) (omega arith) (omega arith)) (rows-stay-wide (w .stays) (n + 1) (omega arith));
+        small = (few, λ k l. omega (arith, w .each k l .count, same k 0 l (omega arith), small k l));
+        found = λ v lines planned. ap some (listed-same n (λ k l. w .each k l .row v lines planned)) ∙ found-same a m to v (Live n) same (few, small);
+        others = λ h q x y l f. w .stays .same h q l (λ s t. omega arith) ∙ c .zero h q (omega arith) (omega arith) l;
+        each = λ k l. w .each k l .nothing;
+      })
+
+-- ---- both sides
+worked-none : (was : Count) → liveCount was ≡ 0 → (count : Count) → workedRows was count ≡ 0
+worked-none was e count = rw (eq-eqb (liveCount was) 0 e)
+
+worked-some : (was : Count) → (liveCount was ≡ 0 → ⊥) → (count : Count) → workedRows was count ≡ builtRows count
+worked-some was f count = rw (ne-eqb (liveCount was) 0 f)
+
+module _ (p : Plan) (from : ℕ) (was count : Count) {a : List ℕ} (side : Side from) (small : SmallIn count a (45 - from)) where
+  -- none was held: all words are zero
+  module _ (none : liveCount was ≡ 0) where
+    all-zero : {before : List ℕ} → NothingBeside p was from before → RowsStay (45 - from) (workedRows was count) before a → (h q : ℕ) → 6 ≤ h → h < height → q < width → word a h q ≡ 0
+    all-zero n s h q l m k =
+        s .same h q k (λ x y. omega (arith, worked-none was none count)) ∙ n .others h q l m k (λ x y. omega arith)
+
+    pub tidied-none : Tidied p from was count a a
+    tidied-none =
+        record {
+          size = refl;
+          head = λ h q l m. refl;
+          small = small;
+          found = λ v lines planned. refl;
+          nothing = λ before n s. record {
+            others = λ h q l m k f. all-zero n s h q l m k;
+            each = λ k l. nothing-zero p a (45 - from + k) (λ q m. all-zero n s (45 - from + k) q (omega (arith, side .past)) (omega (arith, side .other, few-live count a (45 - from) small)) m);
+          };
+        }
+
+  -- some were held
+  module _ {b : List ℕ} (some : liveCount was ≡ 0 → ⊥) (few : liveCount was ≤ 32) (x : ClearedRows from (liveCount was) a b) where
+    same-found : SameRows a b (45 - from) (liveCount count)
+    same-found k q l m = x .stays .same (45 - from + k) q m (λ s t. side .apart (45 - from + k - from) k (omega arith) (omega (arith, few-live count a (45 - from) small)) (omega arith))
+
+    pub small-cleared : SmallIn count b (45 - from)
+    small-cleared = small-same a b (45 - from) count same-found small
+
+    module _ {c : List ℕ} (y : ClearedFound p (45 - from) count b c) where
+      module _ {before : List ℕ} (n : NothingBeside p was from before) (s : RowsStay (45 - from) (workedRows was count) before a) (h q : ℕ) (l : 6 ≤ h) (m : h < height) (k : q < width) where
+        -- a row that nothing was built in
+        not-built : (45 - from ≤ h → h < 45 - from + builtRows count → ⊥) → word b h q ≡ 0
+        not-built g =
+            among-rows h from (liveCount was) (λ u t. x .zero h q u t k)
+            (λ e. x .stays .same h q k e ∙ s .same h q k (λ u t. g u (omega (arith, worked-some was some count))) ∙ n .others h q l m k e)
+
+        zero-other : (45 - from ≤ h → h < 45 - from + liveCount count → ⊥) → word c h q ≡ 0
+        zero-other f = among-rows h (45 - from) (builtRows count) (λ u t. y .others h q u t k (f u)) (λ g. y .stays .same h q k g ∙ not-built g)
+
+      pub tidied : Tidied p from was count a c
+      tidied =
+          record {
+            size = y .stays .size ∙ x .stays .size;
+            head = λ h q l m. y .stays .same h q m (λ s t. omega (arith, side .past)) ∙ x .stays .same h q m (λ s t. omega (arith, side .other));
+            small = y .small;
+            found = λ v lines planned. y .found v lines planned ∙ found-same a b (45 - from) v count same-found small;
+            nothing = λ before n s. record { others = zero-other n s; each = y .each };
+          }

@@ -1,0 +1,118 @@
+// Words that no remainder uses are zero: what an instant leaves behind in them is cleared.
+use crate::held::Count;
+use crate::held::live_in;
+use crate::plan::Plan;
+use crate::rows::CLOCKS;
+use crate::rows::DUES;
+use crate::rows::LEADS;
+use crate::rows::ON_CLOCKS;
+use crate::rows::SIDE;
+use crate::rows::SIDES;
+use crate::rows::SIZE;
+use crate::rows::STOPPED;
+use crate::rows::WIDTH;
+use crate::rows::clear_words;
+use crate::rows::put_word;
+use crate::rows::row_count;
+ghost use Prim.Native.Nat.{_+_, _<_, _≤_};
+ghost use Rattle.judge.specs.Rows.{height, width};
+ghost use Rattle.judge.specs.Stored.{Reading, Copying, FindingRows};
+ghost use Rattle.judge.specs.Cleared.{ClearedPart, ClearedRows, ClearedOwed, ClearedLeads, ClearedUnused, ClearedEach, ClearedFound, Tidying, Tidied};
+
+// Clears the words lo to hi - 1 of row i.
+fn clear_part(rows: &mut [u32; SIZE], i: usize, lo: usize, hi: usize)
+    requires { ⌜ (i < height) × ((lo ≤ width) × (hi ≤ width)) ⌝ }
+    ensures { λ _. ⌜ ClearedPart i lo hi (now (rows .entry)) (now (rows .exit)) ⌝ }
+{
+    clear_words(rows, WIDTH * i + lo, WIDTH * i + hi);
+}
+
+// Clears n rows from row `first` on.
+pub(crate) fn clear_rows(rows: &mut [u32; SIZE], first: usize, n: usize)
+    requires { ⌜ (first ≤ height) × (first + n ≤ height) ⌝ }
+    ensures { λ _. ⌜ ClearedRows first n (now (rows .entry)) (now (rows .exit)) ⌝ }
+{
+    clear_words(rows, WIDTH * first, WIDTH * (first + n));
+}
+
+// Clears the places of row i past its n obligations.
+fn clear_owed(rows: &mut [u32; SIZE], i: usize, n: usize)
+    requires { ⌜ (i < height) × (n ≤ 8) ⌝ }
+    ensures { λ _. ⌜ ClearedOwed i n (now (rows .entry)) (now (rows .exit)) ⌝ }
+{
+    clear_part(rows, i, CLOCKS + n, ON_CLOCKS);
+    clear_part(rows, i, ON_CLOCKS + n, DUES);
+    clear_part(rows, i, DUES + n, LEADS);
+}
+
+// Clears the leads of row i but those of precedes lines: before `reach`, where there is a flag.
+fn clear_leads(rows: &mut [u32; SIZE], i: usize, reach: usize, precede: [bool; 16])
+    requires { ⌜ (i < height) × (reach ≤ 16) ⌝ }
+    ensures { λ _. ⌜ ClearedLeads reach precede i (now (rows .entry)) (now (rows .exit)) ⌝ }
+{
+    let mut k = 0;
+    while k < reach {
+        let j = k;
+        k += 1;
+        if precede[j] {
+            continue;
+        }
+        put_word(rows, i, LEADS + j, 0);
+    }
+    clear_part(rows, i, LEADS + reach, STOPPED);
+}
+
+// Clears the words of row i that its remainder doesn't use.
+fn clear_unused(rows: &mut [u32; SIZE], i: usize, plan: Plan)
+    requires { ⌜ Reading (now rows) i plan ⌝ }
+    ensures { λ _. ⌜ ClearedUnused plan i (now (rows .entry)) (now (rows .exit)) ⌝ }
+{
+    let n = row_count(rows, i);
+    clear_owed(rows, i, n);
+    let reach = plan.reach;
+    let precede = plan.precede;
+    clear_leads(rows, i, reach, precede);
+    let clocks = plan.clocks;
+    clear_part(rows, i, STOPPED + clocks, WIDTH);
+}
+
+// Clears what the remainders of n rows from row `from` on don't use in them.
+fn clear_each(rows: &mut [u32; SIZE], from: usize, n: usize, plan: Plan)
+    requires { ⌜ Copying (now rows) from n plan ⌝ }
+    ensures { λ _. ⌜ ClearedEach plan from n (now (rows .entry)) (now (rows .exit)) ⌝ }
+{
+    let mut k = 0;
+    while k < n {
+        clear_unused(rows, from + k, plan);
+        k += 1;
+    }
+}
+
+// Clears what was built from row `to` on and is used by no remainder found there.
+fn clear_found(rows: &mut [u32; SIZE], to: usize, count: Count, plan: Plan)
+    requires { ⌜ FindingRows (now rows) count to plan ⌝ }
+    ensures { λ _. ⌜ ClearedFound plan to count (now (rows .entry)) (now (rows .exit)) ⌝ }
+{
+    match count {
+        Count::Exhausted => {
+            clear_rows(rows, to, SIDE);
+        }
+        Count::Live(n) => {
+            clear_rows(rows, to + n, 1);
+            clear_each(rows, to, n, plan);
+        }
+    }
+}
+
+// After an instant on those that were held from row `from` on: clears their rows, and on the other side what was built there and is used by none of those found. Where none was held, nothing was worked, and there is nothing to clear.
+pub(crate) fn tidy(rows: &mut [u32; SIZE], from: usize, was: Count, count: Count, plan: Plan)
+    requires { ⌜ Tidying (now rows) from was count plan ⌝ }
+    ensures { λ _. ⌜ Tidied plan from was count (now (rows .entry)) (now (rows .exit)) ⌝ }
+{
+    let n = live_in(was);
+    if n == 0 {
+        return;
+    }
+    clear_rows(rows, from, n);
+    clear_found(rows, SIDES - from, count, plan);
+}
