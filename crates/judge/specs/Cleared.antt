@@ -55,6 +55,20 @@ pub record ClearedEach (p : Plan) (from n : ℕ) (a b : List ℕ) : Type 0 where
   pub stays : RowsStay from n a b
   pub each : (k : ℕ) → k < n → ClearedRow p (from + k) a b
 
+-- those held from row `from` on, a side's first
+pub record Holding (rows : List ℕ) (from : ℕ) (count : Count) (p : Plan) : Type 0 where
+  pub side : Side from
+  pub small : SmallIn count rows from
+  pub plan : Fitting p
+
+-- those held are as before, for every sheet that the plan is of, and the head stays; nothing is beside them
+pub record ClearedBeside (p : Plan) (from : ℕ) (count : Count) (a b : List ℕ) : Type 0 where
+  pub size : length b ≡ length a
+  pub head : HeadStays a b
+  pub small : SmallIn count b from
+  pub held : (v : SheetValue) (lines : List ℕ) → Planned v p lines → foundIn v count b from ≡ foundIn v count a from
+  pub nothing : NothingBeside p count from b
+
 -- those found from row `to` on are as before, for every sheet that the plan is of; of the rows that may have been built in, what they don't use is zero, other rows stay
 pub record ClearedFound (p : Plan) (to : ℕ) (count : Count) (a b : List ℕ) : Type 0 where
   pub stays : RowsStay to (builtRows count) a b

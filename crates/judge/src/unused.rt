@@ -17,7 +17,7 @@ use crate::rows::row_count;
 ghost use Prim.Native.Nat.{_+_, _<_, _≤_};
 ghost use Rattle.judge.specs.Rows.{height, width};
 ghost use Rattle.judge.specs.Stored.{Reading, Copying, FindingRows};
-ghost use Rattle.judge.specs.Cleared.{ClearedPart, ClearedRows, ClearedOwed, ClearedLeads, ClearedUnused, ClearedEach, ClearedFound, Tidying, Tidied};
+ghost use Rattle.judge.specs.Cleared.{ClearedPart, ClearedRows, ClearedOwed, ClearedLeads, ClearedUnused, ClearedEach, Holding, ClearedBeside, ClearedFound, Tidying, Tidied};
 
 // Clears the words lo to hi - 1 of row i.
 fn clear_part(rows: &mut [u32; SIZE], i: usize, lo: usize, hi: usize)
@@ -86,6 +86,17 @@ fn clear_each(rows: &mut [u32; SIZE], from: usize, n: usize, plan: Plan)
         clear_unused(rows, from + k, plan);
         k += 1;
     }
+}
+
+// Clears every word of the two sides that no remainder held from row `from` on uses, whatever stands there.
+pub(crate) fn clear_beside(rows: &mut [u32; SIZE], from: usize, count: Count, plan: Plan)
+    requires { ⌜ Holding (now rows) from count plan ⌝ }
+    ensures { λ _. ⌜ ClearedBeside plan from count (now (rows .entry)) (now (rows .exit)) ⌝ }
+{
+    let n = live_in(count);
+    clear_rows(rows, SIDES - from, SIDE);
+    clear_rows(rows, from + n, SIDE - n);
+    clear_each(rows, from, n, plan);
 }
 
 // Clears what was built from row `to` on and is used by no remainder found there.

@@ -14,11 +14,11 @@ use Rattle.judge.specs.declared.plan.Plan.{Plan}
 use Rattle.judge.specs.declared.held.Count.{Count}
 use Rattle.judge.specs.declared.held.Count.the-variants.{Exhausted, Live}
 use Rattle.judge.specs.View.{cut, liveCount}
-use Rattle.judge.specs.Rows.{width, height, word, rowCount, Small, RowsStay}
+use Rattle.judge.specs.Rows.{width, height, word, rowCount, rowOf, Small, RowsStay}
 use Rattle.judge.specs.Settle.{Side, foundIn, SmallIn, builtRows}
 use Rattle.judge.specs.Fill.{workedRows}
 use Rattle.judge.specs.UnusedWords.{NothingInRow, NothingBeside}
-use Rattle.judge.specs.Cleared.{ClearedRows, ClearedRow, ClearedUnused, ClearedEach, ClearedFound, Tidied}
+use Rattle.judge.specs.Cleared.{ClearedRows, ClearedRow, ClearedUnused, ClearedEach, ClearedBeside, ClearedFound, Tidied}
 use Rattle.judge.proofs.Listing.{listed-same}
 use Rattle.judge.proofs.rows.Laws.{rows-stay-all, rows-stay-one, rows-stay-among, rows-stay-wide, rows-stay-on}
 use Rattle.judge.proofs.settle.Laws.{row-same}
@@ -110,17 +110,29 @@ module _ (a b : List ℕ) (to : ℕ) where
   abbrev SameRows : ℕ → Type 0
   SameRows n = (k q : ℕ) → k < n → q < width → word b (to + k) q ≡ word a (to + k) q
 
-  pub small-same : (count : Count) → SameRows (liveCount count) → SmallIn count a to → SmallIn count b to
-  small-same Exhausted same s = tt
-  small-same (Live n) same s = (s .0, λ k l. rw (same k 0 l (omega arith)) (s .1 k l))
+  -- where each reads the same
+  found-by : (v : SheetValue) (count : Count) → ((k : ℕ) → k < liveCount count → cut v (rowOf b (to + k)) ≡ cut v (rowOf a (to + k))) → foundIn v count b to ≡ foundIn v count a to
+  found-by v Exhausted same = refl
+  found-by v (Live n) same = ap some (listed-same n same)
 
-  found-same : (v : SheetValue) (count : Count) → SameRows (liveCount count) → SmallIn count a to → foundIn v count b to ≡ foundIn v count a to
-  found-same v Exhausted same s = refl
-  found-same v (Live n) same s = ap some (listed-same n (λ k l. ap (cut v) (row-same a b (to + k) (s .1 k l) (λ q m. same k q l m))))
+  small-by : (count : Count) → ((k : ℕ) → k < liveCount count → rowCount b (to + k) ≡ rowCount a (to + k)) → SmallIn count a to → SmallIn count b to
+  small-by Exhausted same s = tt
+  small-by (Live n) same s = (s .0, λ k l. rw (same k l) (s .1 k l))
+
+pub few-each : (count : Count) (rows : List ℕ) (to : ℕ) → SmallIn count rows to → Small rows to (liveCount count)
+few-each Exhausted rows to s k l = absurd (omega arith)
+few-each (Live n) rows to s k l = s .1 k l
 
 pub few-live : (count : Count) (rows : List ℕ) (to : ℕ) → SmallIn count rows to → liveCount count ≤ 32
 few-live Exhausted rows to s = omega arith
 few-live (Live n) rows to s = s .0
+
+module _ (a b : List ℕ) (to : ℕ) (count : Count) (same : SameRows a b to (liveCount count)) (s : SmallIn count a to) where
+  small-same : SmallIn count b to
+  small-same = small-by a b to count (λ k l. same k 0 l (omega arith)) s
+
+  found-same : (v : SheetValue) → foundIn v count b to ≡ foundIn v count a to
+  found-same v = found-by a b to v count (λ k l. ap (cut v) (row-same a b (to + k) (few-each count a to s k l) (λ q m. same k q l m)))
 
 -- the row after them is cleared
 module _ (to n : ℕ) {a b : List ℕ} (c : ClearedRows (to + n) 1 a b) where
@@ -142,11 +154,60 @@ module _ {p : Plan} {to : ℕ} {count : Count} {a b : List ℕ} where
       rw e
       (record {
         stays = rows-stay-on (rows-stay-among (c .stays) to (n + 1) (omega arith) (omega arith)) (rows-stay-wide (w .stays) (n + 1) (omega arith));
-        small = (few, λ k l. omega (arith, w .each k l .count, same k 0 l (omega arith), small k l));
-        found = λ v lines planned. ap some (listed-same n (λ k l. w .each k l .row v lines planned)) ∙ found-same a m to v (Live n) same (few, small);
+        small = small-by m b to (Live n) (λ k l. w .each k l .count) (small-same a m to (Live n) same (few, small));
+        found = λ v lines planned. found-by m b to v (Live n) (λ k l. w .each k l .row v lines planned) ∙ found-same a m to (Live n) same (few, small) v;
         others = λ h q x y l f. w .stays .same h q l (λ s t. omega arith) ∙ c .zero h q (omega arith) (omega arith) l;
         each = λ k l. w .each k l .nothing;
       })
+
+-- ---- all words beside those held
+
+-- the two sides are all rows behind the head
+module _ {from : ℕ} (side : Side from) where
+  first-side : from ≤ 22 → from ≡ 6
+  first-side h =
+      among-rows (45 - from) from 33 (λ l m. absurd (side .apart (45 - from - from) 0 (omega arith) (omega arith) (omega arith)))
+      (λ f. let g : 45 - from < from + 33 → ⊥ = f (omega arith) in omega (arith, side .other))
+
+  second-side : 23 ≤ from → from ≡ 39
+  second-side h =
+      among-rows from (45 - from) 33 (λ l m. absurd (side .apart 0 (from - (45 - from)) (omega arith) (omega arith) (omega (arith, side .one))))
+      (λ f. let g : from < 45 - from + 33 → ⊥ = f (omega arith) in omega (arith, side .one))
+
+  on-other : (h : ℕ) → 6 ≤ h → h < height → (from ≤ h → h < from + 33 → ⊥) → (45 - from ≤ h) × (h < 45 - from + 33)
+  on-other h l m f =
+      among-rows from 0 23
+      (λ x y. let e = first-side (omega arith) in let g : h < from + 33 → ⊥ = f (omega arith) in (omega arith, omega arith))
+      (λ x. let y : from < 23 → ⊥ = x (omega arith) in let e = second-side (omega arith) in let g : from ≤ h → ⊥ = λ u. f u (omega arith) in (omega arith, omega arith))
+
+module _ (p : Plan) {from : ℕ} (count : Count) {n : ℕ} (e : n ≡ liveCount count) {a b c : List ℕ} (side : Side from) (small : SmallIn count a from)
+    (x : ClearedRows (45 - from) 33 a b) (y : ClearedRows (from + n) (33 - n) b c) where
+  same-held : SameRows a c from (liveCount count)
+  same-held k q l m =
+      let few = few-live count a from small in
+      y .stays .same (from + k) q m (λ s t. omega arith) ∙ x .stays .same (from + k) q m (λ s t. side .apart k (from + k - (45 - from)) (omega arith) (omega arith) (omega arith))
+
+  pub small-beside : Small c from n
+  small-beside k l = few-each count c from (small-same a c from count same-held small) k (omega arith)
+
+  module _ {d : List ℕ} (z : ClearedEach p from n c d) where
+    zero-beside : (h q : ℕ) → 6 ≤ h → h < height → q < width → (from ≤ h → h < from + liveCount count → ⊥) → word d h q ≡ 0
+    zero-beside h q l m k f =
+        let few = few-live count a from small in
+        z .stays .same h q k (λ s t. f s (omega arith))
+        ∙ among-rows h from 33
+        (λ s t. let g : h < from + liveCount count → ⊥ = f s in y .zero h q (omega arith) (omega arith) k)
+        (λ g. let o = on-other side h l m g in y .stays .same h q k (λ s t. g (omega arith) (omega arith)) ∙ x .zero h q (o .0) (o .1) k)
+
+    pub beside-cleared : ClearedBeside p from count a d
+    beside-cleared =
+        record {
+          size = z .stays .size ∙ y .stays .size ∙ x .stays .size;
+          head = λ h q l m. z .stays .same h q m (λ s t. omega (arith, side .other)) ∙ y .stays .same h q m (λ s t. omega (arith, side .other)) ∙ x .stays .same h q m (λ s t. omega (arith, side .past));
+          small = small-by c d from count (λ k l. z .each k (omega arith) .count) (small-same a c from count same-held small);
+          held = λ v lines planned. found-by c d from v count (λ k l. z .each k (omega arith) .row v lines planned) ∙ found-same a c from count same-held small v;
+          nothing = record { others = zero-beside; each = λ k l. z .each k (omega arith) .nothing };
+        }
 
 -- ---- both sides
 worked-none : (was : Count) → liveCount was ≡ 0 → (count : Count) → workedRows was count ≡ 0
@@ -176,7 +237,7 @@ module _ (p : Plan) (from : ℕ) (was count : Count) {a : List ℕ} (side : Side
         }
 
   -- some were held
-  module _ {b : List ℕ} (some : liveCount was ≡ 0 → ⊥) (few : liveCount was ≤ 32) (x : ClearedRows from (liveCount was) a b) where
+  module _ {n : ℕ} {b : List ℕ} (e : n ≡ liveCount was) (some : n ≡ 0 → ⊥) (few : liveCount was ≤ 32) (x : ClearedRows from n a b) where
     same-found : SameRows a b (45 - from) (liveCount count)
     same-found k q l m = x .stays .same (45 - from + k) q m (λ s t. side .apart (45 - from + k - from) k (omega arith) (omega (arith, few-live count a (45 - from) small)) (omega arith))
 
@@ -184,12 +245,12 @@ module _ (p : Plan) (from : ℕ) (was count : Count) {a : List ℕ} (side : Side
     small-cleared = small-same a b (45 - from) count same-found small
 
     module _ {c : List ℕ} (y : ClearedFound p (45 - from) count b c) where
-      module _ {before : List ℕ} (n : NothingBeside p was from before) (s : RowsStay (45 - from) (workedRows was count) before a) (h q : ℕ) (l : 6 ≤ h) (m : h < height) (k : q < width) where
+      module _ {before : List ℕ} (w : NothingBeside p was from before) (s : RowsStay (45 - from) (workedRows was count) before a) (h q : ℕ) (l : 6 ≤ h) (m : h < height) (k : q < width) where
         -- a row that nothing was built in
         not-built : (45 - from ≤ h → h < 45 - from + builtRows count → ⊥) → word b h q ≡ 0
         not-built g =
-            among-rows h from (liveCount was) (λ u t. x .zero h q u t k)
-            (λ e. x .stays .same h q k e ∙ s .same h q k (λ u t. g u (omega (arith, worked-some was some count))) ∙ n .others h q l m k e)
+            among-rows h from n (λ u t. x .zero h q u t k)
+            (λ f. x .stays .same h q k f ∙ s .same h q k (λ u t. g u (omega (arith, worked-some was (λ z. some (e ∙ z)) count))) ∙ w .others h q l m k (λ u t. f u (omega arith)))
 
         zero-other : (45 - from ≤ h → h < 45 - from + liveCount count → ⊥) → word c h q ≡ 0
         zero-other f = among-rows h (45 - from) (builtRows count) (λ u t. y .others h q u t k (f u)) (λ g. y .stays .same h q k g ∙ not-built g)
@@ -200,6 +261,6 @@ module _ (p : Plan) (from : ℕ) (was count : Count) {a : List ℕ} (side : Side
             size = y .stays .size ∙ x .stays .size;
             head = λ h q l m. y .stays .same h q m (λ s t. omega (arith, side .past)) ∙ x .stays .same h q m (λ s t. omega (arith, side .other));
             small = y .small;
-            found = λ v lines planned. y .found v lines planned ∙ found-same a b (45 - from) v count same-found small;
-            nothing = λ before n s. record { others = zero-other n s; each = y .each };
+            found = λ v lines planned. y .found v lines planned ∙ found-same a b (45 - from) count same-found small v;
+            nothing = λ before w s. record { others = zero-other w s; each = y .each };
           }

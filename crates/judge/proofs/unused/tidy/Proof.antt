@@ -1,15 +1,9 @@
 -- `tidy` meets its contract: where none was held nothing was worked; else the rows that were held are cleared, and what is found is no part of them. Assumes nothing.
-use mathlib.Core.List.{List}
-use mathlib.Core.Path.{_≡_, sym, subst, _∙_}
-use Prim.Native.Nat.{ℕ}
+use mathlib.Core.Path.{sym, _∙_}
 use borrow.Author.Needs.{needs}
-use Rattle.judge.specs.Cleared.{ClearedRows}
 use Rattle.judge.proofs.unused.Sides.{tidied-none, small-cleared, tidied}
 use Rattle.judge.proofs.unused.tidy.Statement.{statement}
 use Rattle.judge.proofs.unused.tidy.Tie as tie
-
-of-count : {first n m : ℕ} {a b : List ℕ} → n ≡ m → ClearedRows first n a b → ClearedRows first m a b
-of-count {first} {a = a} {b} e c = subst (λ (k : ℕ). ClearedRows first k a b) e c
 
 returns : tie.Need-returns
 returns c =
@@ -28,7 +22,7 @@ clear-found-requires c κs =
     let s = l .before in
     record {
       side = s .pre .side .other;
-      small = small-cleared (s .args .plan) (s .args .from) (s .args .was) (s .args .count) (s .pre .side) (s .pre .small) (λ e. some r .if1 .left (l .live-in .ensures ∙ e)) (s .pre .held) (of-count (l .live-in .ensures) (r .clear-rows .ensures));
+      small = small-cleared (s .args .plan) (s .args .from) (s .args .was) (s .args .count) (s .pre .side) (s .pre .small) (l .live-in .ensures) (some r .if1 .left) (s .pre .held) (r .clear-rows .ensures);
       plan = s .pre .plan;
     }
 
@@ -37,7 +31,7 @@ returns-2 c =
     let r = c .before .before in
     let l = some r .before in
     let s = l .before in
-    tidied (s .args .plan) (s .args .from) (s .args .was) (s .args .count) (s .pre .side) (s .pre .small) (λ e. some r .if1 .left (l .live-in .ensures ∙ e)) (s .pre .held) (of-count (l .live-in .ensures) (r .clear-rows .ensures)) (c .clear-found .ensures)
+    tidied (s .args .plan) (s .args .from) (s .args .was) (s .args .count) (s .pre .side) (s .pre .small) (l .live-in .ensures) (some r .if1 .left) (s .pre .held) (r .clear-rows .ensures) (c .clear-found .ensures)
 
 pub tidy-spec : {M : Type 1} → statement M
 tidy-spec = tie.close (tie.spec (λ c κs. search needs) returns (λ c κs. search needs) (λ c. search needs) clear-found-requires returns-2)
