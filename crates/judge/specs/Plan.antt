@@ -101,18 +101,18 @@ pub record LineRow (lines : List ℕ) (j : ℕ) : Type 0 where
   pub row : j < planRows
 
 -- b is a but for row j
-pub record RowsStay (j : ℕ) (a b : List ℕ) : Type 0 where
+pub record LinesStay (j : ℕ) (a b : List ℕ) : Type 0 where
   pub size : length b ≡ numbers
   pub same : (h : ℕ) → (h ≡ j → ⊥) → lineIn b h ≡ lineIn a h
 
 -- a line in row j
 pub record PutLine (j : ℕ) (l : Line) (a b : List ℕ) : Type 0 where
-  pub stays : RowsStay j a b
+  pub stays : LinesStay j a b
   pub there : lineIn b j ≡ l
 
 -- a part's r lines from row `from` on: the `count` before, and l if it belongs there
 pub record PutPart (from count : ℕ) (belongs : Bool) (l : Line) (r : ℕ) (a b : List ℕ) : Type 0 where
-  pub stays : RowsStay (from + count) a b
+  pub stays : LinesStay (from + count) a b
   pub few : r ≤ count + 1
   pub rows : linesIn b from r ≡ linesIn a from count ++ cond belongs (l ∷ []) []
 

@@ -8,7 +8,7 @@ use lib.ListN.{length, getD}
 use Rattle.records.specs.declared.line.Line.{Line}
 use Rattle.judge.specs.declared.line_words.LineWords.{LineWords}
 use Rattle.judge.specs.LineWords.{lineOfWords}
-use Rattle.judge.specs.Plan.{lineWidth, numbers, linesIn, LineRow, RowsStay, PutLine, PutPart}
+use Rattle.judge.specs.Plan.{lineWidth, numbers, linesIn, LineRow, LinesStay, PutLine, PutPart}
 use Rattle.judge.proofs.Listing.{listed-same, listed-next}
 use Rattle.judge.proofs.line_words.Stored.{stored, stored-length, stored-other, stored-there}
 
@@ -34,7 +34,7 @@ module _ {lines : List ℕ} {j : ℕ} (r : LineRow lines j) (w : LineWords) wher
   }
 
 -- rows that j is not among
-pub rows-stay : {j : ℕ} {a b : List ℕ} → RowsStay j a b → (from n : ℕ) → ((k : ℕ) → k < n → from + k ≡ j → ⊥) → linesIn b from n ≡ linesIn a from n
+pub rows-stay : {j : ℕ} {a b : List ℕ} → LinesStay j a b → (from n : ℕ) → ((k : ℕ) → k < n → from + k ≡ j → ⊥) → linesIn b from n ≡ linesIn a from n
 rows-stay r from n apart = listed-same n (λ k m. r .same (from + k) (apart k m))
 
 -- ---- a part
