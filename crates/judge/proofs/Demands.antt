@@ -8,7 +8,7 @@ use Rattle.records.specs.Sheet.{SheetValue}
 use Rattle.tesl.specs.Run.{Instant}
 use Rattle.tesl.specs.Answer.{Answer, mostLive, answer}
 use Rattle.tesl.specs.Machine.{accepts, Session, Reader}
-use Rattle.theory.specs.Session.{Ran, Opening, refuses, opens, Observing, FollowsMachine, EachAnswer}
+use Rattle.theory.specs.Session.{Opening, refuses, opens, Observing, FollowsMachine, SameSession, EachAnswer}
 use Rattle.theory.specs.Session as machine
 use Rattle.theory.specs.Said.{Said}
 use Rattle.theory.specs.Seen.{SeenJudged}
@@ -33,7 +33,7 @@ opening-follows read sheet outcome (r, h, e) = subst (Opening read Follows sheet
 -- ---- observing
 
 -- a monitor that follows the machine's list is within its limits, so the call is taken for what the machine takes it for
-same-call : (s : SheetValue) (run : List Instant) (m : Monitor) (bytes : List ℕ) → Follows s run m → observes m bytes ≡ accepts s run bytes
+pub same-call : (s : SheetValue) (run : List Instant) (m : Monitor) (bytes : List ℕ) → Follows s run m → observes m bytes ≡ accepts s run bytes
 unfolding observes accepts
 same-call s run m bytes f = rw (f .limits, f .instants, ap (λ (v : SheetValue). v .clocks) (f .sheet))
 
@@ -64,16 +64,21 @@ laws read = record { opening = opening-follows read; observing = observing-follo
 pub demand3 : (read : Reader) → Demand3 read
 demand3 read sheet calls answered last ran = same-session read (Opens read) Observes Follows (laws read) ran
 
--- ---- each answer is the machine's, so what holds of the machine's answers holds of it
+-- ---- each answer is the machine's, so what holds of the machine's answers holds of it, whatever kind of monitor answered
 
-every-answer : (read : Reader) (P : SheetValue → List Instant → Answer → Type 0) → ((s : SheetValue) (run : List Instant) → P s run (answer s run))
-    → {sheet : List ℕ} {calls : List (List ℕ)} {answered : Session} {last : Option Monitor}
-    → Ran (Opens read) Observes sheet calls answered last → EachAnswer P read sheet calls answered
-every-answer read P holds {sheet} {calls} {answered} {last} ran =
-    subst (EachAnswer P read sheet calls) (sym (demand3 read sheet calls answered last ran .same)) (each-answer P holds read sheet calls)
+module _ {M : Type 0} {read : Reader} {F : SheetValue → List Instant → M → Type 0} {sheet : List ℕ} {calls : List (List ℕ)} {answered : Session} {last : Option M}
+    (session : SameSession read F sheet calls answered last) where
+  every-answer : (P : SheetValue → List Instant → Answer → Type 0) → ((s : SheetValue) (run : List Instant) → P s run (answer s run)) → EachAnswer P read sheet calls answered
+  every-answer P holds = subst (EachAnswer P read sheet calls) (sym (session .same)) (each-answer P holds read sheet calls)
+
+  pub each-said : EachAnswer (Said mostLive) read sheet calls answered
+  each-said = every-answer (Said mostLive) (answer-said mostLive)
+
+  pub each-seen : EachAnswer SeenJudged read sheet calls answered
+  each-seen = every-answer SeenJudged (seen-judged mostLive)
 
 pub demand3-said : (read : Reader) → Demand3Said read
-demand3-said read sheet calls answered last ran = every-answer read (Said mostLive) (answer-said mostLive) ran
+demand3-said read sheet calls answered last ran = each-said (demand3 read sheet calls answered last ran)
 
 pub demand2 : (read : Reader) → Demand2 read
-demand2 read sheet calls answered last ran = every-answer read SeenJudged (seen-judged mostLive) ran
+demand2 read sheet calls answered last ran = each-seen (demand3 read sheet calls answered last ran)

@@ -5,3 +5,4 @@ pub mod Below
 pub mod Listing
 pub mod work
 pub mod Demands
+pub mod LiveDemands

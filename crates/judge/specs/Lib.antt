@@ -48,3 +48,4 @@ pub mod Kept
 -- a whole monitor in one array of words, and the limits of its remainders
 pub mod State
 pub mod RowsLimits
+pub mod Live

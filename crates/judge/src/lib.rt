@@ -15,6 +15,7 @@ mod line;
 mod line_words;
 mod lines;
 mod list;
+pub mod live;
 pub mod log;
 pub mod monitor;
 pub mod obligation;
