@@ -1,31 +1,25 @@
 // The monitor for C and Rust: calls over numbers and byte slices, which take every input.
 // A result of 64 bits, from its lowest byte up: the number of the refusal, or 0; the answer, 1 exhausted, 2 broken, 3 holding, 0 after a refusal;
 // live, 0 unless holding; 1 if clear, else 0; and in the upper 32 bits the count of instants taken.
-mod count;
-mod follow;
+mod owing;
 mod pack;
-mod write;
 
-use crate::count::count_instants;
-use crate::follow::follow_log;
-use crate::follow::owing_after;
+use crate::owing::owing_after;
 use crate::pack::pack;
 use crate::pack::pack_reply;
 use crate::pack::reading_number;
 use crate::pack::reply_number;
-use crate::write::ENTRY_LENGTH;
-use crate::write::write_answers;
-use judge::answer::Reply;
+use judge::log::follow_log;
 use judge::log::judge_log;
-use judge::monitor::open;
+use judge::log::watch_log;
 use records::instant::read_instant;
-use records::number;
 use records::sheet::read_sheet;
 ghost use mathlib.Core.Path.{_≡_};
 ghost use Rattle.records.specs.Sheet.{readSheet};
 ghost use Rattle.records.specs.Instant.{readInstant};
 ghost use Rattle.tesl.specs.Machine.{judgeLog};
-ghost use Rattle.gateway.specs.Result.{numberOf, judgedCode, shownCode, watched, watchedAs};
+ghost use Rattle.judge.specs.Log.{watchLog};
+ghost use Rattle.gateway.specs.Result.{numberOf, judgedCode, shownCode};
 
 // Returns the result of a sheet and a whole log: the last answer, or the number of the first refusal and the count before it.
 #[no_mangle]
@@ -41,25 +35,11 @@ pub extern "C" fn lift_judge(sheet: &[u8], log: &[u8]) -> u64
 // Later bytes stay. Where `out` is shorter than that: returns 10, no answer and the count of instants taken, and `out` stays as it was.
 #[no_mangle]
 pub extern "C" fn lift_watch(sheet: &[u8], log: &[u8], out: &mut [u8]) -> u64
-    ensures { λ r. ⌜ watchedAs r (now (out .exit)) ≡ watched (now (sheet .entry)) (now (log .entry)) (now (out .entry)) ⌝ }
+    ensures { λ r. ⌜ (r ≡ judgedCode (watchLog (now (sheet .entry)) (now (log .entry)) (now (out .entry)) .result)) × (now (out .exit) ≡ watchLog (now (sheet .entry)) (now (log .entry)) (now (out .entry)) .buffer) ⌝ }
 {
-    let opened = open(sheet);
-    let reply = opened.reply;
-    match reply {
-        Reply::Refused(_) => pack_reply(reply, 0),
-        Reply::Answered(_) => {
-            let monitor = opened.monitor;
-            let value = monitor.sheet;
-            let clocks = value.clocks;
-            let count = count_instants(log, clocks);
-            if out.len() < ENTRY_LENGTH * count {
-                return pack(number::SHORT_BUFFER, 0, 0, 0, count);
-            }
-            let judged = write_answers(opened, log, out);
-            let last = judged.reply;
-            pack_reply(last, judged.instants)
-        }
-    }
+    let judged = watch_log(sheet, log, out);
+    let reply = judged.reply;
+    pack_reply(reply, judged.instants)
 }
 
 // Returns the number and the count of that result, and in the place of live how many of the live remainders owe the clock a tick after the log.

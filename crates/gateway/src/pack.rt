@@ -1,11 +1,13 @@
 // Answers and results as numbers.
-use judge::answer::Answer;
 use judge::answer::Reply;
+use judge::entry::answer_code;
+use judge::entry::clear_code;
+use judge::entry::live_code;
 use records::record::Answer as Reading;
 ghost use mathlib.Core.Path.{_≡_};
 ghost use Prim.Native.Nat.{_≤_};
-ghost use Rattle.judge.specs.Answer.{answerOf, replyOf};
-ghost use Rattle.gateway.specs.Result.{numberOf, answerCode, liveCode, clearCode, packed, judgedCode};
+ghost use Rattle.judge.specs.Answer.{replyOf};
+ghost use Rattle.gateway.specs.Result.{numberOf, packed, judgedCode};
 ghost use Rattle.gateway.specs.Inner.{readingNumber, Small};
 
 // The number of what reading refuses.
@@ -25,37 +27,6 @@ pub(crate) fn reply_number(reply: Reply) -> u8
     match reply {
         Reply::Answered(_) => 0,
         Reply::Refused(n) => n,
-    }
-}
-
-pub(crate) fn answer_code(a: Answer) -> u8
-    ensures { λ r. ⌜ r ≡ answerCode (answerOf a) ⌝ }
-{
-    match a {
-        Answer::Exhausted => 1,
-        Answer::Broken => 2,
-        Answer::Holding { live: _, clear: _ } => 3,
-    }
-}
-
-pub(crate) fn live_code(a: Answer) -> u8
-    requires { ⌜ liveCode (answerOf a) ≤ 32 ⌝ }
-    ensures { λ r. ⌜ r ≡ liveCode (answerOf a) ⌝ }
-{
-    match a {
-        Answer::Exhausted => 0,
-        Answer::Broken => 0,
-        Answer::Holding { live, clear: _ } => live as u8,
-    }
-}
-
-pub(crate) fn clear_code(a: Answer) -> u8
-    ensures { λ r. ⌜ r ≡ clearCode (answerOf a) ⌝ }
-{
-    match a {
-        Answer::Exhausted => 0,
-        Answer::Broken => 0,
-        Answer::Holding { live: _, clear } => { if clear { 1 } else { 0 } }
     }
 }
 

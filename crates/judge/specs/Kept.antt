@@ -30,6 +30,7 @@ use Rattle.judge.specs.Unused.{BlankFrom}
 use Rattle.judge.specs.Limits.{within}
 use Rattle.judge.specs.Monitor.{Accepts}
 use Rattle.judge.specs.Plan.{Planned}
+use Rattle.judge.specs.Stored.{FromRows}
 use Rattle.judge.specs.Rows.{headRows, sides, rowCount, rowObligation, rowLeads, rowStopped, RowsStay}
 use Rattle.judge.specs.Promises.{Called}
 use Rattle.judge.specs.Fill.{Working, workedRows}
@@ -63,6 +64,14 @@ keptFirst = record { instants = 0; tags = replicate 8 (pos 0); count = Live 1; f
 
 abbrev pub given : Reply → Monitor → Given
 given r m = record { reply = r; monitor = m }
+
+abbrev pub readBack : Sheet → Kept → List arrays.Remainder → Monitor
+readBack s k rs = record { sheet = s; instants = k .instants; tags = k .tags; held = record { count = k .count; remainders = rs } }
+
+-- a monitor read back from rows: its remainders are those of the rows, and blank ones past them
+pub record ReadBack (s : Sheet) (k : Kept) (p : Plan) (m : Monitor) (rows : List ℕ) : Type 0 where
+  pub same : m ≡ readBack s k (m .held .remainders)
+  pub found : FromRows p (k .count) (k .from) (m .held .remainders) rows
 
 -- ---- an instant taken
 

@@ -13,7 +13,9 @@ pub mod Unused
 pub mod Monitor
 -- the promises of `open` and `observe`
 pub mod Promises
--- the promise of `judge_log`: `judgedOf`; `Concludes` is an inner promise
+-- answers as numbers and bytes
+pub mod Entry
+-- the promises of `judge_log`, `follow_log` and `watch_log`
 pub mod Log
 -- demands 2 and 3
 pub mod Demands
@@ -45,6 +47,8 @@ pub mod Stored
 pub mod UnusedWords
 pub mod Cleared
 pub mod Kept
+-- the records of a log
+pub mod Records
 -- a whole monitor in one array of words, and the limits of its remainders
 pub mod State
 pub mod RowsLimits

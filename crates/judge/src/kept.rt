@@ -18,7 +18,7 @@ use records::record::Answer;
 ghost use mathlib.Core.Path.{_≡_};
 ghost use Prim.Native.Nat.{_<_};
 ghost use Rattle.judge.specs.Fill.{Working};
-ghost use Rattle.judge.specs.Kept.{keptOf, Works, Takes};
+ghost use Rattle.judge.specs.Kept.{keptOf, keptFirst, Works, Takes};
 
 // A monitor beside its sheet and its rows: the number of instants and the last tags, how many are held and the first of their rows.
 pub struct Kept {
@@ -46,6 +46,19 @@ pub(crate) fn kept_of(monitor: Monitor) -> Kept
         instants,
         tags,
         count,
+        from: HEAD,
+    }
+}
+
+// Of no instant: one remainder, in the first row of the first side.
+pub(crate) fn first_kept() -> Kept
+    ensures { λ k. ⌜ k ≡ keptFirst ⌝ }
+{
+    let tags = [0i16; 8];
+    Kept {
+        instants: 0,
+        tags,
+        count: Count::Live(1),
         from: HEAD,
     }
 }

@@ -4,6 +4,8 @@ mod among;
 pub mod answer;
 mod begun;
 mod clock;
+mod count;
+pub mod entry;
 mod fill;
 mod filling;
 mod heed;

@@ -1,26 +1,31 @@
-// A whole log: a sheet opened, then its instants, record by record.
+// A whole log: a sheet opened, then its instants, record by record, by a monitor that stays in rows.
 use crate::answer::Reply;
+use crate::answer::say_rows;
+use crate::count::count_log;
+use crate::entry::ENTRY_LENGTH;
+use crate::entry::put_entry;
 use crate::kept::Kept;
-use crate::kept::kept_of;
+use crate::kept::first_kept;
 use crate::kept::observe_rows;
-use crate::limits::is_within;
 use crate::list::LIST;
-use crate::monitor::Given;
-use crate::monitor::open;
+use crate::monitor::Monitor;
+use crate::monitor::blank_monitor;
+use crate::monitor::read_back;
 use crate::plan::NUMBERS;
 use crate::plan::Plan;
 use crate::plan::plan_of;
+use crate::rows::HEAD;
 use crate::rows::SIZE;
-use crate::stored::keep_held;
+use crate::start::begin_rows;
 use records::number;
-use records::record::Record;
-use records::record::record_at;
+use records::record::Answer;
+use records::record::record_bytes;
+use records::sheet::read_sheet;
 ghost use mathlib.Core.Path.{_≡_};
-ghost use Rattle.records.specs.declared.sheet.Sheet.{Sheet};
 ghost use Rattle.tesl.specs.Machine.{judgeLog};
 ghost use Rattle.judge.specs.Fill.{Working};
-ghost use Rattle.judge.specs.Kept.{keptMonitor, given, Ready};
-ghost use Rattle.judge.specs.Log.{judgedOf, Concludes};
+ghost use Rattle.judge.specs.Log.{judgedOf, watchedAs, watchLog, FollowsLog};
+ghost use Rattle.judge.specs.Records.{ObservedRecords, ObservedLog};
 
 // What a whole log came to: the last answer or the number of a refusal, and the count of instants taken before it.
 pub struct Judged {
@@ -28,7 +33,21 @@ pub struct Judged {
     pub instants: usize,
 }
 
-// Observes the records of a log one by one, with a monitor kept in rows, where it changes sides at each instant.
+// The same, with the monitor after the instants taken.
+pub struct LastMonitor {
+    pub reply: Reply,
+    pub instants: usize,
+    pub monitor: Monitor,
+}
+
+// The same, with the monitor in rows.
+struct LastRows {
+    reply: Reply,
+    instants: usize,
+    kept: Kept,
+}
+
+// Observes the records of a log one by one, up to the first that is refused, with a monitor in rows, where it changes sides at each instant. Each answer goes into the buffer, where there is room.
 fn observe_records(
     log: &[u8],
     opening: Reply,
@@ -37,80 +56,126 @@ fn observe_records(
     lines: &[u32; NUMBERS],
     rows: &mut [u32; SIZE],
     list: &mut [bool; LIST],
-) -> Judged
+    out: &mut [u8],
+) -> LastRows
     requires { ⌜ Working (now rows) (first .from) (first .count) plan (now list) ⌝ }
-    ensures { λ r. ⌜ ((s : Sheet) → Ready s first plan (now (lines .entry)) (now (rows .entry)) → Concludes (given opening (keptMonitor s first (now (rows .entry)))) (now (log .entry)) r) ⌝ }
+    ensures { λ r. ⌜ ObservedRecords (now (log .entry)) opening first plan (now (lines .entry)) r (now (rows .entry)) (now (rows .exit)) (now (list .exit)) (now (out .entry)) (now (out .exit)) ⌝ }
 {
     let mut kept = first;
     let mut reply = opening;
     let mut instants = 0;
+    let mut end = 0;
     let mut at = 0;
     while at < log.len() {
-        match record_at(log, at) {
-            Record::Torn => {
-                return Judged {
-                    reply: Reply::Refused(number::NOT_ONE_RECORD),
+        let record = record_bytes(log, at);
+        let told = observe_rows(kept, plan, lines, record, rows, list);
+        let said = told.reply;
+        let next = told.kept;
+        match said {
+            Reply::Refused(_) => {
+                return LastRows {
+                    reply: said,
                     instants,
+                    kept: next,
                 };
             }
-            Record::Whole { kind: _, len } => {
-                let end = at + number::HEAD_LENGTH + len;
-                let told = observe_rows(kept, plan, lines, &log[at..end], rows, list);
-                let said = told.reply;
-                match said {
-                    Reply::Refused(_) => {
-                        return Judged {
-                            reply: said,
-                            instants,
-                        };
-                    }
-                    Reply::Answered(_) => {
-                        let next = told.kept;
-                        kept = next;
-                        reply = said;
-                        instants += 1;
-                        at = end;
-                    }
-                }
+            Reply::Answered(a) => {
+                kept = next;
+                reply = said;
+                end = put_entry(out, end, a);
+                instants += 1;
+                at += record.len();
             }
         }
     }
-    Judged { reply, instants }
+    LastRows {
+        reply,
+        instants,
+        kept,
+    }
 }
 
-// Observes the records of a log one by one, after an opening.
-fn observe_all(opened: Given, log: &[u8]) -> Judged
-    ensures { λ r. ⌜ Concludes opened (now (log .entry)) r ⌝ }
+// Opens a sheet and observes a whole log, up to the first refusal, in rows of its own; the answers go into the buffer, where there is room.
+fn observe_log(sheet: &[u8], log: &[u8], out: &mut [u8]) -> LastMonitor
+    ensures { λ r. ⌜ ObservedLog (now (sheet .entry)) (now (log .entry)) r (now (out .entry)) (now (out .exit)) ⌝ }
 {
-    let monitor = opened.monitor;
-    if !is_within(monitor) {
-        return Judged {
-            reply: Reply::Refused(number::MONITOR_LIMITS),
+    let read = read_sheet(sheet);
+    let value = read.sheet;
+    let answer = read.answer;
+    match answer {
+        Answer::Refused(n) => LastMonitor {
+            reply: Reply::Refused(n),
             instants: 0,
-        };
+            monitor: blank_monitor(value),
+        },
+        Answer::Done => {
+            let mut lines = [0u32; NUMBERS];
+            let plan = plan_of(value, &mut lines);
+            let mut rows = [0u32; SIZE];
+            begin_rows(&mut rows, value);
+            let first = first_kept();
+            let count = first.count;
+            let said = say_rows(&rows, HEAD, count);
+            let opening = Reply::Answered(said);
+            let mut list = [false; LIST];
+            let last = observe_records(
+                log,
+                opening,
+                first,
+                plan,
+                &lines,
+                &mut rows,
+                &mut list,
+                out,
+            );
+            let kept = last.kept;
+            let monitor = read_back(value, kept, plan, &rows);
+            let reply = last.reply;
+            LastMonitor {
+                reply,
+                instants: last.instants,
+                monitor,
+            }
+        }
     }
-    let sheet = monitor.sheet;
-    let mut lines = [0u32; NUMBERS];
-    let plan = plan_of(sheet, &mut lines);
-    let held = monitor.held;
-    let count = held.count;
-    let remainders = held.remainders;
-    let mut rows = [0u32; SIZE];
-    keep_held(&mut rows, count, remainders);
-    let mut list = [false; LIST];
-    let kept = kept_of(monitor);
-    let opening = opened.reply;
-    observe_records(log, opening, kept, plan, &lines, &mut rows, &mut list)
 }
 
 // Judges a sheet and a whole log; the first refusal ends it.
 pub fn judge_log(sheet: &[u8], log: &[u8]) -> Judged
     ensures { λ r. ⌜ judgedOf r ≡ judgeLog (now (sheet .entry)) (now (log .entry)) ⌝ }
 {
-    let opened = open(sheet);
-    let reply = opened.reply;
-    match reply {
-        Reply::Refused(_) => Judged { reply, instants: 0 },
-        Reply::Answered(_) => observe_all(opened, log),
+    let mut none = [0u8; 1];
+    let last = observe_log(sheet, log, &mut none);
+    let reply = last.reply;
+    Judged {
+        reply,
+        instants: last.instants,
+    }
+}
+
+// The same, with the monitor after the log.
+pub fn follow_log(sheet: &[u8], log: &[u8]) -> LastMonitor
+    ensures { λ r. ⌜ FollowsLog (now (sheet .entry)) (now (log .entry)) r ⌝ }
+{
+    let mut none = [0u8; 1];
+    observe_log(sheet, log, &mut none)
+}
+
+// Judges a sheet and a whole log, with the answers to the instants taken at the buffer's front, three bytes each, later bytes staying. Where they have no room: 10 and the count of instants, and the buffer stays as it was.
+pub fn watch_log(sheet: &[u8], log: &[u8], out: &mut [u8]) -> Judged
+    ensures { λ r. ⌜ watchedAs (judgedOf r) (now (out .exit)) ≡ watchLog (now (sheet .entry)) (now (log .entry)) (now (out .entry)) ⌝ }
+{
+    let count = count_log(sheet, log);
+    if out.len() < ENTRY_LENGTH * count {
+        return Judged {
+            reply: Reply::Refused(number::SHORT_BUFFER),
+            instants: count,
+        };
+    }
+    let last = observe_log(sheet, log, out);
+    let reply = last.reply;
+    Judged {
+        reply,
+        instants: last.instants,
     }
 }

@@ -3,11 +3,14 @@ use crate::answer::Reply;
 use crate::answer::say_rows;
 use crate::held::Count;
 use crate::held::Held;
+use crate::kept::Kept;
+use crate::kept::first_kept;
 use crate::kept::kept_of;
 use crate::kept::observe_rows;
 use crate::limits::is_within;
 use crate::list::LIST;
 use crate::plan::NUMBERS;
+use crate::plan::Plan;
 use crate::plan::plan_of;
 use crate::remainder::blank_remainder;
 use crate::rows::HEAD;
@@ -24,6 +27,8 @@ ghost use Rattle.records.specs.Sheet.{readSheet};
 ghost use Rattle.judge.specs.Limits.{within};
 ghost use Rattle.judge.specs.Monitor.{blankMonitor, refusal};
 ghost use Rattle.judge.specs.Promises.{Opened, Observed};
+ghost use Rattle.judge.specs.Stored.{FindingRows};
+ghost use Rattle.judge.specs.Kept.{ReadBack};
 
 // Beside its remainders, of the instants only their number and the last tags; the last answer is what those held say.
 pub struct Monitor {
@@ -39,8 +44,26 @@ pub struct Given {
     pub monitor: Monitor,
 }
 
+// The monitor that is kept in rows, its remainders read back from them.
+pub(crate) fn read_back(sheet: Sheet, kept: Kept, plan: Plan, rows: &[u32; SIZE]) -> Monitor
+    requires { ⌜ FindingRows (now rows) (kept .count) (kept .from) plan ⌝ }
+    ensures { λ m. ⌜ ReadBack sheet kept plan m (now (rows .entry)) ⌝ }
+{
+    let count = kept.count;
+    let remainders = from_rows(rows, kept.from, count, plan);
+    let held = Held { count, remainders };
+    let instants = kept.instants;
+    let tags = kept.tags;
+    Monitor {
+        sheet,
+        instants,
+        tags,
+        held,
+    }
+}
+
 // What stands in a monitor's place where there is none.
-fn blank_monitor(sheet: Sheet) -> Monitor
+pub(crate) fn blank_monitor(sheet: Sheet) -> Monitor
     ensures { λ m. ⌜ m ≡ blankMonitor sheet ⌝ }
 {
     let blank = blank_remainder();
@@ -72,17 +95,10 @@ pub fn open(bytes: &[u8]) -> Given
             let plan = plan_of(sheet, &mut lines);
             let mut rows = [0u32; SIZE];
             begin_rows(&mut rows, sheet);
-            let count = Count::Live(1);
+            let first = first_kept();
+            let count = first.count;
             let opening = say_rows(&rows, HEAD, count);
-            let remainders = from_rows(&rows, HEAD, count, plan);
-            let held = Held { count, remainders };
-            let tags = [0i16; 8];
-            let monitor = Monitor {
-                sheet,
-                instants: 0,
-                tags,
-                held,
-            };
+            let monitor = read_back(sheet, first, plan, &rows);
             Given {
                 reply: Reply::Answered(opening),
                 monitor,
@@ -122,21 +138,7 @@ pub fn observe(monitor: Monitor, bytes: &[u8]) -> Given
         Reply::Refused(n) => refuse(n, monitor),
         Reply::Answered(_) => {
             let next = told.kept;
-            let count = next.count;
-            let from = next.from;
-            let after = from_rows(&rows, from, count, plan);
-            let held = Held {
-                count,
-                remainders: after,
-            };
-            let instants = next.instants;
-            let tags = next.tags;
-            let monitor = Monitor {
-                sheet,
-                instants,
-                tags,
-                held,
-            };
+            let monitor = read_back(sheet, next, plan, &rows);
             Given { reply, monitor }
         }
     }

@@ -1,8 +1,7 @@
 -- Answers and results as numbers. Assumes nothing.
-use mathlib.Core.Bool.{Bool}
 use mathlib.Core.List.{List}
 use mathlib.Core.Path.{_≡_, refl, ap, _∙_}
-use Prim.Native.Nat.{ℕ, _≤_}
+use Prim.Native.Nat.{ℕ, _%_, _≤_}
 use native.Mathlib.Omega.{arith}
 use Rattle.records.specs.declared.sheet.SheetRead.{SheetRead}
 use Rattle.records.specs.declared.instant.InstantRead.{InstantRead}
@@ -10,11 +9,11 @@ use Rattle.records.specs.Outcome.{Outcome, taken, refused}
 use Rattle.records.specs.Sheet.{SheetValue, readSheet, sheetRead}
 use Rattle.records.specs.Instant.{Cell, readInstant, instantRead}
 use Rattle.judge.specs.declared.answer.Answer as code
-use Rattle.judge.specs.declared.answer.Answer.the-variants as answer
 use Rattle.judge.specs.declared.answer.Reply.{Reply}
 use Rattle.judge.specs.declared.answer.Reply.the-variants as reply
 use Rattle.judge.specs.Answer.{answerOf, replyOf}
-use Rattle.gateway.specs.Result.{numberOf, answerCode, liveCode, clearCode, packed, judgedCode}
+use Rattle.judge.specs.Entry.{answerCode, liveCode, clearCode}
+use Rattle.gateway.specs.Result.{numberOf, packed, judgedCode}
 use Rattle.gateway.specs.Inner.{readingNumber, Small}
 
 -- the number of what was read
@@ -33,10 +32,6 @@ instant-number clocks bytes e q = e ∙ ap (λ (r : InstantRead). readingNumber 
     by-outcome (taken i) = refl
     by-outcome (refused k) = refl
 
--- a live count that a match sees
-pub live-few : {a : code.Answer} {n : ℕ} {c : Bool} → liveCode (answerOf a) ≤ 32 → a ≡ answer.Holding n c → n ≤ 32
-live-few {a} {n} h e = rw e at h
-
 -- ---- a reply's result
 
 module _ (r : Reply) (count : ℕ) (h : Small (record { outcome = replyOf r; instants = count })) where
@@ -51,6 +46,6 @@ pub refused-code : (r : Reply) (count : ℕ) {n : ℕ} (result : ℕ) → r ≡ 
 refused-code r count result e q = rw (e, q)
 
 pub answered-code : (r : Reply) (count : ℕ) {a : code.Answer} {x y z : ℕ} (result : ℕ) → r ≡ reply.Answered a
-    → x ≡ answerCode (answerOf a) → y ≡ liveCode (answerOf a) → z ≡ clearCode (answerOf a)
+    → liveCode (answerOf a) ≤ 32 → x ≡ answerCode (answerOf a) → y ≡ liveCode (answerOf a) % 256 → z ≡ clearCode (answerOf a)
     → result ≡ packed 0 x y z count → result ≡ judgedCode (record { outcome = replyOf r; instants = count })
-answered-code r count result e p q k t = rw (e, t, p, q, k)
+answered-code r count {a} result e small p q k t = let f : liveCode (answerOf a) % 256 ≡ liveCode (answerOf a) = omega arith in rw (e, t, p, q, f, k)

@@ -45,7 +45,7 @@ use Rattle.judge.specs.Settle.{Side, foundIn, SmallIn}
 use Rattle.judge.specs.Stored.{KeepingHeld, KeptHeld, FromRows}
 use Rattle.judge.specs.Monitor.{sheetBy, heldBy, Accepts}
 use Rattle.judge.specs.Fill.{Working}
-use Rattle.judge.specs.Kept.{asStruct, rowRemainder, rowsHeld, keptMonitor, keptOf, given, Ready}
+use Rattle.judge.specs.Kept.{asStruct, rowRemainder, rowsHeld, keptMonitor, keptOf, given, readBack, Ready}
 use Rattle.judge.specs.Promises.{Follows}
 use Rattle.judge.proofs.Listing.{map-listed, one-of, all-of}
 use Rattle.judge.proofs.monitor.Limits.{held-limits, limits-of, within-limits, leads-small}
@@ -162,9 +162,6 @@ module _ (s : Sheet) (n : ℕ) (tags : List ℤ) (h k : Held) (same : heldOf (sh
   }
 
 -- ---- a monitor in rows, read back
-abbrev pub readBack : Sheet → Kept → List arrays.Remainder → Monitor
-readBack s k rs = record { sheet = s; instants = k .instants; tags = k .tags; held = record { count = k .count; remainders = rs } }
-
 module _ {s : Sheet} {k : Kept} {p : Plan} {lines rows : List ℕ} (ready : Ready s k p lines rows) {rs : List arrays.Remainder} (back : FromRows p (k .count) (k .from) rs rows) where
   abbrev after : Monitor
   after = readBack s k rs

@@ -1,7 +1,7 @@
 -- A monitor observed in rows, where its remainders were stored: refused as the rows are; and answered, read back, it goes on as the rows do. Assumes nothing.
 use mathlib.Core.Bool.{Bool, true}
 use mathlib.Core.List.{List}
-use mathlib.Core.Path.{_≡_, refl, sym, ap, _∙_}
+use mathlib.Core.Path.{subst, _≡_, refl, sym, ap, _∙_}
 use Prim.Native.Nat.{ℕ}
 use native.Mathlib.Omega.{arith}
 use Rattle.records.specs.Outcome.{Outcome, taken, refused}
@@ -21,9 +21,9 @@ use Rattle.judge.specs.Limits.{within, Limited}
 use Rattle.judge.specs.Plan.{PlanOf}
 use Rattle.judge.specs.Stored.{KeptHeld, FindingRows, FromRows}
 use Rattle.judge.specs.Monitor.{refusal}
-use Rattle.judge.specs.Kept.{keptMonitor, keptOf, given, Ready, Takes}
+use Rattle.judge.specs.Kept.{keptMonitor, keptOf, given, readBack, ReadBack, Ready, Takes}
 use Rattle.judge.specs.Promises.{observes, Called, Observed}
-use Rattle.judge.proofs.kept.Laws.{readBack, within-back, follows-back, nothing-back, within-stored, follows-stored, ready-stored}
+use Rattle.judge.proofs.kept.Laws.{within-back, follows-back, nothing-back, within-stored, follows-stored, ready-stored}
 
 -- an answer is no refusal
 pub answered-refused : {X : Type 0} {a : code.Answer} {n : ℕ} → reply.Answered a ≡ reply.Refused n → X
@@ -77,18 +77,24 @@ module _ (m : Monitor) (l : Limited m true) {p : Plan} {lines : List ℕ} (plan 
     found-next = record { side = o .room .side .one; small = o .room .small; plan = o .room .plan }
 
     -- read back
-    module _ {a : code.Answer} (q : t .reply ≡ reply.Answered a) {rs : List arrays.Remainder} (back : FromRows p (next .count) (next .from) rs out) where
-      pub answered-rows : Observed m bytes (given (t .reply) (readBack (m .sheet) next rs))
-      answered-rows = record {
+    module _ {a : code.Answer} (q : t .reply ≡ reply.Answered a) {n : Monitor} (back : ReadBack (m .sheet) next p n out) where
+      found : FromRows p (next .count) (next .from) (n .held .remainders) out
+      found = back .found
+
+      observed : Observed m bytes (given (t .reply) (readBack (m .sheet) next (n .held .remainders)))
+      observed = record {
         called = record {
           refuses = λ n f. answered-refused (sym q ∙ replied f);
           accepts = λ i f.
               let w = called .accepts i (sym (same-call bytes) ∙ f) in
               record {
                 answers = w .answers;
-                limits = within-back ready back;
-                follows = λ s run g. let k = w .follows s run (follows-stored m kept g) in (k .0, follows-back ready back (k .1));
+                limits = within-back ready found;
+                follows = λ s run g. let k = w .follows s run (follows-stored m kept g) in (k .0, follows-back ready found (k .1));
               };
         };
-        unused = λ i f. nothing-back ready back (o .tags (m .sheet) starts _ q);
+        unused = λ i f. nothing-back ready found (o .tags (m .sheet) starts _ q);
       }
+
+      pub answered-rows : Observed m bytes (given (t .reply) n)
+      answered-rows = subst (λ (x : Monitor). Observed m bytes (given (t .reply) x)) (sym (back .same)) observed

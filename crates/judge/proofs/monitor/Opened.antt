@@ -46,13 +46,12 @@ use Rattle.judge.specs.Plan.{numbers, Preparing, PlanOf}
 use Rattle.judge.specs.Rows.{headRows, rowsOf}
 use Rattle.judge.specs.Settle.{foundIn}
 use Rattle.judge.specs.Start.{BegunRows}
-use Rattle.judge.specs.Stored.{FromRows}
 use Rattle.judge.specs.Monitor.{sheetBy, heldBy, blankMonitor, noMonitor, refusal}
-use Rattle.judge.specs.Kept.{keptMonitor, keptFirst, given, Ready}
+use Rattle.judge.specs.Kept.{keptMonitor, keptFirst, given, readBack, ReadBack, Ready}
 use Rattle.judge.specs.Promises.{Follows, Opened}
 use Rattle.judge.proofs.rows.Placing.{blank-at}
 use Rattle.judge.proofs.monitor.Limits.{within-limits}
-use Rattle.judge.proofs.kept.Laws.{held-rows, sized-rows, readBack, follows-back, nothing-back}
+use Rattle.judge.proofs.kept.Laws.{held-rows, sized-rows, follows-back, nothing-back}
 
 -- ---- what is owed from the start has room, and is what no filled instant leaves
 
@@ -141,7 +140,7 @@ pub no-monitor-outside : within noMonitor ≡ false
 unfolding within sheetWithin noMonitor
 no-monitor-outside = refl
 
-refused-done : {X : Type 0} {n : ℕ} → told.Refused n ≡ told.Done → X
+pub refused-done : {X : Type 0} {n : ℕ} → told.Refused n ≡ told.Done → X
 refused-done e = let z : _≡_ {A = ℕ} 0 1 = cc in absurd (omega arith)
 
 -- ---- as the code has them: what was read, and the monitor begun
@@ -154,6 +153,13 @@ module _ (b : List ℕ) (x : SheetRead) (e : x ≡ sheetRead (readSheet b)) wher
       by-outcome (taken s) h = let l = read-limits b bytes h in rw (e, h) (record { few-lines = l .lines-most; few-clocks = l .clocks-most; size = size })
       by-outcome (refused n) h = rw (e, h) (record { few-lines = omega arith; few-clocks = omega arith; size = size })
 
+  pub read-answer : {n : ℕ} → x .answer ≡ told.Refused n → readSheet b ≡ refused n
+  read-answer {n} a = by-outcome (readSheet b) refl (ap (λ (y : SheetRead). y .answer) (sym e) ∙ a)
+    where
+      by-outcome : (o : Outcome SheetValue) → readSheet b ≡ o → sheetRead o .answer ≡ told.Refused n → readSheet b ≡ refused n
+      by-outcome (taken s) h a = refused-done (sym a)
+      by-outcome (refused k) h a = let z : k ≡ n = cc in h ∙ ap refused z
+
   pub opened-refused : {n : ℕ} → x .answer ≡ told.Refused n → (r : Given) → r ≡ refusal n (blankMonitor (x .sheet)) → Opened readSheet b r
   unfolding noMonitor
   opened-refused {n} a r q = by-outcome (readSheet b) refl (ap (λ (y : SheetRead). y .answer) (sym e) ∙ a) (q ∙ ap (λ (y : SheetRead). refusal n (blankMonitor (y .sheet))) e)
@@ -162,19 +168,39 @@ module _ (b : List ℕ) (x : SheetRead) (e : x ≡ sheetRead (readSheet b)) wher
       by-outcome (taken s) h a g = refused-done (sym a)
       by-outcome (refused k) h a g = record { refuses = λ j f. let z : n ≡ j = cc in rw (← z) g; opens = λ s f. refused-taken (sym h ∙ f); unused = λ s f. refused-taken (sym h ∙ f) }
 
-  -- begun in rows, and read back
-  module _ {p : Plan} {lines blank rows : List ℕ} {rs : List arrays.Remainder} (plan : PlanOf (x .sheet) p lines) (begun : BegunRows (sheetValue (x .sheet)) blank rows) (back : FromRows p (Live 1) headRows rs rows) where
-    pub opened-done : IsBytes b → x .answer ≡ told.Done → {y : code.Answer} → ((v : SheetValue) → answerOf y ≡ saidBy (foundIn v (Live 1) rows headRows)) → Opened readSheet b (given (reply.Answered y) (readBack (x .sheet) keptFirst rs))
-    opened-done bytes a {y} w = by-outcome (readSheet b) refl (ap (λ (z : SheetRead). z .answer) (sym e) ∙ a)
+  -- ---- begun in rows: what was opened, the answer, and the monitor in rows
+  pub record OpenedRows (p : Plan) (lines rows : List ℕ) (y : code.Answer) : Type 0 where
+    pub value : SheetValue
+    pub read : readSheet b ≡ taken value
+    pub sheet : sheetValue (x .sheet) ≡ value
+    pub said : answerOf y ≡ answer value []
+    pub follows : Follows value [] (keptMonitor (x .sheet) keptFirst rows)
+    pub ready : Ready (x .sheet) keptFirst p lines rows
+
+  module _ {p : Plan} {lines blank rows : List ℕ} (plan : PlanOf (x .sheet) p lines) (begun : BegunRows (sheetValue (x .sheet)) blank rows) where
+    pub opened-rows : IsBytes b → x .answer ≡ told.Done → {y : code.Answer} → ((v : SheetValue) → answerOf y ≡ saidBy (foundIn v (Live 1) rows headRows)) → OpenedRows p lines rows y
+    opened-rows bytes a {y} w = by-outcome (readSheet b) refl (ap (λ (z : SheetRead). z .answer) (sym e) ∙ a)
       where
-        by-outcome : (o : Outcome SheetValue) → readSheet b ≡ o → sheetRead o .answer ≡ told.Done → Opened readSheet b (given (reply.Answered y) (readBack (x .sheet) keptFirst rs))
+        by-outcome : (o : Outcome SheetValue) → readSheet b ≡ o → sheetRead o .answer ≡ told.Done → OpenedRows p lines rows y
         by-outcome (refused n) h a = refused-done a
         by-outcome (taken s) h a =
+            let same : sheetValue (x .sheet) ≡ s = ap (λ (z : SheetRead). sheetValue (z .sheet)) (e ∙ ap sheetRead h) ∙ sheetOf-value s in
             record {
-              refuses = λ n f. refused-taken (sym f ∙ h);
-              opens = λ v f. let same = same-sheet f in (ap taken (w (sheetValue (x .sheet)) ∙ ap saidBy (sym (held-rows rows headRows (sheetValue (x .sheet)) (Live 1))) ∙ follows-begun b bytes v f (x .sheet) same begun .said), follows-back (ready-begun b bytes v f (x .sheet) same begun plan) back (follows-begun b bytes v f (x .sheet) same begun));
-              unused = λ v f. nothing-back (ready-begun b bytes v f (x .sheet) (same-sheet f) begun plan) back (λ k l. blank-at (pos 0) 8 k);
+              value = s;
+              read = h;
+              sheet = same;
+              said = w (sheetValue (x .sheet)) ∙ ap saidBy (sym (held-rows rows headRows (sheetValue (x .sheet)) (Live 1))) ∙ follows-begun b bytes s h (x .sheet) same begun .said;
+              follows = follows-begun b bytes s h (x .sheet) same begun;
+              ready = ready-begun b bytes s h (x .sheet) same begun plan;
             }
-          where
-            same-sheet : {v : SheetValue} → readSheet b ≡ taken v → sheetValue (x .sheet) ≡ v
-            same-sheet {v} f = ap (λ (z : SheetRead). sheetValue (z .sheet)) (e ∙ ap sheetRead f) ∙ sheetOf-value v
+
+  -- and read back
+  pub opened-done : {p : Plan} {lines rows : List ℕ} {y : code.Answer} → OpenedRows p lines rows y → {m : Monitor} → ReadBack (x .sheet) keptFirst p m rows → Opened readSheet b (given (reply.Answered y) m)
+  opened-done {y = y} o {m} back =
+      let f = back .found in
+      subst (λ (n : Monitor). Opened readSheet b (given (reply.Answered y) n)) (sym (back .same))
+      (record {
+        refuses = λ n h. refused-taken (sym h ∙ o .read);
+        opens = λ v h. let z : o .value ≡ v = cc in rw (← z) (ap taken (o .said), follows-back (o .ready) f (o .follows));
+        unused = λ v h. nothing-back (o .ready) f (λ k l. blank-at (pos 0) 8 k);
+      })

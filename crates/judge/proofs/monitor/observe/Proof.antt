@@ -81,8 +81,8 @@ returns-2 c =
 abbrev answered : tie.After-rows3 → tie.After-enum-told
 answered c = c .before .before
 
-from-rows-requires : tie.Need-from-rows-requires
-from-rows-requires c κs =
+read-back-requires : tie.Need-read-back-requires
+read-back-requires c κs =
     let o = answered c .before .before in
     let p = plan o in
     let e = test p in
@@ -90,14 +90,13 @@ from-rows-requires c κs =
 
 returns-3 : tie.Need-returns-3
 returns-3 c =
-    let b = c .before in
-    let a = answered (b .before) in
+    let a = answered (c .before) in
     let o = a .before .before in
     let p = plan o in
     let e = test p in
-    answered-rows (monitor e) (within e) (p .plan-of .ensures) (kept o .before .keep-held .ensures) (takes o) (a .enum-told .given .1) (b .from-rows .ensures)
+    answered-rows (monitor e) (within e) (p .plan-of .ensures) (kept o .before .keep-held .ensures) (takes o) (a .enum-told .given .1) (c .read-back .ensures)
 
 pub observe-spec : {M : Type 1} → statement M
 observe-spec =
     tie.close (tie.spec (λ c κs. search needs) (λ c κs. search needs) returns plan-of-requires keep-held-requires (λ c κs. search needs) observe-rows-requires
-    (λ c. search needs) (λ c κs. search needs) (λ c. search needs) from-rows-requires returns-2 returns-3)
+    (λ c. search needs) (λ c κs. search needs) (λ c. search needs) read-back-requires returns-2 returns-3)

@@ -7,10 +7,11 @@ use borrow.Author.Needs.{needs}
 use Rattle.records.specs.Types.{IsBytes}
 use Rattle.judge.specs.Plan.{numbers}
 use Rattle.judge.specs.Rows.{width, words, headRows}
+use Rattle.judge.specs.Settle.{SmallIn}
 use Rattle.judge.specs.Monitor.{refusal}
 use Rattle.judge.proofs.rows.Placing.{blank-at}
 use Rattle.judge.proofs.monitor.Bytes.{all-bytes}
-use Rattle.judge.proofs.monitor.Opened.{prepares-read, opened-refused, opened-done}
+use Rattle.judge.proofs.monitor.Opened.{prepares-read, opened-refused, opened-rows, opened-done}
 use Rattle.judge.proofs.monitor.open.Statement.{statement}
 use Rattle.judge.proofs.monitor.open.Tie as tie
 
@@ -35,24 +36,35 @@ begin-rows-requires c κs = record { size = length-replicate {A = ℕ} words 0; 
 abbrev planned : tie.After-begin-rows → tie.After-plan-of
 planned b = b .before .before
 
-say-rows-requires : tie.Need-say-rows-requires
-say-rows-requires c κs = let b = c .before .begin-rows .ensures in (omega arith, (omega arith, λ k h. b .small .1 k (omega arith)))
+-- the rows hold one remainder
+module _ (f : tie.After-first-kept) where
+  abbrev begun : tie.After-begin-rows
+  begun = f .before
 
-from-rows-requires : tie.Need-from-rows-requires
-from-rows-requires c κs =
-    let b = c .before .before .before in
-    record { side = omega arith; small = (omega arith, λ k h. b .begin-rows .ensures .small .1 k (omega arith)); plan = planned b .plan-of .ensures .fits }
+  held : SmallIn (f .first-kept .result .count) (f .before .begin-rows .last .0) headRows
+  held = rw (f .first-kept .ensures) (begun .begin-rows .ensures .small)
+
+say-rows-requires : tie.Need-say-rows-requires
+say-rows-requires c κs = (omega arith, held (c .before))
+
+read-back-requires : tie.Need-read-back-requires
+read-back-requires c κs =
+    let f = c .before .before .before in
+    let p = planned (begun f) in
+    rw (f .first-kept .ensures) (record { side = omega arith; small = begun f .begin-rows .ensures .small; plan = p .plan-of .ensures .fits })
 
 returns-2 : tie.Need-returns-2
 returns-2 c =
     let s = c .before .before in
-    let b = s .before .before in
+    let f = s .before .before in
+    let b = begun f in
     let p = planned b in
     let t = p .before .before in
     let r = read t in
-    opened-done _ (r .read-sheet .result) (r .read-sheet .ensures) (p .plan-of .ensures) (b .begin-rows .ensures) (c .from-rows .ensures) (read-bytes (r .before)) (t .enum-told .given .1) (s .say-rows .ensures)
+    let o = opened-rows _ (r .read-sheet .result) (r .read-sheet .ensures) (p .plan-of .ensures) (b .begin-rows .ensures) (read-bytes (r .before)) (t .enum-told .given .1) (rw (f .first-kept .ensures) at (s .say-rows .ensures)) in
+    opened-done _ (r .read-sheet .result) (r .read-sheet .ensures) o (rw (f .first-kept .ensures) at (c .read-back .ensures))
 
 pub open-spec : {M : Type 1} → statement M
 open-spec =
     tie.close (tie.spec (λ c κs. search needs) (λ c. search needs) (λ c κs. search needs) (λ c κs. search needs)
-    (λ c. search needs) plan-of-requires begin-rows-requires say-rows-requires from-rows-requires returns returns-2)
+    (λ c. search needs) plan-of-requires begin-rows-requires (λ c κs. search needs) say-rows-requires read-back-requires returns returns-2)

@@ -1,0 +1,77 @@
+-- A log's instants, read one by one: as many are taken as the machine of any sheet with these clocks takes. Assumes nothing.
+use mathlib.Core.Bool.{false}
+use mathlib.Core.List.{List, [], _∷_, _++_}
+use mathlib.Core.Path.{_≡_, refl, sym, ap, _∙_}
+use Prim.Native.Nat.{ℕ, suc, _+_, _≤_, _<_}
+use native.Mathlib.Omega.{arith}
+use lib.ListN.{length, drop, length-append, drop-of-length-le}
+use lib.Dec.{leb}
+use borrow.Author.Tests.{lt-leb}
+use Rattle.records.specs.declared.record.Answer.the-variants.{Done, Refused}
+use Rattle.records.specs.declared.instant.InstantRead.{InstantRead}
+use Rattle.records.specs.Outcome.{Outcome, taken, refused}
+use Rattle.records.specs.Record.{TheRecord}
+use Rattle.records.specs.Sheet.{SheetValue}
+use Rattle.records.specs.Instant.{readInstant, instantRead}
+use Rattle.records.proofs.record.Cut.{no-pieces}
+use Rattle.records.proofs.instant.Read.{read-refused, read-done}
+use Rattle.tesl.specs.Run.{Instant}
+use Rattle.tesl.specs.Machine.{accepts, machine, callsOf}
+use Rattle.theory.proofs.Log.{next-replies}
+use Rattle.judge.specs.Entry.{answersFrom}
+use Rattle.judge.specs.Records.{Counted}
+use Rattle.judge.proofs.log.Answers.{answers-few}
+
+-- ---- a turn
+
+-- for every sheet with these clocks: a run of those counted, and those the machine takes after it
+pub record Ahead (log : List ℕ) (n at : ℕ) (s : SheetValue) : Type 0 where
+  pub run : List Instant
+  pub counted : length run ≡ n
+  pub all : length (answersFrom s [] log) ≡ n + length (answersFrom s run (drop at log))
+
+pub record Counting (log : List ℕ) (clocks n at : ℕ) : Type 0 where
+  pub most : n ≤ 4000
+  pub ends : at ≤ length log
+  pub same : (s : SheetValue) → s .clocks ≡ clocks → Ahead log n at s
+
+pub counting-start : (log : List ℕ) (clocks : ℕ) → Counting log clocks 0 0
+counting-start log clocks = record { most = omega arith; ends = omega arith; same = λ s e. record { run = []; counted = refl; all = omega arith } }
+
+module _ {log : List ℕ} {clocks n at : ℕ} (w : Counting log clocks n at) where
+  -- the machine takes no more
+  counted : ((s : SheetValue) (run : List Instant) → s .clocks ≡ clocks → length run ≡ n → length (answersFrom s run (drop at log)) ≡ 0) → Counted log clocks n
+  counted none = record { most = w .most; same = λ s e. let a = w .same s e in omega (arith, a .all, none s (a .run) e (a .counted)) }
+
+  pub counted-end : length log ≤ at → Counted log clocks n
+  unfolding machine
+  counted-end h = counted (λ s run e c. rw (drop-of-length-le log {i = at} h, no-pieces))
+
+  pub counted-full : 4000 ≤ n → Counted log clocks n
+  counted-full h = counted (λ s run e c. omega (arith, answers-few s run (callsOf (drop at log)) (omega (arith, w .most))))
+
+  module _ {p : List ℕ} (h : TheRecord log at p) {x : InstantRead} (r : x ≡ instantRead (readInstant clocks p)) where
+    pub counted-refused : {k : ℕ} → x .answer ≡ Refused k → Counted log clocks n
+    unfolding accepts
+    counted-refused q =
+        let k = read-refused (readInstant clocks p) (sym (ap (λ (y : InstantRead). y .answer) r) ∙ q) in
+        counted (λ s run e c. rw (next-replies h s run, e, k))
+
+    pub counting-more : n < 4000 → x .answer ≡ Done → Counting log clocks (n + 1) (at + length p)
+    unfolding accepts
+    counting-more l q =
+        let d = read-done (readInstant clocks p) (sym (ap (λ (y : InstantRead). y .answer) r) ∙ q) in
+        record {
+          most = omega arith;
+          ends = h .within;
+          same = λ s e.
+              let a = w .same s e in
+              let f : leb 4000 (length (a .run)) ≡ false = lt-leb 4000 (length (a .run)) (omega (arith, a .counted)) in
+              let m : length (answersFrom s (a .run) (drop at log))
+              ≡ suc (length (answersFrom s (a .run ++ (d .cells ∷ [])) (drop (at + length p) log))) = rw (next-replies h s (a .run), ap (λ (c : ℕ). readInstant c p) e ∙ d .is, f) in
+              record {
+                run = a .run ++ (d .cells ∷ []);
+                counted = omega (arith, a .counted, length-append (a .run) (d .cells ∷ []));
+                all = omega (arith, a .all, m);
+              };
+        }
