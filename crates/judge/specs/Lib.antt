@@ -53,3 +53,4 @@ pub mod Records
 pub mod State
 pub mod RowsLimits
 pub mod Live
+pub mod Found

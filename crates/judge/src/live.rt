@@ -1,8 +1,93 @@
 // The monitor in a state of words that the caller lends: opened with a sheet, called instant by instant; between calls the words are all there is.
 use crate::answer::Reply;
+use crate::kept::Kept;
+use crate::plan::NUMBERS;
+use crate::plan::Plan;
+use crate::plan::plan_of;
+use crate::rows::SIZE;
+use crate::rows_limits::rows_within;
+use crate::state::is_state;
+use crate::state::kept_in;
+use crate::state::sheet_in;
+use records::number;
+use records::record::Answer;
+use records::sheet::check_sheet;
+ghost use mathlib.Core.Path.{_≡_};
+ghost use lib.ListN.{length};
+ghost use Rattle.judge.specs.Plan.{numbers, Fitting};
+ghost use Rattle.judge.specs.Found.{NothingFound, FoundIn};
 
 // What a call on a state gives: its reply, and the instants that the state then holds.
 pub struct Replied {
     pub reply: Reply,
     pub instants: usize,
+}
+
+// ok: the words are a monitor within its limits; then what it keeps beside its sheet and its rows, and its plan.
+pub struct Found {
+    pub ok: bool,
+    pub kept: Kept,
+    pub plan: Plan,
+}
+
+// How many words are lent: what the array's type says, told where it is lent as a slice.
+fn lent_words(state: &[u32]) -> usize
+    ensures { λ r. ⌜ r ≡ length (now (state .entry)) ⌝ }
+{
+    state.len()
+}
+
+// The plan of no line, where there is no monitor.
+fn no_plan() -> Plan
+    ensures { λ p. ⌜ Fitting p ⌝ }
+{
+    let precede = [false; 16];
+    let named = [false; 8];
+    Plan {
+        clocks: 0,
+        relations: 0,
+        rules: 0,
+        delays: 0,
+        reach: 0,
+        precede,
+        named,
+    }
+}
+
+fn nothing_found(kept: Kept) -> Found
+    ensures { λ r. ⌜ NothingFound kept r ⌝ }
+{
+    let plan = no_plan();
+    Found {
+        ok: false,
+        kept,
+        plan,
+    }
+}
+
+// Whether the words are a monitor within its limits, and what is found out about its sheet: its lines go to `lines`.
+fn find_state(state: &[u32; SIZE], lines: &mut [u32; NUMBERS]) -> Found
+    requires { ⌜ length (now lines) ≡ numbers ⌝ }
+    ensures { λ r. ⌜ FoundIn (now (state .entry)) r (now (lines .exit)) ⌝ }
+{
+    let _all = lent_words(state);
+    let kept = kept_in(state);
+    if !is_state(state) {
+        return nothing_found(kept);
+    }
+    let sheet = sheet_in(state);
+    match check_sheet(sheet) {
+        Answer::Refused(_) => nothing_found(kept),
+        Answer::Done => {
+            let instants = kept.instants;
+            if number::MAX_INSTANTS < instants {
+                return nothing_found(kept);
+            }
+            let plan = plan_of(sheet, lines);
+            let from = kept.from;
+            let count = kept.count;
+            let ok = rows_within(state, from, count, plan, instants);
+            Found { ok, kept, plan }
+        }
+    }
 }

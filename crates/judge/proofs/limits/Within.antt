@@ -32,7 +32,7 @@ few v (taken w) e t = ltb-false 16 (length (v .lines)) (taken-passed (sheetValue
 few v (refused n) e t = let z : _≡_ {A = ℕ} 0 1 = cc in absurd (omega arith)
 
 module _ (m : Monitor) (a : Answer) (h : Checked (m .sheet) a) where
-  sheet-kept : a ≡ Done → sheetWithin (sheetValue (m .sheet)) ≡ true
+  pub sheet-kept : a ≡ Done → sheetWithin (sheetValue (m .sheet)) ≡ true
   unfolding sheetWithin
   sheet-kept e = done-taken (decide (sheetValueChecks (sheetValue (m .sheet))) (sheetValue (m .sheet))) (sym (h .answer) ∙ e)
 
