@@ -1,1 +1,3 @@
 pub mod Finding
+pub mod Keeping
+pub mod Observing

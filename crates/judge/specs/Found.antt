@@ -1,15 +1,22 @@
--- A monitor found in a state of words: what the inner function of the calls on a state tells.
+-- A monitor found in a state of words, and one stored there after an instant: what the inner functions of the calls on a state promise.
 use mathlib.Core.Bool.{true, false}
 use mathlib.Core.List.{List}
 use mathlib.Core.Path.{_≡_}
-use Prim.Native.Nat.{ℕ}
+use Prim.Native.Nat.{ℕ, _-_, _≤_, _<_}
 use lib.ListN.{length}
+use Rattle.records.specs.Sheet.{SheetValue}
+use Rattle.tesl.specs.Answer.{mostLive}
 use Rattle.judge.specs.declared.kept.Kept.{Kept}
+use Rattle.judge.specs.declared.plan.Plan.{Plan}
 use Rattle.judge.specs.declared.live.Found.{Found}
-use Rattle.judge.specs.Plan.{Fitting}
-use Rattle.judge.specs.Rows.{words}
+use Rattle.judge.specs.View.{liveCount}
+use Rattle.judge.specs.Plan.{Fitting, Planned}
+use Rattle.judge.specs.Rows.{words, headRows, width, sides, word, RowsStay}
+use Rattle.judge.specs.Settle.{Side, foundIn, SmallIn}
+use Rattle.judge.specs.Fill.{workedRows}
+use Rattle.judge.specs.UnusedWords.{NothingBeside}
 use Rattle.judge.specs.Kept.{Ready}
-use Rattle.judge.specs.State.{stateSheet, stateKept}
+use Rattle.judge.specs.State.{isState, stateSheet, stateKept}
 use Rattle.judge.specs.Live.{stateWithin}
 
 -- no monitor, beside what is kept
@@ -26,3 +33,26 @@ pub record FoundIn (w : List ℕ) (f : Found) (lines : List ℕ) : Type 0 where
   pub kept : f .kept ≡ stateKept w
   pub plan : Fitting (f .plan)
   pub ready : f .ok ≡ true → Ready (stateSheet w) (stateKept w) (f .plan) lines w
+
+-- ---- after an accepted instant
+
+-- those held before it, kept by k, on one side; those found on the other, to be kept by next
+pub record KeepingNext (rows : List ℕ) (k next : Kept) (p : Plan) : Type 0 where
+  pub size : length rows ≡ words
+  pub side : Side (k .from)
+  pub to : next .from ≡ sides - k .from
+  pub held : liveCount (k .count) ≤ mostLive
+  pub small : SmallIn (next .count) rows (next .from)
+  pub plan : Fitting p
+  pub instants : next .instants ≤ 4000
+
+-- next is kept, and those found are as before, for every sheet that the plan is of; of the head only the monitor beside its sheet changes
+pub record KeptNext (p : Plan) (k next : Kept) (a b : List ℕ) : Type 0 where
+  pub head : (h q : ℕ) → h < headRows → q < width → (h ≡ 0 → 3 ≤ q → q < 16 → ⊥) → word b h q ≡ word a h q
+  pub state : isState a ≡ true → isState b ≡ true
+  pub sheet : stateSheet b ≡ stateSheet a
+  pub kept : stateKept b ≡ next
+  pub small : SmallIn (next .count) b (next .from)
+  pub found : (v : SheetValue) (lines : List ℕ) → Planned v p lines → foundIn v (next .count) b (next .from) ≡ foundIn v (next .count) a (next .from)
+  -- nothing is beside them, if nothing was beside those held before the instant, in the words `before`
+  pub nothing : (before : List ℕ) → NothingBeside p (k .count) (k .from) before → RowsStay (sides - k .from) (workedRows (k .count) (next .count)) before a → NothingBeside p (next .count) (next .from) b

@@ -1,6 +1,8 @@
 // The monitor in a state of words that the caller lends: opened with a sheet, called instant by instant; between calls the words are all there is.
 use crate::answer::Reply;
 use crate::kept::Kept;
+use crate::kept::observe_rows;
+use crate::list::LIST;
 use crate::plan::NUMBERS;
 use crate::plan::Plan;
 use crate::plan::plan_of;
@@ -8,14 +10,17 @@ use crate::rows::SIZE;
 use crate::rows_limits::rows_within;
 use crate::state::is_state;
 use crate::state::kept_in;
+use crate::state::put_kept;
 use crate::state::sheet_in;
+use crate::unused::tidy;
 use records::number;
 use records::record::Answer;
 use records::sheet::check_sheet;
 ghost use mathlib.Core.Path.{_≡_};
 ghost use lib.ListN.{length};
 ghost use Rattle.judge.specs.Plan.{numbers, Fitting};
-ghost use Rattle.judge.specs.Found.{NothingFound, FoundIn};
+ghost use Rattle.judge.specs.Live.{ObservedIn};
+ghost use Rattle.judge.specs.Found.{NothingFound, FoundIn, KeepingNext, KeptNext};
 
 // What a call on a state gives: its reply, and the instants that the state then holds.
 pub struct Replied {
@@ -88,6 +93,46 @@ fn find_state(state: &[u32; SIZE], lines: &mut [u32; NUMBERS]) -> Found
             let count = kept.count;
             let ok = rows_within(state, from, count, plan, instants);
             Found { ok, kept, plan }
+        }
+    }
+}
+
+// Stores the monitor after an accepted instant, once the words that no remainder uses are cleared.
+fn keep_next(state: &mut [u32; SIZE], kept: Kept, next: Kept, plan: Plan)
+    requires { ⌜ KeepingNext (now state) kept next plan ⌝ }
+    ensures { λ _. ⌜ KeptNext plan kept next (now (state .entry)) (now (state .exit)) ⌝ }
+{
+    let from = kept.from;
+    let was = kept.count;
+    let count = next.count;
+    tidy(state, from, was, count, plan);
+    put_kept(state, next);
+}
+
+// Takes an instant: refused, the number, and no word changes; accepted, the answer, and the words are the monitor after it. Beside either, the instants that the state then holds.
+pub fn observe_state(state: &mut [u32; SIZE], bytes: &[u8]) -> Replied
+    ensures { λ r. ⌜ ObservedIn (now (bytes .entry)) r (now (state .entry)) (now (state .exit)) ⌝ }
+{
+    let mut lines = [0u32; NUMBERS];
+    let found = find_state(state, &mut lines);
+    if !found.ok {
+        return Replied {
+            reply: Reply::Refused(number::MONITOR_LIMITS),
+            instants: 0,
+        };
+    }
+    let kept = found.kept;
+    let plan = found.plan;
+    let mut list = [false; LIST];
+    let told = observe_rows(kept, plan, &lines, bytes, state, &mut list);
+    let reply = told.reply;
+    let next = told.kept;
+    let instants = next.instants;
+    match reply {
+        Reply::Refused(_) => Replied { reply, instants },
+        Reply::Answered(_) => {
+            keep_next(state, kept, next, plan);
+            Replied { reply, instants }
         }
     }
 }

@@ -35,7 +35,7 @@ among-rows {X} h first n among apart = by-tests (ltb h first) refl (ltb h (first
 -- ---- a row
 
 -- whose words are the same
-nothing-same : {p : Plan} (a b : List ℕ) (i : ℕ) → ((q : ℕ) → q < width → word b i q ≡ word a i q) → NothingInRow p a i → NothingInRow p b i
+pub nothing-same : {p : Plan} (a b : List ℕ) (i : ℕ) → ((q : ℕ) → q < width → word b i q ≡ word a i q) → NothingInRow p a i → NothingInRow p b i
 nothing-same a b i same n =
     let e = same 0 (omega arith) in
     record {
@@ -47,7 +47,7 @@ nothing-same a b i same n =
     }
 
 -- of zeros
-nothing-zero : (p : Plan) (rows : List ℕ) (i : ℕ) → ((q : ℕ) → q < width → word rows i q ≡ 0) → NothingInRow p rows i
+pub nothing-zero : (p : Plan) (rows : List ℕ) (i : ℕ) → ((q : ℕ) → q < width → word rows i q ≡ 0) → NothingInRow p rows i
 nothing-zero p rows i zero =
     record {
       clocks = λ j l m. zero (1 + j) (omega arith);
@@ -107,7 +107,7 @@ module _ {p : Plan} {from n : ℕ} {was : List ℕ} where
 
 -- where their words are the same
 module _ (a b : List ℕ) (to : ℕ) where
-  abbrev SameRows : ℕ → Type 0
+  abbrev pub SameRows : ℕ → Type 0
   SameRows n = (k q : ℕ) → k < n → q < width → word b (to + k) q ≡ word a (to + k) q
 
   -- where each reads the same
@@ -128,10 +128,10 @@ few-live Exhausted rows to s = omega arith
 few-live (Live n) rows to s = s .0
 
 module _ (a b : List ℕ) (to : ℕ) (count : Count) (same : SameRows a b to (liveCount count)) (s : SmallIn count a to) where
-  small-same : SmallIn count b to
+  pub small-same : SmallIn count b to
   small-same = small-by a b to count (λ k l. same k 0 l (omega arith)) s
 
-  found-same : (v : SheetValue) → foundIn v count b to ≡ foundIn v count a to
+  pub found-same : (v : SheetValue) → foundIn v count b to ≡ foundIn v count a to
   found-same v = found-by a b to v count (λ k l. ap (cut v) (row-same a b (to + k) (few-each count a to s k l) (λ q m. same k q l m)))
 
 -- the row after them is cleared

@@ -1,0 +1,83 @@
+-- A monitor stored after an instant: its rows are as they were found, and the head but for the monitor beside the sheet. Assumes nothing.
+use mathlib.Core.Bool.{Bool, true, _&&_}
+use mathlib.Core.List.{List}
+use mathlib.Core.Path.{_≡_, refl, sym, ap, _∙_, subst}
+use Prim.Native.Nat.{ℕ, _+_, _-_, _≤_, _<_}
+use native.Mathlib.Omega.{arith}
+use lib.Dec.{T}
+use lib.ListN.{length}
+use Rattle.records.specs.Sheet.{SheetValue}
+use Rattle.records.proofs.Lists.{both}
+use Rattle.judge.specs.declared.held.Count.{Count}
+use Rattle.judge.specs.declared.held.Count.the-variants.{Exhausted, Live}
+use Rattle.judge.specs.declared.kept.Kept.{Kept}
+use Rattle.judge.specs.declared.plan.Plan.{Plan}
+use Rattle.judge.specs.View.{liveCount}
+use Rattle.judge.specs.Plan.{Planned}
+use Rattle.judge.specs.Rows.{words, headRows, height, width, sides, word, RowsStay}
+use Rattle.judge.specs.Settle.{Side, foundIn, SmallIn}
+use Rattle.judge.specs.Fill.{workedRows}
+use Rattle.judge.specs.UnusedWords.{NothingBeside}
+use Rattle.judge.specs.Cleared.{Tidying, Tidied}
+use Rattle.judge.specs.State.{hasFormat, hasKinds, isSide, isCase, isState, stateSheet, stateKept, FewIn, PuttingKept, PutKept}
+use Rattle.judge.specs.Found.{KeepingNext, KeptNext}
+use Rattle.judge.proofs.kept.Laws.{other-side}
+use Rattle.judge.proofs.unused.Sides.{SameRows, few-live, small-same, found-same, nothing-same}
+use Rattle.judge.proofs.state.Laws.{side-is}
+use Rattle.judge.proofs.state.Same.{sheet-beside, sheet-stays, state-stays}
+
+pub few-in : (c : Count) (rows : List ℕ) (from : ℕ) → SmallIn c rows from → FewIn c
+few-in Exhausted rows from s = tt
+few-in (Live n) rows from s = s .0
+
+-- nothing is beside those held, where the rows behind the head stay
+pub beside-same : {p : Plan} (count : Count) (from : ℕ) (a b : List ℕ) → headRows ≤ from → ((h q : ℕ) → headRows ≤ h → q < width → word b h q ≡ word a h q) → NothingBeside p count from a → NothingBeside p count from b
+beside-same count from a b past same n = record {
+  others = λ h q l m k f. same h q l k ∙ n .others h q l m k f;
+  each = λ k l. nothing-same a b (from + k) (λ q m. same (from + k) q (omega arith) m) (n .each k l);
+}
+
+module _ (k next : Kept) (p : Plan) {a : List ℕ} (can : KeepingNext a k next p) where
+  pub can-tidy : Tidying a (k .from) (k .count) (next .count) p
+  can-tidy = record { side = can .side; held = can .held; small = subst (SmallIn (next .count) a) (can .to) (can .small); plan = can .plan }
+
+  module _ {c : List ℕ} (t : Tidied p (k .from) (k .count) (next .count) a c) where
+    small : SmallIn (next .count) c (next .from)
+    small = subst (SmallIn (next .count) c) (sym (can .to)) (t .small)
+
+    pub can-put : PuttingKept c next
+    can-put = record {
+      size = t .size ∙ can .size;
+      instants = can .instants;
+      few = few-in (next .count) c (next .from) small;
+      side = subst (λ (n : ℕ). T (isSide n)) (sym (can .to)) (side-is (45 - k .from) (other-side (can .side)));
+    }
+
+    module _ {b : List ℕ} (q : PutKept next c b) where
+      -- the rows behind the head
+      behind : (h j : ℕ) → 6 ≤ h → j < width → word b h j ≡ word c h j
+      behind h j l m = q .stays .same h j m (λ e x y. omega arith)
+
+      past : 6 ≤ next .from
+      past = omega (arith, can .side .past, can .to)
+
+      same : SameRows c b (next .from) (liveCount (next .count))
+      same j i l m = behind (next .from + j) i (omega (arith, past)) m
+
+      state : isState a ≡ true → isState b ≡ true
+      unfolding isState
+      state e = q .state ∙ both (hasFormat c && hasKinds c) (state-stays a c (t .head) ∙ e) .0
+
+      pub kept-next : KeptNext p k next a b
+      kept-next = record {
+        head = λ h j l m f. q .stays .same h j m f ∙ t .head h j l m;
+        state = state;
+        sheet = sheet-beside c b (q .stays) ∙ sheet-stays a c (t .head);
+        kept = q .kept;
+        small = small-same c b (next .from) (next .count) same small;
+        found = λ v lines planned.
+            found-same c b (next .from) (next .count) same small v
+            ∙ subst (λ (n : ℕ). foundIn v (next .count) c n ≡ foundIn v (next .count) a n) (sym (can .to)) (t .found v lines planned);
+        nothing = λ before n s. beside-same (next .count) (next .from) c b past behind
+            (subst (λ (n : ℕ). NothingBeside p (next .count) n c) (sym (can .to)) (t .nothing before n s));
+      }

@@ -1,0 +1,17 @@
+-- `keep_next` meets its contract: the rows are tidied, then the monitor beside its sheet is stored. Assumes nothing.
+use borrow.Author.Needs.{needs}
+use Rattle.judge.proofs.live.Keeping.{can-tidy, can-put, kept-next}
+use Rattle.judge.proofs.live.keep_next.Statement.{statement}
+use Rattle.judge.proofs.live.keep_next.Tie as tie
+
+tidy-requires : tie.Need-tidy-requires
+tidy-requires c κs = let s = c .before in can-tidy (s .args .kept) (s .args .next) (s .args .plan) (s .pre)
+
+put-kept-requires : tie.Need-put-kept-requires
+put-kept-requires c κs = let t = c .before in let s = t .before .before in can-put (s .args .kept) (s .args .next) (s .args .plan) (s .pre) (t .tidy .ensures)
+
+returns : tie.Need-returns
+returns c = let t = c .before .before in let s = t .before .before in kept-next (s .args .kept) (s .args .next) (s .args .plan) (s .pre) (t .tidy .ensures) (c .put-kept .ensures)
+
+pub keep-next-spec : {M : Type 1} → statement M
+keep-next-spec = tie.close (tie.spec tidy-requires put-kept-requires returns)
