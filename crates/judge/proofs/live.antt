@@ -1,3 +1,5 @@
 pub mod Finding
 pub mod Keeping
 pub mod Observing
+pub mod Opening
+pub mod Reading

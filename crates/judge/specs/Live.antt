@@ -16,9 +16,10 @@ use Rattle.theory.specs.Seen.{SeenJudged}
 use Rattle.judge.specs.declared.answer.Reply.{Reply}
 use Rattle.judge.specs.declared.answer.Reply.the-variants.{Refused}
 use Rattle.judge.specs.declared.live.Replied.{Replied}
+use Rattle.judge.specs.declared.monitor.Given.{Given}
 use Rattle.judge.specs.Answer.{replyOf, saidBy}
 use Rattle.judge.specs.Limits.{within}
-use Rattle.judge.specs.Monitor.{heldBy}
+use Rattle.judge.specs.Monitor.{heldBy, noMonitor, refusal}
 use Rattle.judge.specs.Kept.{given}
 use Rattle.judge.specs.Promises.{Follows, observes, Accepted}
 use Rattle.judge.specs.State.{isState, stateMonitor}
@@ -64,6 +65,14 @@ pub record SaidIn (r : Replied) (w : List ℕ) : Type 0 where
   pub outside : stateWithin w ≡ false → r .reply ≡ Refused 11
   pub inside : stateWithin w ≡ true → replyOf (r .reply) ≡ taken (saidBy (heldBy (stateMonitor w)))
   pub instants : r .instants ≡ instantsIn w
+
+-- ---- the monitor as a struct
+
+-- 11 and no monitor; or the last answer, and a struct within its limits that follows whatever the words follow
+pub record GivenIn (r : Given) (w : List ℕ) : Type 0 where
+  pub outside : stateWithin w ≡ false → r ≡ refusal 11 noMonitor
+  pub inside : stateWithin w ≡ true → (replyOf (r .reply) ≡ taken (saidBy (heldBy (stateMonitor w)))) × (within (r .monitor) ≡ true)
+  pub follows : (s : SheetValue) (run : List Instant) → FollowsIn s run w → Follows s run (r .monitor)
 
 -- ---- demands 2 and 3: each hypothesis is what a call ensures
 

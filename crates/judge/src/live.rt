@@ -1,25 +1,45 @@
 // The monitor in a state of words that the caller lends: opened with a sheet, called instant by instant; between calls the words are all there is.
 use crate::answer::Reply;
+use crate::answer::say_rows;
+use crate::held::Count;
+use crate::held::Held;
 use crate::kept::Kept;
+use crate::kept::first_kept;
 use crate::kept::observe_rows;
 use crate::list::LIST;
+use crate::monitor::Given;
+use crate::monitor::Monitor;
+use crate::monitor::blank_monitor;
+use crate::monitor::refuse;
 use crate::plan::NUMBERS;
 use crate::plan::Plan;
 use crate::plan::plan_of;
+use crate::rows::HEAD;
 use crate::rows::SIZE;
+use crate::rows::clear_words;
 use crate::rows_limits::rows_within;
+use crate::start::begin_rows;
 use crate::state::is_state;
 use crate::state::kept_in;
+use crate::state::put_format;
 use crate::state::put_kept;
+use crate::state::put_sheet;
 use crate::state::sheet_in;
+use crate::stored::from_rows;
 use crate::unused::tidy;
+use records::line::Line;
+use records::line::Slot;
 use records::number;
 use records::record::Answer;
+use records::sheet::Sheet;
 use records::sheet::check_sheet;
+use records::sheet::read_sheet;
 ghost use mathlib.Core.Path.{_≡_};
+ghost use mathlib.Core.List.{[]};
 ghost use lib.ListN.{length};
+ghost use Rattle.records.specs.Sheet.{sheetOf, readSheet};
 ghost use Rattle.judge.specs.Plan.{numbers, Fitting};
-ghost use Rattle.judge.specs.Live.{ObservedIn};
+ghost use Rattle.judge.specs.Live.{OpenedIn, ObservedIn, SaidIn, GivenIn};
 ghost use Rattle.judge.specs.Found.{NothingFound, FoundIn, KeepingNext, KeptNext};
 
 // What a call on a state gives: its reply, and the instants that the state then holds.
@@ -109,6 +129,28 @@ fn keep_next(state: &mut [u32; SIZE], kept: Kept, next: Kept, plan: Plan)
     put_kept(state, next);
 }
 
+// Opens a sheet: refused, the number, and no word changes; else the answer for no instant, and the words are the monitor, whatever they were.
+pub fn open_state(bytes: &[u8], state: &mut [u32; SIZE]) -> Reply
+    ensures { λ r. ⌜ OpenedIn readSheet (now (bytes .entry)) r (now (state .entry)) (now (state .exit)) ⌝ }
+{
+    let read = read_sheet(bytes);
+    let sheet = read.sheet;
+    let answer = read.answer;
+    match answer {
+        Answer::Refused(n) => Reply::Refused(n),
+        Answer::Done => {
+            let _all = lent_words(state);
+            clear_words(state, 0, SIZE);
+            begin_rows(state, sheet);
+            put_format(state);
+            put_sheet(state, sheet);
+            put_kept(state, first_kept());
+            let count = Count::Live(1);
+            Reply::Answered(say_rows(state, HEAD, count))
+        }
+    }
+}
+
 // Takes an instant: refused, the number, and no word changes; accepted, the answer, and the words are the monitor after it. Beside either, the instants that the state then holds.
 pub fn observe_state(state: &mut [u32; SIZE], bytes: &[u8]) -> Replied
     ensures { λ r. ⌜ ObservedIn (now (bytes .entry)) r (now (state .entry)) (now (state .exit)) ⌝ }
@@ -134,5 +176,71 @@ pub fn observe_state(state: &mut [u32; SIZE], bytes: &[u8]) -> Replied
             keep_next(state, kept, next, plan);
             Replied { reply, instants }
         }
+    }
+}
+
+// The last answer, and the instants held; 11 where the words are no monitor within its limits.
+pub fn last_reply(state: &[u32; SIZE]) -> Replied
+    ensures { λ r. ⌜ SaidIn r (now (state .entry)) ⌝ }
+{
+    let mut lines = [0u32; NUMBERS];
+    let found = find_state(state, &mut lines);
+    if !found.ok {
+        return Replied {
+            reply: Reply::Refused(number::MONITOR_LIMITS),
+            instants: 0,
+        };
+    }
+    let kept = found.kept;
+    let from = kept.from;
+    let count = kept.count;
+    let instants = kept.instants;
+    let said = say_rows(state, from, count);
+    Replied {
+        reply: Reply::Answered(said),
+        instants,
+    }
+}
+
+fn no_sheet() -> Sheet
+    ensures { λ s. ⌜ s ≡ sheetOf (record { clocks = 0; lines = [] }) ⌝ }
+{
+    let line = Line::Sporadic { a: 0, b: 0, t: 0 };
+    let lines = [Slot { line }; 16];
+    Sheet {
+        clocks: 0,
+        count: 0,
+        lines,
+    }
+}
+
+// The monitor as a struct, and the last answer; 11, and no monitor, where the words are none within its limits.
+pub fn monitor_in(state: &[u32; SIZE]) -> Given
+    ensures { λ r. ⌜ GivenIn r (now (state .entry)) ⌝ }
+{
+    let mut lines = [0u32; NUMBERS];
+    let found = find_state(state, &mut lines);
+    if !found.ok {
+        return refuse(number::MONITOR_LIMITS, blank_monitor(no_sheet()));
+    }
+    let kept = found.kept;
+    let plan = found.plan;
+    let from = kept.from;
+    let count = kept.count;
+    let said = say_rows(state, from, count);
+    let remainders = from_rows(state, from, count, plan);
+    let held = Held { count, remainders };
+    let sheet = sheet_in(state);
+    let instants = kept.instants;
+    let tags = kept.tags;
+    let monitor = Monitor {
+        sheet,
+        instants,
+        tags,
+        held,
+    };
+    Given {
+        reply: Reply::Answered(said),
+        monitor,
     }
 }

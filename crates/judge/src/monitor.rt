@@ -108,7 +108,7 @@ pub fn open(bytes: &[u8]) -> Given
 }
 
 // The number, and the monitor as it came.
-fn refuse(n: u8, monitor: Monitor) -> Given
+pub(crate) fn refuse(n: u8, monitor: Monitor) -> Given
     ensures { λ r. ⌜ r ≡ refusal n monitor ⌝ }
 {
     let reply = Reply::Refused(n);

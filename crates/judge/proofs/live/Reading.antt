@@ -1,0 +1,84 @@
+-- What is read of a state: those held say the last answer, and read back they are the monitor as a struct. Assumes nothing.
+use mathlib.Core.Bool.{true, false, not}
+use mathlib.Core.List.{List, []}
+use mathlib.Core.Path.{_≡_, refl, sym, ap, ap₂, _∙_, subst}
+use Prim.Native.Nat.{ℕ, _≤_}
+use native.Mathlib.Omega.{arith}
+use lib.ListN.{length}
+use Rattle.records.specs.declared.sheet.Sheet.{Sheet}
+use Rattle.records.specs.Outcome.{taken}
+use Rattle.records.specs.Sheet.{SheetValue, sheetValue, sheetOf}
+use Rattle.judge.specs.declared.answer.Answer as code
+use Rattle.judge.specs.declared.answer.Reply.the-variants.{Answered, Refused}
+use Rattle.judge.specs.declared.remainder.Remainder as arrays
+use Rattle.judge.specs.declared.kept.Kept.{Kept}
+use Rattle.judge.specs.declared.live.Found.{Found}
+use Rattle.judge.specs.declared.monitor.Monitor.{Monitor}
+use Rattle.judge.specs.declared.monitor.Given.{Given}
+use Rattle.judge.specs.Answer.{answerOf, replyOf, saidBy}
+use Rattle.judge.specs.Settle.{foundIn, SmallIn}
+use Rattle.judge.specs.Stored.{FindingRows, FromRows}
+use Rattle.judge.specs.Monitor.{heldBy, blankMonitor, noMonitor, refusal}
+use Rattle.judge.specs.Kept.{given}
+use Rattle.judge.specs.Promises.{Follows}
+use Rattle.judge.specs.State.{stateSheet, stateCount, stateKept, stateMonitor}
+use Rattle.judge.specs.Live.{stateWithin, FollowsIn, SaidIn, GivenIn}
+use Rattle.judge.specs.Found.{FoundIn}
+use Rattle.judge.proofs.kept.Laws.{held-rows, readBack, within-back, follows-back}
+use Rattle.judge.proofs.live.Observing.{none-within, one-within, ready, side, small, instants-held, no-instants}
+
+false-true : {X : Type 0} → false ≡ true → X
+false-true e = let z : _≡_ {A = ℕ} 0 1 = cc in absurd (omega arith)
+
+module _ {w : List ℕ} {f : Found} {lines : List ℕ} (found : FoundIn w f lines) where
+  pub said-none : not (f .ok) ≡ true → SaidIn (record { reply = Refused 11; instants = 0 }) w
+  said-none out = record {
+    outside = λ e. refl;
+    inside = λ e. false-true (sym (none-within found out) ∙ e);
+    instants = sym (no-instants w (none-within found out));
+  }
+
+  pub given-none : not (f .ok) ≡ true → {s : Sheet} {m : Monitor} {r : Given} → s ≡ sheetOf (record { clocks = 0; lines = [] }) → m ≡ blankMonitor s → r ≡ refusal 11 m → GivenIn r w
+  unfolding noMonitor stateWithin
+  given-none out a b c = record {
+    outside = λ e. c ∙ ap (refusal 11) (b ∙ ap blankMonitor a);
+    inside = λ e. false-true (sym (none-within found out) ∙ e);
+    follows = λ s run g. false-true (sym (none-within found out) ∙ rw (g .state) (g .follows .limits));
+  }
+
+  module _ (is : not (f .ok) ≡ false) where
+    pub can-say : (f .kept .from ≤ 39) × SmallIn (f .kept .count) w (f .kept .from)
+    can-say = subst (λ (k : Kept). (k .from ≤ 39) × SmallIn (k .count) w (k .from)) (sym (found .kept)) (side found is .one, small found is)
+
+    pub can-read : FindingRows w (f .kept .count) (f .kept .from) (f .plan)
+    can-read = record { side = can-say .0; small = can-say .1; plan = found .plan }
+
+    abbrev Says : code.Answer → Type 0
+    Says y = (v : SheetValue) → answerOf y ≡ saidBy (foundIn v (f .kept .count) w (f .kept .from))
+
+    said : (y : code.Answer) → Says y → replyOf (Answered y) ≡ taken (saidBy (heldBy (stateMonitor w)))
+    said y says =
+        let v = sheetValue (stateSheet w) in
+        let k = stateKept w in
+        ap taken (subst (λ (x : Kept). answerOf y ≡ saidBy (foundIn v (x .count) w (x .from))) (found .kept) (says v) ∙ ap saidBy (sym (held-rows w (k .from) v (k .count))))
+
+    pub said-one : {y : code.Answer} → Says y → SaidIn (record { reply = Answered y; instants = f .kept .instants }) w
+    said-one {y} says = record {
+      outside = λ e. false-true (sym e ∙ one-within found is);
+      inside = λ e. said y says;
+      instants = ap (λ (k : Kept). k .instants) (found .kept) ∙ sym (instants-held w (one-within found is));
+    }
+
+    -- read back
+    module _ {rs : List arrays.Remainder} (read : FromRows (f .plan) (f .kept .count) (f .kept .from) rs w) where
+      back : FromRows (f .plan) (stateKept w .count) (stateKept w .from) rs w
+      back = subst (λ (k : Kept). FromRows (f .plan) (k .count) (k .from) rs w) (found .kept) read
+
+      pub given-one : {y : code.Answer} → Says y → {s : Sheet} → s ≡ stateSheet w → GivenIn (given (Answered y) (readBack s (f .kept) rs)) w
+      given-one {y} says e =
+          subst (λ (m : Monitor). GivenIn (given (Answered y) m) w) (sym (ap₂ (λ (a : Sheet) (k : Kept). readBack a k rs) e (found .kept)))
+          (record {
+            outside = λ o. false-true (sym o ∙ one-within found is);
+            inside = λ o. (said y says, within-back (ready found is) back);
+            follows = λ v run g. follows-back (ready found is) back (g .follows);
+          })
