@@ -19,12 +19,12 @@ use Rattle.judge.specs.Answer.{answerOf, replyOf, saidBy}
 use Rattle.judge.specs.Settle.{foundIn, SmallIn}
 use Rattle.judge.specs.Stored.{FindingRows, FromRows}
 use Rattle.judge.specs.Monitor.{heldBy, blankMonitor, noMonitor, refusal}
-use Rattle.judge.specs.Kept.{given}
+use Rattle.judge.specs.Kept.{given, readBack}
 use Rattle.judge.specs.Promises.{Follows}
 use Rattle.judge.specs.State.{stateSheet, stateCount, stateKept, stateMonitor}
 use Rattle.judge.specs.Live.{stateWithin, FollowsIn, SaidIn, GivenIn}
 use Rattle.judge.specs.Found.{FoundIn}
-use Rattle.judge.proofs.kept.Laws.{held-rows, readBack, within-back, follows-back}
+use Rattle.judge.proofs.kept.Laws.{held-rows, within-back, follows-back}
 use Rattle.judge.proofs.live.Observing.{none-within, one-within, ready, side, small, instants-held, no-instants}
 
 false-true : {X : Type 0} → false ≡ true → X
