@@ -1,4 +1,5 @@
 pub mod Finding
+pub mod Unused
 pub mod Keeping
 pub mod Observing
 pub mod Opening

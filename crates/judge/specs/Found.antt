@@ -2,9 +2,11 @@
 use mathlib.Core.Bool.{true, false}
 use mathlib.Core.List.{List}
 use mathlib.Core.Path.{_≡_}
-use Prim.Native.Nat.{ℕ, _-_, _≤_, _<_}
-use lib.ListN.{length}
+use Prim.Native.Nat.{ℕ, _+_, _-_, _≤_, _<_}
+use lib.IntN.{pos}
+use lib.ListN.{length, getD}
 use Rattle.records.specs.Sheet.{SheetValue}
+use Rattle.records.specs.Word.{rawOf}
 use Rattle.tesl.specs.Answer.{mostLive}
 use Rattle.judge.specs.declared.kept.Kept.{Kept}
 use Rattle.judge.specs.declared.plan.Plan.{Plan}
@@ -52,6 +54,8 @@ pub record KeptNext (p : Plan) (k next : Kept) (a b : List ℕ) : Type 0 where
   pub state : isState a ≡ true → isState b ≡ true
   pub sheet : stateSheet b ≡ stateSheet a
   pub kept : stateKept b ≡ next
+  pub gap : word b 0 7 ≡ word a 0 7
+  pub raw : (j : ℕ) → j < 8 → word b 0 (8 + j) ≡ rawOf (getD (next .tags) j (pos 0))
   pub small : SmallIn (next .count) b (next .from)
   pub found : (v : SheetValue) (lines : List ℕ) → Planned v p lines → foundIn v (next .count) b (next .from) ≡ foundIn v (next .count) a (next .from)
   -- nothing is beside them, if nothing was beside those held before the instant, in the words `before`

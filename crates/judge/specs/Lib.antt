@@ -52,5 +52,6 @@ pub mod Records
 -- a whole monitor in one array of words, and the limits of its remainders
 pub mod State
 pub mod RowsLimits
+pub mod UnusedState
 pub mod Live
 pub mod Found

@@ -6,15 +6,15 @@ use mathlib.Core.List.{List}
 use mathlib.Core.Path.{_≡_}
 use Prim.Native.Nat.{ℕ, _+_, _%_, _≤_, _<_}
 use lib.Dec.{T, eqb, leb, ltb}
-use lib.IntN.{ℤ}
-use lib.ListN.{length}
+use lib.IntN.{ℤ, pos}
+use lib.ListN.{length, getD}
 use Rattle.records.specs.declared.line.Line.{Line}
 use Rattle.records.specs.declared.line.Slot.{Slot}
 use Rattle.records.specs.declared.sheet.Sheet.{Sheet}
 use Rattle.records.specs.Lists.{listed}
 use Rattle.records.specs.Line.{blankLine}
 use Rattle.records.specs.Sheet.{slotOf, lineAt, sheetValue}
-use Rattle.records.specs.Word.{tagOf}
+use Rattle.records.specs.Word.{tagOf, rawOf}
 use Rattle.tesl.specs.Lists.{below}
 use Rattle.judge.specs.declared.held.Count.{Count}
 use Rattle.judge.specs.declared.held.Count.the-variants.{Exhausted, Live}
@@ -127,6 +127,7 @@ pub record PutCount (c : Count) (a b : List ℕ) : Type 0 where
 pub record PutTags (ts : List ℤ) (a b : List ℕ) : Type 0 where
   pub stays : Stays 0 8 16 a b
   pub tags : listed (stateTag b) 8 ≡ ts
+  pub raw : (j : ℕ) → j < 8 → word b 0 (8 + j) ≡ rawOf (getD ts j (pos 0))
 
 -- what a monitor in rows within its limits has beside its sheet
 pub record PuttingKept (rows : List ℕ) (k : Kept) : Type 0 where
@@ -139,6 +140,10 @@ pub record PuttingKept (rows : List ℕ) (k : Kept) : Type 0 where
 pub record PutKept (k : Kept) (a b : List ℕ) : Type 0 where
   pub stays : Stays 0 3 16 a b
   pub kept : stateKept b ≡ k
+  -- and no other bit of the words of the tags
+  pub raw : (j : ℕ) → j < 8 → word b 0 (8 + j) ≡ rawOf (getD (k .tags) j (pos 0))
+  -- the free word before them stays
+  pub gap : word b 0 7 ≡ word a 0 7
   pub state : isState b ≡ (hasFormat a && hasKinds a)
 
 -- ---- contracts: the sheet stored

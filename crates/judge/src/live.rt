@@ -16,7 +16,6 @@ use crate::plan::Plan;
 use crate::plan::plan_of;
 use crate::rows::HEAD;
 use crate::rows::SIZE;
-use crate::rows::clear_words;
 use crate::rows_limits::rows_within;
 use crate::start::begin_rows;
 use crate::state::is_state;
@@ -26,6 +25,8 @@ use crate::state::put_kept;
 use crate::state::put_sheet;
 use crate::state::sheet_in;
 use crate::stored::from_rows;
+use crate::unused::clear_beside;
+use crate::unused::clear_rows;
 use crate::unused::tidy;
 use records::line::Line;
 use records::line::Slot;
@@ -140,12 +141,15 @@ pub fn open_state(bytes: &[u8], state: &mut [u32; SIZE]) -> Reply
         Answer::Refused(n) => Reply::Refused(n),
         Answer::Done => {
             let _all = lent_words(state);
-            clear_words(state, 0, SIZE);
+            let mut lines = [0u32; NUMBERS];
+            let plan = plan_of(sheet, &mut lines);
+            clear_rows(state, 0, HEAD + 1);
             begin_rows(state, sheet);
+            let count = Count::Live(1);
+            clear_beside(state, HEAD, count, plan);
             put_format(state);
             put_sheet(state, sheet);
             put_kept(state, first_kept());
-            let count = Count::Live(1);
             Reply::Answered(say_rows(state, HEAD, count))
         }
     }

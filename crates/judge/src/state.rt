@@ -23,7 +23,7 @@ ghost use Prim.Native.Nat.{_%_, _≤_, _<_};
 ghost use lib.ListN.{length};
 ghost use Rattle.records.specs.Lists.{listed};
 ghost use Rattle.records.specs.Line.{blankLine};
-ghost use Rattle.records.specs.Word.{tagOf};
+ghost use Rattle.records.specs.Word.{tagOf, rawOf};
 ghost use Rattle.judge.specs.Rows.{words};
 ghost use Rattle.judge.specs.State.{stateWords, clocksBy, stateSlot, stateSheet, countBy, stateTag, stateKept, hasFormat, isKind, kindsBelow, hasKinds, isSide, isCase, isState, PutFormat, FewIn, PutCount, PutTags, PuttingKept, PutKept, PutWords, noWords, SlotWords, PutLines, PutSheet};
 
@@ -82,7 +82,7 @@ fn tag_in(w: u32) -> i16
 }
 
 fn tag_word(t: i16) -> u32
-    ensures { λ r. ⌜ tagOf (r % 65536) ≡ t ⌝ }
+    ensures { λ r. ⌜ (tagOf (r % 65536) ≡ t) × (r ≡ rawOf t) ⌝ }
 {
     raw_of(t) as u32
 }

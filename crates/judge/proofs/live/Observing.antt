@@ -5,11 +5,13 @@ use mathlib.Core.Path.{_≡_, refl, sym, ap, ap₂, _∙_, subst}
 use Prim.Native.Nat.{ℕ, _+_, _-_, _≤_, _<_}
 use native.Mathlib.Omega.{arith}
 use lib.Dec.{T}
-use lib.ListN.{length}
+use lib.IntN.{pos}
+use lib.ListN.{length, getD}
 use borrow.Author.Tests.{not-true, not-false}
 use Rattle.records.specs.declared.sheet.Sheet.{Sheet}
 use Rattle.records.specs.Outcome.{taken, refused}
 use Rattle.records.specs.Sheet.{SheetValue, sheetValue}
+use Rattle.records.specs.Word.{rawOf}
 use Rattle.records.proofs.Lists.{both, refused-taken}
 use Rattle.tesl.specs.Run.{Instant}
 use Rattle.judge.specs.declared.answer.Answer as code
@@ -24,12 +26,15 @@ use Rattle.judge.specs.declared.monitor.Given.{Given}
 use Rattle.judge.specs.View.{liveCount, heldOf, sized}
 use Rattle.judge.specs.Answer.{replyOf}
 use Rattle.judge.specs.Limits.{within}
+use Rattle.judge.specs.Plan.{Planned}
 use Rattle.judge.specs.Rows.{word, HeadStays}
+use Rattle.judge.specs.UnusedWords.{NothingBeside}
 use Rattle.judge.specs.Settle.{Side, SmallIn}
 use Rattle.judge.specs.Fill.{Working}
 use Rattle.judge.specs.Kept.{rowsHeld, keptMonitor, given, Ready, Takes}
 use Rattle.judge.specs.Promises.{observes, Accepted, Called}
 use Rattle.judge.specs.State.{isState, stateSheet, stateCount, stateKept, stateMonitor}
+use Rattle.judge.specs.UnusedState.{KeepsNothingIn}
 use Rattle.judge.specs.Live.{stateWithin, instantsIn, observesIn, ObservedIn}
 use Rattle.judge.specs.Found.{FoundIn, KeepingNext, KeptNext}
 use Rattle.judge.proofs.kept.Laws.{held-rows, small-rows, sized-rows, within-same, follows-same}
@@ -39,6 +44,7 @@ use Rattle.judge.proofs.unused.Sides.{few-live}
 use Rattle.judge.proofs.state.Laws.{side-of}
 use Rattle.judge.proofs.state.Same.{sheet-stays, state-stays}
 use Rattle.judge.proofs.live.Finding.{state-side}
+use Rattle.judge.proofs.live.Unused.{beside-in, keeps-on}
 
 abbrev pub replied : Told → Replied
 replied t = record { reply = t .reply; instants = t .kept .instants }
@@ -82,6 +88,7 @@ module _ {w : List ℕ} {f : Found} {lines : List ℕ} (found : FoundIn w f line
         refuses = λ n e. let z : 11 ≡ n = cc in (ap Refused z, refl);
         accepts = λ i e. refused-taken (sym o ∙ e);
         instants = sym (no-instants w (none-within out));
+        unused = λ i e n. refused-taken (sym o ∙ e);
       }
 
   -- ---- one is found
@@ -127,6 +134,7 @@ module _ {w : List ℕ} {f : Found} {lines : List ℕ} (found : FoundIn w f line
           record {
             refuses = λ j e. (refuses e, k .1);
             accepts = λ i e. refused-taken (ap replyOf (sym p) ∙ called .accepts i (sym call ∙ e) .answers .1);
+            unused = λ i e n. refused-taken (ap replyOf (sym p) ∙ called .accepts i (sym call ∙ e) .answers .1);
             instants = ap (λ (x : Kept). x .instants) (k .0 ∙ found .kept) ∙ sym (instants-held w one-within) ∙ ap instantsIn (sym (k .1));
           }
 
@@ -185,9 +193,22 @@ module _ {w : List ℕ} {f : Found} {lines : List ℕ} (found : FoundIn w f line
           unfolding stateWithin
           within-after = ap₂ _&&_ state-after (ap within monitor-after ∙ limits-after)
 
+          planned-after : Planned (sheetValue (stateSheet b)) (f .plan) lines
+          planned-after = subst (λ (y : Sheet). Planned (sheetValue y) (f .plan) lines) (sym sheet-after) (after .planned)
+
+          keeps : KeepsNothingIn w → KeepsNothingIn b
+          keeps n =
+              keeps-on b planned-after
+              (subst (λ (k : Kept). NothingBeside (f .plan) (k .count) (k .from) b) (sym (kept .kept))
+              (kept .nothing w (subst (λ (k : Kept). NothingBeside (f .plan) (k .count) (k .from) w) (sym (found .kept)) (beside-in w (ready .planned) n)) (takes .moved x q .stays)))
+              (λ j l. kept .raw j l ∙ ap (λ (k : Kept). rawOf (getD (k .tags) j (pos 0))) (sym (kept .kept)))
+              (λ j l. ap (λ (k : Kept). getD (k .tags) j (pos 0)) (kept .kept) ∙ takes .tags (stateSheet w) ready-kept x q j (subst (λ (y : Sheet). y .clocks ≤ j) sheet-after l))
+              w sheet-after (λ h j l m g. kept .head h j l m g ∙ head h j l m) (kept .gap ∙ head 0 7 (omega arith) (omega arith)) n
+
           pub observed-answered : ObservedIn bytes (replied t) w b
           observed-answered = record {
             refuses = λ n e. answered-refused (sym q ∙ refuses e);
             accepts = λ i e. (state-after, subst (λ (y : Monitor). Accepted (stateMonitor w) i (given (t .reply) y)) (sym monitor-after) (accepted (called .accepts i (sym call ∙ e))));
+            unused = λ i e n. keeps n;
             instants = ap (λ (k : Kept). k .instants) (sym (kept .kept)) ∙ sym (instants-held b within-after);
           }

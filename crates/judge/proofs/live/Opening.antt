@@ -1,17 +1,19 @@
--- A state opened: all words are cleared, then the remainder of no instant, the format, the sheet and the monitor beside it are stored, each where the others are not; so it follows the sheet that was read. Assumes nothing.
+-- A state opened: the head and one row are cleared, the remainder of no instant is begun there, every word that it doesn't use is cleared; then the format, the sheet and the monitor beside it are stored, each where the others are not; so it follows the sheet that was read. Assumes nothing.
 use mathlib.Core.Bool.{true}
 use mathlib.Core.List.{List, []}
 use mathlib.Core.Path.{_≡_, refl, sym, ap, _∙_, subst}
 use Prim.Native.Nat.{ℕ, _+_, _*_, _≤_, _<_}
 use native.Mathlib.Omega.{arith}
 use lib.Dec.{T}
-use lib.ListN.{length, replicate, length-replicate}
+use lib.IntN.{pos}
+use lib.ListN.{length, getD}
 use Rattle.records.specs.declared.record.Answer.the-variants as told
 use Rattle.records.specs.declared.sheet.Sheet.{Sheet}
 use Rattle.records.specs.declared.sheet.SheetRead.{SheetRead}
 use Rattle.records.specs.Outcome.{Outcome, taken, refused}
 use Rattle.records.specs.Sheet.{SheetValue, sheetValue, sheetRead, readSheet}
 use Rattle.records.specs.Types.{IsBytes}
+use Rattle.records.specs.Word.{rawOf}
 use Rattle.records.proofs.Lists.{refused-taken}
 use Rattle.records.proofs.sheet.RoundTrip.{sheetOf-value}
 use Rattle.judge.specs.declared.answer.Answer as code
@@ -19,89 +21,129 @@ use Rattle.judge.specs.declared.answer.Reply.the-variants.{Answered, Ref
 use Rattle.judge.specs.declared.held.Count.the-variants.{Live}
 use Rattle.judge.specs.declared.held.Held.{Held}
 use Rattle.judge.specs.declared.kept.Kept.{Kept}
+use Rattle.judge.specs.declared.plan.Plan.{Plan}
 use Rattle.judge.specs.View.{heldOf, sized}
 use Rattle.judge.specs.Answer.{answerOf, saidBy}
-use Rattle.judge.specs.Plan.{numbers}
-use Rattle.judge.specs.Rows.{width, words, headRows, word, ClearedWords}
+use Rattle.judge.specs.Plan.{Fitting, Planned, PlanOf}
+use Rattle.judge.specs.Rows.{width, words, headRows, word}
 use Rattle.judge.specs.Settle.{foundIn, SmallIn}
 use Rattle.judge.specs.Start.{BlankRow, BegunRows}
+use Rattle.judge.specs.UnusedWords.{NothingBeside}
+use Rattle.judge.specs.Cleared.{ClearedRows, Holding, ClearedBeside}
 use Rattle.judge.specs.Kept.{keptFirst, rowsHeld, keptMonitor}
 use Rattle.judge.specs.Promises.{Follows}
-use Rattle.judge.specs.State.{stateSheet, stateMonitor, PutFormat, PuttingKept, PutKept, PutSheet}
+use Rattle.judge.specs.State.{stateSheet, stateKept, PutFormat, PuttingKept, PutKept, PutSheet}
+use Rattle.judge.specs.UnusedState.{KeepsNothingIn}
 use Rattle.judge.specs.Live.{FollowsIn, OpenedIn}
+use Rattle.judge.proofs.rows.Placing.{blank-at}
 use Rattle.judge.proofs.kept.Laws.{held-rows, sized-rows, follows-same}
-use Rattle.judge.proofs.monitor.Opened.{follows-begun, prepares-read}
+use Rattle.judge.proofs.monitor.Opened.{follows-begun}
 use Rattle.judge.proofs.unused.Sides.{SameRows, small-same, found-same}
-use Rattle.judge.proofs.state.Same.{state-made, value-made}
+use Rattle.judge.proofs.state.Words.{words-same}
+use Rattle.judge.proofs.state.Same.{sheet-beside, state-made, value-made}
+use Rattle.judge.proofs.live.Unused.{keeps-made}
+use Rattle.judge.proofs.live.Keeping.{beside-same}
 
 refused-done : {X : Type 0} {n : ℕ} → told.Refused n ≡ told.Done → X
 refused-done e = let z : _≡_ {A = ℕ} 0 1 = cc in absurd (omega arith)
 
 -- ---- room for each part
 
-pub blank-row : {a z : List ℕ} → length a ≡ words → ClearedWords 0 words a z → BlankRow z headRows
-blank-row size zero = record { size = zero .size ∙ size; blank = λ p h. zero .zero (width * headRows + p) (omega arith) (omega arith) }
+pub blank-row : {a z : List ℕ} → length a ≡ words → ClearedRows 0 7 a z → BlankRow z headRows
+blank-row size zero = record { size = zero .stays .size ∙ size; blank = λ p h. zero .zero 6 p (omega arith) (omega arith) h }
+
+pub one-held : {p : Plan} {v : SheetValue} {z g : List ℕ} → Fitting p → BegunRows v z g → Holding g headRows (Live 1) p
+one-held fits begun = record {
+  side = record { one = omega arith; other = omega arith; past = omega arith; apart = λ k l h j e. omega arith };
+  small = begun .small;
+  plan = fits;
+}
 
 pub first-put : {k : Kept} {h : List ℕ} → k ≡ keptFirst → length h ≡ words → PuttingKept h k
 first-put e size = rw e (record { size = size; instants = omega arith; few = omega arith; side = tt })
 
 -- ---- what was read
 module _ (bytes : List ℕ) (x : SheetRead) (e : x ≡ sheetRead (readSheet bytes)) where
-  pub few-lines : IsBytes bytes → x .sheet .count ≤ 16
-  few-lines b = prepares-read bytes x e b {lines = replicate numbers 0} (length-replicate {A = ℕ} numbers 0) .few-lines
-
   pub opened-refused : {n : ℕ} → x .answer ≡ told.Refused n → (a : List ℕ) → OpenedIn readSheet bytes (Refused n) a a
   opened-refused {n} q a = by-outcome (readSheet bytes) refl (ap (λ (y : SheetRead). y .answer) (sym e) ∙ q)
     where
       by-outcome : (o : Outcome SheetValue) → readSheet bytes ≡ o → sheetRead o .answer ≡ told.Refused n → OpenedIn readSheet bytes (Refused n) a a
       by-outcome (taken s) h q = refused-done (sym q)
-      by-outcome (refused k) h q = record { refuses = λ j f. let z : n ≡ j = cc in (ap Refused z, refl); opens = λ s f. refused-taken (sym h ∙ f) }
+      by-outcome (refused k) h q = record { refuses = λ j f. let z : n ≡ j = cc in (ap Refused z, refl); opens = λ s f. refused-taken (sym h ∙ f); unused = λ s f. refused-taken (sym h ∙ f) }
 
   sheet-read : {v : SheetValue} → readSheet bytes ≡ taken v → sheetValue (x .sheet) ≡ v
   sheet-read {v} f = ap (λ (z : SheetRead). sheetValue (z .sheet)) (e ∙ ap sheetRead f) ∙ sheetOf-value v
 
   -- ---- stored in turn
-  module _ {z g f h b : List ℕ} (begun : BegunRows (sheetValue (x .sheet)) z g) (format : PutFormat g f) (sheet : PutSheet (x .sheet) f h) {k : Kept} (first : k ≡ keptFirst) (put : PutKept k h b) where
+  module _ {p : Plan} {lines a z g d f h b : List ℕ} (plan : PlanOf (x .sheet) p lines) (zero : ClearedRows 0 7 a z) (begun : BegunRows (sheetValue (x .sheet)) z g) (cleared : ClearedBeside p headRows (Live 1) g d) (format : PutFormat d f) (sheet : PutSheet (x .sheet) f h) {k : Kept} (first : k ≡ keptFirst) (put : PutKept k h b) where
     -- the rows behind the head
-    behind : (i j : ℕ) → 6 ≤ i → j < width → word b i j ≡ word g i j
+    behind : (i j : ℕ) → 6 ≤ i → j < width → word b i j ≡ word d i j
     behind i j l m =
         put .stays .same i j m (λ y u w. omega arith)
         ∙ sheet .rows i j (omega arith) m
         ∙ format .stays .same i j m (λ y u w. omega arith)
 
-    same-rows : SameRows g b headRows 1
+    same-rows : SameRows d b headRows 1
     same-rows i j l m = behind (6 + i) j (omega arith) m
 
     pub small-opened : SmallIn (Live 1) b headRows
-    small-opened = small-same g b headRows (Live 1) same-rows (begun .small)
+    small-opened = small-same d b headRows (Live 1) same-rows (cleared .small)
 
     abbrev first-in : List ℕ → Held
     first-in rows = rowsHeld (Live 1) rows headRows
 
-    same : (v : SheetValue) → heldOf v (first-in b) ≡ heldOf v (first-in g)
-    same v = held-rows b headRows v (Live 1) ∙ found-same g b headRows (Live 1) same-rows (begun .small) v ∙ sym (held-rows g headRows v (Live 1))
-
     value : sheetValue (stateSheet b) ≡ sheetValue (x .sheet)
     value = value-made sheet put
+
+    planned : Planned (sheetValue (stateSheet b)) p lines
+    planned = subst (λ (y : SheetValue). Planned y p lines) (sym value) (plan .planned)
+
+    same : heldOf (sheetValue (stateSheet b)) (first-in b) ≡ heldOf (sheetValue (stateSheet b)) (first-in g)
+    same =
+        let v = sheetValue (stateSheet b) in
+        held-rows b headRows v (Live 1) ∙ found-same d b headRows (Live 1) same-rows (cleared .small) v ∙ cleared .held v lines planned ∙ sym (held-rows g headRows v (Live 1))
+
+    kept-first : stateKept b ≡ keptFirst
+    kept-first = put .kept ∙ first
 
     module _ (is : IsBytes bytes) {v : SheetValue} (r : readSheet bytes ≡ taken v) where
       follows : Follows v [] (keptMonitor (stateSheet b) keptFirst b)
       follows =
-          follows-same (stateSheet b) 0 (keptFirst .tags) (first-in g) (first-in b) (same (sheetValue (stateSheet b))) (sized-rows b headRows (Live 1) small-opened)
+          follows-same (stateSheet b) 0 (keptFirst .tags) (first-in g) (first-in b) same (sized-rows b headRows (Live 1) small-opened)
           (follows-begun bytes is v r (stateSheet b) (value ∙ sheet-read r) (subst (λ (y : SheetValue). BegunRows y z g) (sym value) begun))
 
-      pub follows-opened : FollowsIn v [] b
+      follows-opened : FollowsIn v [] b
       follows-opened = record {
         state = state-made sheet put format;
-        follows = subst (λ (y : Kept). Follows v [] (keptMonitor (stateSheet b) y b)) (sym (put .kept ∙ first)) follows;
+        follows = subst (λ (y : Kept). Follows v [] (keptMonitor (stateSheet b) y b)) (sym kept-first) follows;
       }
 
-    pub opened-state : IsBytes bytes → x .answer ≡ told.Done → {y : code.Answer} → ((v : SheetValue) → answerOf y ≡ saidBy (foundIn v (Live 1) b headRows)) → (a : List ℕ) → OpenedIn readSheet bytes (Answered y) a b
-    opened-state is q {y} says a = by-outcome (readSheet bytes) refl (ap (λ (w : SheetRead). w .answer) (sym e) ∙ q)
+    -- the words of the head before the format, the sheet and the monitor were stored
+    blank : (i j : ℕ) → i < 6 → j < width → word d i j ≡ 0
+    blank i j l m = cleared .head i j l m ∙ begun .stays .same i j m (λ y u w. omega arith) ∙ zero .zero i j (omega arith) (omega arith) m
+
+    -- a word of row 0 behind the format and the sheet's
+    blank-top : (j : ℕ) → 2 < j → j < width → word h 0 j ≡ 0
+    blank-top j l m = sheet .top j m (λ y. omega arith) (λ y. omega arith) ∙ format .stays .same 0 j m (λ y u w. omega arith) ∙ blank 0 j (omega arith) m
+
+    keeps : KeepsNothingIn b
+    keeps =
+        keeps-made b planned
+        (subst (λ (y : Kept). NothingBeside p (y .count) (y .from) b) (sym kept-first) (beside-same (Live 1) headRows d b (omega arith) behind (cleared .nothing)))
+        (λ j l. put .raw j l ∙ ap (λ (y : Kept). rawOf (getD (y .tags) j (pos 0))) (sym (put .kept)))
+        (λ j l. ap (λ (y : Kept). getD (y .tags) j (pos 0)) kept-first ∙ blank-at (pos 0) 8 j)
+        (λ j l m. words-same h b (λ i q u w y. put .stays .same i q y (λ n s t. omega arith)) j m ∙ sheet .unused j (omega (arith, sheet .count, ap (λ (y : Sheet). y .count) (sheet-beside h b (put .stays)))) m)
+        (put .gap ∙ blank-top 7 (omega arith) (omega arith))
+        (λ j l m. put .stays .same 0 j m (λ y u w. omega arith) ∙ blank-top j (omega arith) m)
+        (λ i j l m n. put .stays .same i j n (λ y u w. omega arith) ∙ sheet .rows i j l n ∙ format .stays .same i j n (λ y u w. omega arith) ∙ blank i j m n)
+
+    pub opened-state : IsBytes bytes → x .answer ≡ told.Done → {y : code.Answer} → ((v : SheetValue) → answerOf y ≡ saidBy (foundIn v (Live 1) b headRows)) → OpenedIn readSheet bytes (Answered y) a b
+    opened-state is q {y} says = by-outcome (readSheet bytes) refl (ap (λ (w : SheetRead). w .answer) (sym e) ∙ q)
       where
         by-outcome : (o : Outcome SheetValue) → readSheet bytes ≡ o → sheetRead o .answer ≡ told.Done → OpenedIn readSheet bytes (Answered y) a b
         by-outcome (refused n) i j = refused-done j
         by-outcome (taken s) i j = record {
           refuses = λ n r. refused-taken (sym r ∙ i);
           opens = λ v r. (ap taken (says (sheetValue (stateSheet b)) ∙ ap saidBy (sym (held-rows b headRows (sheetValue (stateSheet b)) (Live 1))) ∙ follows is r .said), follows-opened is r);
+          unused = λ v r. keeps;
         }

@@ -122,6 +122,13 @@ module _ (k : Kept) (a : List ℕ) where
         stays-on (stays-put (stays-put (stays-all 0 3 16 a) 3 (k .instants) (omega arith) (omega arith) (omega arith)) 4 (k .from) (omega arith) (omega arith) (omega arith))
         (stays-on (stays-wide (n .stays) 3 16 (omega arith) (omega arith)) (stays-wide (t .stays) 3 16 (omega arith) (omega arith)))
 
+    gap : word c 0 7 ≡ word a 0 7
+    gap =
+        late 7 (omega arith)
+        ∙ n .stays .same 0 7 (omega arith) (λ e x y. omega arith)
+        ∙ stored-other timed 0 4 (k .from) 0 7 (omega arith) (omega arith) (λ x y. omega arith)
+        ∙ stored-other a 0 3 (k .instants) 0 7 (omega arith) (omega arith) (λ x y. omega arith)
+
     count : stateCount c ≡ k .count
     count = rw (late 5 (omega arith), late 6 (omega arith)) (n .count)
 
@@ -135,4 +142,4 @@ module _ (k : Kept) (a : List ℕ) where
         ap₂ _&&_ (ap₂ _&&_ f g) (ap₂ _&&_ s r) ∙ and-true _
 
     pub kept-put : PutKept k a c
-    kept-put = record { stays = stays; kept = same-kept instants (t .tags) count from; state = state }
+    kept-put = record { stays = stays; gap = gap; raw = t .raw; kept = same-kept instants (t .tags) count from; state = state }

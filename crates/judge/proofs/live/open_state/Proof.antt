@@ -1,62 +1,89 @@
--- `open_state` meets its contract: what was read decides the reply; all words are cleared before the monitor of no instant is stored in them. Assumes nothing.
+-- `open_state` meets its contract: what was read decides the reply; the words are cleared, and the monitor of no instant is stored in them, part by part. Assumes nothing.
 use mathlib.Core.Path.{_≡_, _∙_}
+use Prim.Native.Nat.{ℕ}
 use native.Mathlib.Omega.{arith}
-use lib.ListN.{length}
+use lib.ListN.{length, replicate, length-replicate}
 use borrow.Author.Needs.{needs}
 use Rattle.records.specs.Types.{IsBytes}
+use Rattle.judge.specs.Plan.{numbers, Preparing}
 use Rattle.judge.specs.Rows.{words}
 use Rattle.judge.proofs.monitor.Bytes.{all-bytes}
-use Rattle.judge.proofs.live.Opening.{blank-row, first-put, few-lines, opened-refused, small-opened, opened-state}
+use Rattle.judge.proofs.monitor.Opened.{prepares-read}
+use Rattle.judge.proofs.live.Opening.{blank-row, one-held, first-put, opened-refused, small-opened, opened-state}
 use Rattle.judge.proofs.live.open_state.Statement.{statement}
 use Rattle.judge.proofs.live.open_state.Tie as tie
 
-abbrev start : tie.After-read-sheet → tie.Start
-start r = r .before .before
+-- ---- where the sheet was read
+module _ (r : tie.After-read-sheet) where
+  abbrev start : tie.Start
+  start = r .before .before
 
-read-bytes : (r : tie.After-read-sheet) → IsBytes (start r .args .bytes .now)
-read-bytes r = all-bytes (start r .args .bytes .now) (λ i. r .before .shared-slice-known .given i .fits)
+  read-bytes : IsBytes (r .before .before .args .bytes .now)
+  read-bytes = all-bytes (start .args .bytes .now) (λ i. r .before .shared-slice-known .given i .fits)
+
+  prepared : Preparing (r .read-sheet .result .sheet) (replicate numbers 0)
+  prepared = prepares-read (start .args .bytes .now) (r .read-sheet .result) (r .read-sheet .ensures) read-bytes (length-replicate {A = ℕ} numbers 0)
 
 returns : tie.Need-returns
 returns c =
     let r = c .before .before .before .before in
     opened-refused (start r .args .bytes .now) (r .read-sheet .result) (r .read-sheet .ensures) (c .before .answer .given .1) (start r .args .state .now)
 
--- ---- the places: what was read, and the words cleared
-abbrev read : tie.After-clear-words → tie.After-read-sheet
-read z = z .before .before .before .before .before .before .before .before
+-- ---- the places: what was read, and its plan
+abbrev told : tie.After-lines → tie.After-enum-told
+told l = l .before .before .before .before
 
-long : (z : tie.After-clear-words) → length (start (read z) .args .state .now) ≡ words
-long z = let l = z .before .before in search needs
+abbrev read : tie.After-lines → tie.After-read-sheet
+read l = told l .before .before .before
+
+plan-of-requires : tie.Need-plan-of-requires
+plan-of-requires c κs = prepared (read c)
+
+long : (p : tie.After-plan-of) → length (start (read (p .before)) .args .state .now) ≡ words
+long p = search needs
+
+-- ---- the words cleared, and the remainder of no instant begun
+abbrev planned : tie.After-clear-rows → tie.After-plan-of
+planned z = z .before .before
 
 begin-rows-requires : tie.Need-begin-rows-requires
-begin-rows-requires c κs = let z = c .before in blank-row (long z) (z .clear-words .ensures)
+begin-rows-requires c κs = let z = c .before in blank-row (long (planned z)) (z .clear-rows .ensures)
 
--- ---- the words stored in turn
-module _ (g : tie.After-begin-rows) where
-  abbrev cleared : tie.After-clear-words
-  cleared = g .before .before
+abbrev cleared : tie.After-begin-rows → tie.After-clear-rows
+cleared g = g .before .before
 
-  long-begun : length (g .begin-rows .last .0) ≡ words
-  long-begun = g .begin-rows .ensures .stays .size ∙ cleared .clear-words .ensures .size ∙ long cleared
+clear-beside-requires : tie.Need-clear-beside-requires
+clear-beside-requires c κs = let g = c .before in one-held (planned (cleared g) .plan-of .ensures .fits) (g .begin-rows .ensures)
+
+abbrev begun : tie.After-clear-beside → tie.After-begin-rows
+begun d = d .before .before
+
+-- ---- as many words as at first
+long-cleared : (d : tie.After-clear-beside) → length (d .clear-beside .last .0) ≡ words
+long-cleared d =
+    let g = begun d in
+    let z = cleared g in
+    d .clear-beside .ensures .size ∙ g .begin-rows .ensures .stays .size ∙ z .clear-rows .ensures .stays .size ∙ long (planned z)
 
 put-format-requires : tie.Need-put-format-requires
-put-format-requires c κs = long-begun (c .before)
+put-format-requires c κs = long-cleared (c .before)
 
-abbrev begun : tie.After-put-sheet → tie.After-begin-rows
-begun h = h .before .before .before .before
+abbrev besides : tie.After-put-format → tie.After-clear-beside
+besides f = f .before .before
+
+long-formatted : (f : tie.After-put-format) → length (f .put-format .last .0) ≡ words
+long-formatted f = f .put-format .ensures .stays .size ∙ long-cleared (besides f)
 
 put-sheet-requires : tie.Need-put-sheet-requires
-put-sheet-requires c κs =
-    let f = c .before in
-    let g = f .before .before in
-    let r = read (cleared g) in
-    (f .put-format .ensures .stays .size ∙ long-begun g, few-lines (start r .args .bytes .now) (r .read-sheet .result) (r .read-sheet .ensures) (read-bytes r))
+put-sheet-requires c κs = let f = c .before in (long-formatted f, prepared (read (planned (cleared (begun (besides f))) .before)) .few-lines)
+
+abbrev formatted : tie.After-put-sheet → tie.After-put-format
+formatted h = h .before .before
 
 put-kept-requires : tie.Need-put-kept-requires
-put-kept-requires c κs =
-    let h = c .before .before in
-    first-put (c .first-kept .ensures) (h .put-sheet .ensures .size ∙ h .before .before .put-format .ensures .stays .size ∙ long-begun (begun h))
+put-kept-requires c κs = let h = c .before .before in first-put (c .first-kept .ensures) (h .put-sheet .ensures .size ∙ long-formatted (formatted h))
 
+-- ---- all stored
 abbrev sheeted : tie.After-put-kept → tie.After-put-sheet
 sheeted b = b .before .before .before
 
@@ -64,20 +91,27 @@ say-rows-requires : tie.Need-say-rows-requires
 say-rows-requires c κs =
     let b = c .before in
     let h = sheeted b in
-    let g = begun h in
-    let r = read (cleared g) in
-    (omega arith, small-opened (start r .args .bytes .now) (r .read-sheet .result) (r .read-sheet .ensures) (g .begin-rows .ensures) (h .before .before .put-format .ensures) (h .put-sheet .ensures) (b .before .first-kept .ensures) (b .put-kept .ensures))
+    let f = formatted h in
+    let d = besides f in
+    let g = begun d in
+    let z = cleared g in
+    let p = planned z in
+    let r = read (p .before) in
+    (omega arith, small-opened (start r .args .bytes .now) (r .read-sheet .result) (r .read-sheet .ensures) (p .plan-of .ensures) (z .clear-rows .ensures) (g .begin-rows .ensures) (d .clear-beside .ensures) (f .put-format .ensures) (h .put-sheet .ensures) (b .before .first-kept .ensures) (b .put-kept .ensures))
 
 returns-2 : tie.Need-returns-2
 returns-2 c =
     let b = c .before .before in
     let h = sheeted b in
-    let g = begun h in
-    let t = cleared g .before .before .before .before .before in
-    let r = t .before .before .before in
-    opened-state (start r .args .bytes .now) (r .read-sheet .result) (r .read-sheet .ensures) (g .begin-rows .ensures) (h .before .before .put-format .ensures) (h .put-sheet .ensures) (b .before .first-kept .ensures) (b .put-kept .ensures)
-    (read-bytes r) (t .enum-told .given .1) (c .say-rows .ensures) (start r .args .state .now)
+    let f = formatted h in
+    let d = besides f in
+    let g = begun d in
+    let z = cleared g in
+    let p = planned z in
+    let r = read (p .before) in
+    opened-state (start r .args .bytes .now) (r .read-sheet .result) (r .read-sheet .ensures) (p .plan-of .ensures) (z .clear-rows .ensures) (g .begin-rows .ensures) (d .clear-beside .ensures) (f .put-format .ensures) (h .put-sheet .ensures) (b .before .first-kept .ensures) (b .put-kept .ensures)
+    (read-bytes r) (told (p .before) .enum-told .given .1) (c .say-rows .ensures)
 
 pub open-state-spec : {M : Type 1} → statement M
 open-state-spec =
-    tie.close (tie.spec (λ c κs. search needs) (λ c. search needs) (λ c. search needs) (λ c κs. search needs) (λ c κs. search needs) begin-rows-requires put-format-requires put-sheet-requires (λ c κs. search needs) put-kept-requires say-rows-requires returns returns-2)
+    tie.close (tie.spec (λ c κs. search needs) (λ c. search needs) (λ c. search needs) (λ c κs. search needs) plan-of-requires (λ c. search needs) (λ c κs. search needs) begin-rows-requires clear-beside-requires put-format-requires put-sheet-requires (λ c κs. search needs) put-kept-requires say-rows-requires returns returns-2)

@@ -1,0 +1,38 @@
+-- Words of a state that nothing uses are zero, told by its sheet: so beside its remainders a state keeps of the instants only their number, the last tags and the last answer.
+use mathlib.Core.Bool.{false}
+use mathlib.Core.List.{List}
+use mathlib.Core.Path.{_≡_}
+use Prim.Native.Nat.{ℕ, _+_, _≤_, _<_}
+use lib.ListN.{getD}
+use Rattle.records.specs.Line.{blankLine}
+use Rattle.records.specs.Sheet.{SheetValue, sheetValue}
+use Rattle.judge.specs.View.{liveCount}
+use Rattle.judge.specs.Plan.{isPrecedes}
+use Rattle.judge.specs.Rows.{width, height, headRows, word, rowCount, rowLead}
+use Rattle.judge.specs.State.{stateWords, stateSheet, stateKept, noWords}
+
+-- the words of row i that a remainder of the sheet doesn't use
+pub record UnusedInRow (v : SheetValue) (rows : List ℕ) (i : ℕ) : Type 0 where
+  -- clock, on-clock and due of obligations past its count
+  pub clocks : (j : ℕ) → rowCount rows i ≤ j → j < 8 → word rows i (1 + j) ≡ 0
+  pub on-clocks : (j : ℕ) → rowCount rows i ≤ j → j < 8 → word rows i (9 + j) ≡ 0
+  pub dues : (j : ℕ) → rowCount rows i ≤ j → j < 8 → word rows i (17 + j) ≡ 0
+  -- leads of lines that are no precedes lines
+  pub leads : (k : ℕ) → k < 16 → isPrecedes (getD (v .lines) k blankLine) ≡ false → rowLead rows i k ≡ 0
+  -- stopped clocks from C on, and the words behind them
+  pub rest : (q : ℕ) → 41 + v .clocks ≤ q → q < width → word rows i q ≡ 0
+
+-- a state keeps nothing in words that nothing uses
+pub record KeepsNothingIn (w : List ℕ) : Type 0 where
+  -- rows that hold no remainder: all of them once exhausted or broken
+  pub others : (h q : ℕ) → headRows ≤ h → h < height → q < width → (stateKept w .from ≤ h → h < stateKept w .from + liveCount (stateKept w .count) → ⊥) → word w h q ≡ 0
+  -- and in each row held
+  pub each : (k : ℕ) → k < liveCount (stateKept w .count) → UnusedInRow (sheetValue (stateSheet w)) w (stateKept w .from + k)
+  -- last tags of clocks from C on
+  pub tags : (k : ℕ) → stateSheet w .clocks ≤ k → k < 8 → word w 0 (8 + k) ≡ 0
+  -- places without a line
+  pub lines : (k : ℕ) → stateSheet w .count ≤ k → k < 16 → stateWords w k ≡ noWords
+  -- free words of the head
+  pub gap : word w 0 7 ≡ 0
+  pub top : (q : ℕ) → 16 ≤ q → q < width → word w 0 q ≡ 0
+  pub head : (h q : ℕ) → 2 < h → h < headRows → q < width → word w h q ≡ 0
