@@ -13,7 +13,7 @@ use Rattle.records.specs.Types.{All}
 use Rattle.tesl.specs.Lists.{lastOf}
 use Rattle.tesl.specs.Run.{Instant, tagsOf}
 use Rattle.tesl.specs.Remainder.{Remainder, sameObligation, sameRemainder}
-use Rattle.tesl.specs.Answer.{Answer, exhausted, remainders, answer}
+use Rattle.tesl.specs.Answer.{exhausted, remainders, answer}
 use Rattle.tesl.specs.Machine.{unlessFull, Reader}
 use Rattle.theory.specs.Sets.{apart, EachOnce}
 use Rattle.judge.specs.declared.monitor.Monitor.{Monitor}
@@ -49,10 +49,10 @@ pub record Opened (read : Reader) (bytes : List ℕ) (r : Given) : Type 0 where
 unfoldable pub observes : Monitor → List ℕ → Outcome Instant
 observes m bytes = cond (within m) (unlessFull (m .instants) (readInstant (m .sheet .clocks) bytes)) (refused 11)
 
--- an accepted instant: an answer, and a monitor within its limits; for every run that the monitor followed, the machine's answer, and the monitor follows the longer run
--- free is what is answered and held for a monitor that follows no run
+-- an accepted instant: the answer is what those then held say, and the monitor is within its limits; for every run that the monitor followed, it is the machine's answer, and the monitor follows the longer run
+-- free is what is then held by a monitor that follows no run
 pub record Accepted (m : Monitor) (i : Instant) (r : Given) : Type 0 where
-  pub answers : (a : Answer) × (replyOf (r .reply) ≡ taken a)
+  pub answers : replyOf (r .reply) ≡ taken (saidBy (heldBy (r .monitor)))
   pub limits : within (r .monitor) ≡ true
   pub follows : (s : SheetValue) (run : List Instant) → Follows s run m
       → (replyOf (r .reply) ≡ taken (answer s (run ++ (i ∷ [])))) × Follows s (run ++ (i ∷ [])) (r .monitor)

@@ -166,7 +166,7 @@ module _ {s : Sheet} {k : Kept} {p : Plan} {lines rows : List ℕ} (ready : Read
   abbrev after : Monitor
   after = readBack s k rs
 
-  same-back : heldBy after ≡ heldBy (keptMonitor s k rows)
+  pub same-back : heldBy after ≡ heldBy (keptMonitor s k rows)
   same-back =
       back .held (sheetValue s) lines (ready .planned) (leads-rows s k rows (leads-small (keptMonitor s k rows) (limits-of (keptMonitor s k rows) (ready .value) (ready .limits))))
       ∙ sym (held-rows rows (k .from) (sheetValue s) (k .count))

@@ -1,12 +1,14 @@
 -- A monitor observed in rows, where its remainders were stored: refused as the rows are; and answered, read back, it goes on as the rows do. Assumes nothing.
 use mathlib.Core.Bool.{Bool, true}
 use mathlib.Core.List.{List}
+use mathlib.Core.Option.{Option}
 use mathlib.Core.Path.{subst, _≡_, refl, sym, ap, _∙_}
 use Prim.Native.Nat.{ℕ}
 use native.Mathlib.Omega.{arith}
 use Rattle.records.specs.Outcome.{Outcome, taken, refused}
 use Rattle.records.proofs.Lists.{refused-taken}
 use Rattle.tesl.specs.Run.{Instant}
+use Rattle.tesl.specs.Remainder.{Remainder}
 use Rattle.tesl.specs.Answer.{Answer}
 use Rattle.judge.specs.declared.answer.Answer as code
 use Rattle.judge.specs.declared.answer.Reply.the-variants as reply
@@ -16,14 +18,14 @@ use Rattle.judge.specs.declared.kept.Kept.{Kept}
 use Rattle.judge.specs.declared.kept.Told.{Told}
 use Rattle.judge.specs.declared.monitor.Monitor.{Monitor}
 use Rattle.judge.specs.declared.monitor.Given.{Given}
-use Rattle.judge.specs.Answer.{replyOf}
+use Rattle.judge.specs.Answer.{replyOf, saidBy}
 use Rattle.judge.specs.Limits.{within, Limited}
 use Rattle.judge.specs.Plan.{PlanOf}
 use Rattle.judge.specs.Stored.{KeptHeld, FindingRows, FromRows}
 use Rattle.judge.specs.Monitor.{refusal}
 use Rattle.judge.specs.Kept.{keptMonitor, keptOf, given, readBack, ReadBack, Ready, Takes}
 use Rattle.judge.specs.Promises.{observes, Called, Observed}
-use Rattle.judge.proofs.kept.Laws.{within-back, follows-back, nothing-back, within-stored, follows-stored, ready-stored}
+use Rattle.judge.proofs.kept.Laws.{same-back, within-back, follows-back, nothing-back, within-stored, follows-stored, ready-stored}
 
 -- an answer is no refusal
 pub answered-refused : {X : Type 0} {a : code.Answer} {n : ℕ} → reply.Answered a ≡ reply.Refused n → X
@@ -62,7 +64,7 @@ module _ (m : Monitor) (l : Limited m true) {p : Plan} {lines : List ℕ} (plan 
     replied {n} f = ap (λ (g : Given). g .reply) (called .refuses n (sym (same-call bytes) ∙ f))
 
     none-taken : {n : ℕ} → t .reply ≡ reply.Refused n → {X : Type 0} {i : Instant} → observes m bytes ≡ taken i → X
-    none-taken p {i = i} f = refused-taken (ap replyOf (sym p) ∙ called .accepts i (sym (same-call bytes) ∙ f) .answers .1)
+    none-taken p {i = i} f = refused-taken (ap replyOf (sym p) ∙ called .accepts i (sym (same-call bytes) ∙ f) .answers)
 
     pub refused-rows : {g : Given} {n : ℕ} → t .reply ≡ reply.Refused n → g ≡ refusal n m → Observed m bytes g
     refused-rows {g} {n} p q = record {
@@ -88,7 +90,7 @@ module _ (m : Monitor) (l : Limited m true) {p : Plan} {lines : List ℕ} (plan 
           accepts = λ i f.
               let w = called .accepts i (sym (same-call bytes) ∙ f) in
               record {
-                answers = w .answers;
+                answers = w .answers ∙ ap (λ (h : Option (List Remainder)). taken (saidBy h)) (sym (same-back ready found));
                 limits = within-back ready found;
                 follows = λ s run g. let k = w .follows s run (follows-stored m kept g) in (k .0, follows-back ready found (k .1));
               };

@@ -131,7 +131,7 @@ module _ (m : Monitor) (l : Limits m) (sheet : T (sheetWithin (sheetBy m))) (roo
 
   pub accepted : Accepted m i r
   accepted = record {
-    answers = (saidBy (heldBy (r .monitor)), a .said);
+    answers = a .said;
     limits = limits-after;
     follows = λ s run f.
         let g = follows-after run (subst (λ (w : SheetValue). Follows w run m) (sym (f .sheet)) f) in
