@@ -1,6 +1,7 @@
 -- A call on a state: where there is no monitor within its limits it is refused with 11; else the rows are observed where they stand, and what the words then stand for goes on as the rows do. Assumes nothing.
 use mathlib.Core.Bool.{Bool, true, false, not, _&&_}
 use mathlib.Core.List.{List}
+use mathlib.Core.Option.{Option}
 use mathlib.Core.Path.{_≡_, refl, sym, ap, ap₂, _∙_, subst}
 use Prim.Native.Nat.{ℕ, _+_, _-_, _≤_, _<_}
 use native.Mathlib.Omega.{arith}
@@ -14,6 +15,7 @@ use Rattle.records.specs.Sheet.{SheetValue, sheetValue}
 use Rattle.records.specs.Word.{rawOf}
 use Rattle.records.proofs.Lists.{both, refused-taken}
 use Rattle.tesl.specs.Run.{Instant}
+use Rattle.tesl.specs.Remainder.{Remainder}
 use Rattle.judge.specs.declared.answer.Answer as code
 use Rattle.judge.specs.declared.answer.Reply.the-variants.{Answered, Refused}
 use Rattle.judge.specs.declared.held.Held.{Held}
@@ -24,7 +26,7 @@ use Rattle.judge.specs.declared.live.Replied.{Replied}
 use Rattle.judge.specs.declared.monitor.Monitor.{Monitor}
 use Rattle.judge.specs.declared.monitor.Given.{Given}
 use Rattle.judge.specs.View.{liveCount, heldOf, sized}
-use Rattle.judge.specs.Answer.{replyOf}
+use Rattle.judge.specs.Answer.{replyOf, saidBy}
 use Rattle.judge.specs.Limits.{within}
 use Rattle.judge.specs.Plan.{Planned}
 use Rattle.judge.specs.Rows.{word, HeadStays}
@@ -133,8 +135,8 @@ module _ {w : List ℕ} {f : Found} {lines : List ℕ} (found : FoundIn w f line
           let k = takes .refused n p in
           record {
             refuses = λ j e. (refuses e, k .1);
-            accepts = λ i e. refused-taken (ap replyOf (sym p) ∙ called .accepts i (sym call ∙ e) .answers .1);
-            unused = λ i e n. refused-taken (ap replyOf (sym p) ∙ called .accepts i (sym call ∙ e) .answers .1);
+            accepts = λ i e. refused-taken (ap replyOf (sym p) ∙ called .accepts i (sym call ∙ e) .answers);
+            unused = λ i e n. refused-taken (ap replyOf (sym p) ∙ called .accepts i (sym call ∙ e) .answers);
             instants = ap (λ (x : Kept). x .instants) (k .0 ∙ found .kept) ∙ sym (instants-held w one-within) ∙ ap instantsIn (sym (k .1));
           }
 
@@ -184,7 +186,7 @@ module _ {w : List ℕ} {f : Found} {lines : List ℕ} (found : FoundIn w f line
 
           accepted : {i : Instant} → Accepted (stateMonitor w) i (given (t .reply) (keptMonitor (stateSheet w) (t .kept) m)) → Accepted (stateMonitor w) i (given (t .reply) (keptMonitor (stateSheet w) (t .kept) b))
           accepted a = record {
-            answers = a .answers;
+            answers = a .answers ∙ ap (λ (h : Option (List Remainder)). taken (saidBy h)) (sym same);
             limits = limits-after;
             follows = λ v run g. let k = a .follows v run g in (k .0, follows-same s (next .instants) (next .tags) (inRows m) (inRows b) same fits (k .1));
           }
