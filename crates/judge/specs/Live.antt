@@ -71,10 +71,12 @@ pub record SaidIn (r : Replied) (w : List ℕ) : Type 0 where
 
 -- ---- the monitor as a struct
 
--- 11 and no monitor; or the last answer, and a struct within its limits that follows whatever the words follow
+-- 11 and no monitor; or the last answer, and a struct within its limits that holds what the words hold, and follows whatever they follow
 pub record GivenIn (r : Given) (w : List ℕ) : Type 0 where
   pub outside : stateWithin w ≡ false → r ≡ refusal 11 noMonitor
   pub inside : stateWithin w ≡ true → (replyOf (r .reply) ≡ taken (saidBy (heldBy (stateMonitor w)))) × (within (r .monitor) ≡ true)
+  pub held : stateWithin w ≡ true → heldBy (r .monitor) ≡ heldBy (stateMonitor w)
+  pub instants : stateWithin w ≡ true → r .monitor .instants ≡ stateMonitor w .instants
   pub follows : (s : SheetValue) (run : List Instant) → FollowsIn s run w → Follows s run (r .monitor)
 
 -- ---- demands 2 and 3: each hypothesis is what a call ensures

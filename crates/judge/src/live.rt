@@ -2,14 +2,13 @@
 use crate::answer::Reply;
 use crate::answer::say_rows;
 use crate::held::Count;
-use crate::held::Held;
 use crate::kept::Kept;
 use crate::kept::first_kept;
 use crate::kept::observe_rows;
 use crate::list::LIST;
 use crate::monitor::Given;
-use crate::monitor::Monitor;
 use crate::monitor::blank_monitor;
+use crate::monitor::read_back;
 use crate::monitor::refuse;
 use crate::plan::NUMBERS;
 use crate::plan::Plan;
@@ -24,7 +23,6 @@ use crate::state::put_format;
 use crate::state::put_kept;
 use crate::state::put_sheet;
 use crate::state::sheet_in;
-use crate::stored::from_rows;
 use crate::unused::clear_beside;
 use crate::unused::clear_rows;
 use crate::unused::tidy;
@@ -42,6 +40,9 @@ ghost use Rattle.records.specs.Sheet.{sheetOf, readSheet};
 ghost use Rattle.judge.specs.Plan.{numbers, Fitting};
 ghost use Rattle.judge.specs.Live.{OpenedIn, ObservedIn, SaidIn, GivenIn};
 ghost use Rattle.judge.specs.Found.{NothingFound, FoundIn, KeepingNext, KeptNext};
+
+// How many words a state has.
+pub const STATE_WORDS: usize = SIZE;
 
 // What a call on a state gives: its reply, and the instants that the state then holds.
 pub struct Replied {
@@ -232,17 +233,8 @@ pub fn monitor_in(state: &[u32; SIZE]) -> Given
     let from = kept.from;
     let count = kept.count;
     let said = say_rows(state, from, count);
-    let remainders = from_rows(state, from, count, plan);
-    let held = Held { count, remainders };
     let sheet = sheet_in(state);
-    let instants = kept.instants;
-    let tags = kept.tags;
-    let monitor = Monitor {
-        sheet,
-        instants,
-        tags,
-        held,
-    };
+    let monitor = read_back(sheet, kept, plan, state);
     Given {
         reply: Reply::Answered(said),
         monitor,

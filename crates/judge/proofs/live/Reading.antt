@@ -10,7 +10,6 @@ use Rattle.records.specs.Outcome.{taken}
 use Rattle.records.specs.Sheet.{SheetValue, sheetValue, sheetOf}
 use Rattle.judge.specs.declared.answer.Answer as code
 use Rattle.judge.specs.declared.answer.Reply.the-variants.{Answered, Refused}
-use Rattle.judge.specs.declared.remainder.Remainder as arrays
 use Rattle.judge.specs.declared.kept.Kept.{Kept}
 use Rattle.judge.specs.declared.live.Found.{Found}
 use Rattle.judge.specs.declared.monitor.Monitor.{Monitor}
@@ -19,12 +18,12 @@ use Rattle.judge.specs.Answer.{answerOf, replyOf, saidBy}
 use Rattle.judge.specs.Settle.{foundIn, SmallIn}
 use Rattle.judge.specs.Stored.{FindingRows, FromRows}
 use Rattle.judge.specs.Monitor.{heldBy, blankMonitor, noMonitor, refusal}
-use Rattle.judge.specs.Kept.{given, readBack}
+use Rattle.judge.specs.Kept.{given, readBack, ReadBack}
 use Rattle.judge.specs.Promises.{Follows}
 use Rattle.judge.specs.State.{stateSheet, stateCount, stateKept, stateMonitor}
 use Rattle.judge.specs.Live.{stateWithin, FollowsIn, SaidIn, GivenIn}
 use Rattle.judge.specs.Found.{FoundIn}
-use Rattle.judge.proofs.kept.Laws.{held-rows, within-back, follows-back}
+use Rattle.judge.proofs.kept.Laws.{held-rows, same-back, within-back, follows-back}
 use Rattle.judge.proofs.live.Observing.{none-within, one-within, ready, side, small, instants-held, no-instants}
 
 false-true : {X : Type 0} → false ≡ true → X
@@ -43,6 +42,8 @@ module _ {w : List ℕ} {f : Found} {lines : List ℕ} (found : FoundIn w f line
   given-none out a b c = record {
     outside = λ e. c ∙ ap (refusal 11) (b ∙ ap blankMonitor a);
     inside = λ e. false-true (sym (none-within found out) ∙ e);
+    held = λ e. false-true (sym (none-within found out) ∙ e);
+    instants = λ e. false-true (sym (none-within found out) ∙ e);
     follows = λ s run g. false-true (sym (none-within found out) ∙ rw (g .state) (g .follows .limits));
   }
 
@@ -70,15 +71,20 @@ module _ {w : List ℕ} {f : Found} {lines : List ℕ} (found : FoundIn w f line
     }
 
     -- read back
-    module _ {rs : List arrays.Remainder} (read : FromRows (f .plan) (f .kept .count) (f .kept .from) rs w) where
-      back : FromRows (f .plan) (stateKept w .count) (stateKept w .from) rs w
-      back = subst (λ (k : Kept). FromRows (f .plan) (k .count) (k .from) rs w) (found .kept) read
+    module _ {s : Sheet} (e : s ≡ stateSheet w) {m : Monitor} (read : ReadBack s (f .kept) (f .plan) m w) where
+      back : FromRows (f .plan) (stateKept w .count) (stateKept w .from) (m .held .remainders) w
+      back = subst (λ (k : Kept). FromRows (f .plan) (k .count) (k .from) (m .held .remainders) w) (found .kept) (read .found)
 
-      pub given-one : {y : code.Answer} → Says y → {s : Sheet} → s ≡ stateSheet w → GivenIn (given (Answered y) (readBack s (f .kept) rs)) w
-      given-one {y} says e =
-          subst (λ (m : Monitor). GivenIn (given (Answered y) m) w) (sym (ap₂ (λ (a : Sheet) (k : Kept). readBack a k rs) e (found .kept)))
+      same : m ≡ readBack (stateSheet w) (stateKept w) (m .held .remainders)
+      same = read .same ∙ ap₂ (λ (a : Sheet) (k : Kept). readBack a k (m .held .remainders)) e (found .kept)
+
+      pub given-one : {y : code.Answer} → Says y → GivenIn (given (Answered y) m) w
+      given-one {y} says =
+          subst (λ (x : Monitor). GivenIn (given (Answered y) x) w) (sym same)
           (record {
             outside = λ o. false-true (sym o ∙ one-within found is);
             inside = λ o. (said y says, within-back (ready found is) back);
+            held = λ o. same-back (ready found is) back;
+            instants = λ o. refl;
             follows = λ v run g. follows-back (ready found is) back (g .follows);
           })

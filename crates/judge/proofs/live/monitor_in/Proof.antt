@@ -24,17 +24,16 @@ test c = c .before .before
 say-rows-requires : tie.Need-say-rows-requires
 say-rows-requires c κs = let e = test c in can-say (e .before .before .find-state .ensures) (e .if1 .left)
 
-from-rows-requires : tie.Need-from-rows-requires
-from-rows-requires c κs = let e = test (c .before) in can-read (e .before .before .find-state .ensures) (e .if1 .left)
+read-back-requires : tie.Need-read-back-requires
+read-back-requires c κs = let e = test (c .before .before) in can-read (e .before .before .find-state .ensures) (e .if1 .left)
 
 returns-2 : tie.Need-returns-2
 returns-2 c =
     let s = c .before in
-    let b = s .before in
-    let y = b .before in
+    let y = s .before in
     let e = test (y .before) in
-    given-one (e .before .before .find-state .ensures) (e .if1 .left) (b .from-rows .ensures) (y .say-rows .ensures) (s .sheet-in .ensures)
+    given-one (e .before .before .find-state .ensures) (e .if1 .left) (s .sheet-in .ensures) (c .read-back .ensures) (y .say-rows .ensures)
 
 pub monitor-in-spec : {M : Type 1} → statement M
 monitor-in-spec =
-    tie.close (tie.spec find-state-requires (λ c κs. search needs) (λ c κs. search needs) (λ c κs. search needs) returns say-rows-requires from-rows-requires (λ c κs. search needs) returns-2)
+    tie.close (tie.spec find-state-requires (λ c κs. search needs) (λ c κs. search needs) (λ c κs. search needs) returns say-rows-requires (λ c κs. search needs) read-back-requires returns-2)
