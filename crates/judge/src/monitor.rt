@@ -3,21 +3,19 @@ use crate::answer::Reply;
 use crate::answer::say_rows;
 use crate::held::Count;
 use crate::held::Held;
-use crate::kept::Kept;
 use crate::kept::first_kept;
 use crate::kept::kept_of;
 use crate::kept::observe_rows;
 use crate::limits::is_within;
 use crate::list::LIST;
 use crate::plan::NUMBERS;
-use crate::plan::Plan;
 use crate::plan::plan_of;
 use crate::remainder::blank_remainder;
 use crate::rows::HEAD;
 use crate::rows::SIZE;
 use crate::start::begin_rows;
-use crate::stored::from_rows;
 use crate::stored::keep_held;
+use crate::stored::read_back;
 use records::number;
 use records::record::Answer;
 use records::sheet::Sheet;
@@ -27,8 +25,6 @@ ghost use Rattle.records.specs.Sheet.{readSheet};
 ghost use Rattle.judge.specs.Limits.{within};
 ghost use Rattle.judge.specs.Monitor.{blankMonitor, refusal};
 ghost use Rattle.judge.specs.Promises.{Opened, Observed};
-ghost use Rattle.judge.specs.Stored.{FindingRows};
-ghost use Rattle.judge.specs.Kept.{ReadBack};
 
 // Beside its remainders, of the instants only their number and the last tags; the last answer is what those held say.
 pub struct Monitor {
@@ -42,24 +38,6 @@ pub struct Monitor {
 pub struct Given {
     pub reply: Reply,
     pub monitor: Monitor,
-}
-
-// The monitor that is kept in rows, its remainders read back from them.
-pub(crate) fn read_back(sheet: Sheet, kept: Kept, plan: Plan, rows: &[u32; SIZE]) -> Monitor
-    requires { ⌜ FindingRows (now rows) (kept .count) (kept .from) plan ⌝ }
-    ensures { λ m. ⌜ ReadBack sheet kept plan m (now (rows .entry)) ⌝ }
-{
-    let count = kept.count;
-    let remainders = from_rows(rows, kept.from, count, plan);
-    let held = Held { count, remainders };
-    let instants = kept.instants;
-    let tags = kept.tags;
-    Monitor {
-        sheet,
-        instants,
-        tags,
-        held,
-    }
 }
 
 // What stands in a monitor's place where there is none.

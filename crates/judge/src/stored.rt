@@ -1,5 +1,8 @@
-// A monitor's remainders, structs, stored in rows, and read back from them.
+// A monitor's remainders, structs, stored in rows, and read back from them; and the monitor with them.
 use crate::held::Count;
+use crate::held::Held;
+use crate::kept::Kept;
+use crate::monitor::Monitor;
 use crate::obligation::Obligation;
 use crate::plan::Plan;
 use crate::remainder::Remainder;
@@ -19,12 +22,14 @@ use crate::word::flag_in;
 use crate::word::flag_word;
 use crate::word::lead_in;
 use crate::word::lead_word;
+use records::sheet::Sheet;
 ghost use mathlib.Core.Path.{_≡_};
 ghost use mathlib.Core.Bool.{cond};
 ghost use Prim.Native.Nat.{_%_, _<_, _≤_};
 ghost use Rattle.judge.specs.View.{firstOf};
 ghost use Rattle.judge.specs.Stored.{Place, PutObligations, PutLeads, PutStopped, PutRemainder, LeadsAt, StoppedAt, Reading, RemainderAt, Storing, ToRows, KeepingHeld, KeptHeld, Copying, CopiedRows, FindingRows, FromRows};
 ghost use Rattle.judge.specs.Rows.{height};
+ghost use Rattle.judge.specs.Kept.{ReadBack};
 
 // Stores the first n obligations in row i.
 fn put_obligations(rows: &mut [u32; SIZE], i: usize, n: usize, obligations: [Obligation; 8])
@@ -188,5 +193,23 @@ pub(crate) fn from_rows(
     match count {
         Count::Exhausted => copy_rows(rows, from, 0, plan),
         Count::Live(n) => copy_rows(rows, from, n, plan),
+    }
+}
+
+// The monitor that is kept in rows, its remainders read back from them.
+pub(crate) fn read_back(sheet: Sheet, kept: Kept, plan: Plan, rows: &[u32; SIZE]) -> Monitor
+    requires { ⌜ FindingRows (now rows) (kept .count) (kept .from) plan ⌝ }
+    ensures { λ m. ⌜ ReadBack sheet kept plan m (now (rows .entry)) ⌝ }
+{
+    let count = kept.count;
+    let remainders = from_rows(rows, kept.from, count, plan);
+    let held = Held { count, remainders };
+    let instants = kept.instants;
+    let tags = kept.tags;
+    Monitor {
+        sheet,
+        instants,
+        tags,
+        held,
     }
 }

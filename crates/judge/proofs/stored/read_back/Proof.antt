@@ -1,8 +1,8 @@
 -- `read_back` meets its contract: what was read back stands in the struct as it came. Assumes nothing.
 use mathlib.Core.Path.{refl}
 use borrow.Author.Needs.{needs}
-use Rattle.judge.proofs.monitor.read_back.Statement.{statement}
-use Rattle.judge.proofs.monitor.read_back.Tie as tie
+use Rattle.judge.proofs.stored.read_back.Statement.{statement}
+use Rattle.judge.proofs.stored.read_back.Tie as tie
 
 returns : tie.Need-returns
 returns c = record { same = refl; found = c .before .from-rows .ensures }
