@@ -55,6 +55,7 @@ pub record KeptNext (p : Plan) (k next : Kept) (a b : List ℕ) : Type 0 where
   pub sheet : stateSheet b ≡ stateSheet a
   pub kept : stateKept b ≡ next
   pub gap : word b 0 7 ≡ word a 0 7
+  pub live : word b 0 6 ≡ liveCount (next .count)
   pub raw : (j : ℕ) → j < 8 → word b 0 (8 + j) ≡ rawOf (getD (next .tags) j (pos 0))
   pub small : SmallIn (next .count) b (next .from)
   pub found : (v : SheetValue) (lines : List ℕ) → Planned v p lines → foundIn v (next .count) b (next .from) ≡ foundIn v (next .count) a (next .from)

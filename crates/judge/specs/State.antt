@@ -22,6 +22,7 @@ use Rattle.judge.specs.declared.kept.Kept.{Kept}
 use Rattle.judge.specs.declared.line_words.LineWords.{LineWords}
 use Rattle.judge.specs.declared.monitor.Monitor.{Monitor}
 use Rattle.judge.specs.LineWords.{lineOfWords, wordsOf}
+use Rattle.judge.specs.View.{liveCount}
 use Rattle.judge.specs.Rows.{headRows, secondSide, width, words, word, Stays}
 use Rattle.judge.specs.Kept.{keptMonitor}
 
@@ -121,6 +122,8 @@ FewIn (Live n) = n ≤ 32
 pub record PutCount (c : Count) (a b : List ℕ) : Type 0 where
   pub stays : Stays 0 5 7 a b
   pub count : stateCount b ≡ c
+  -- 0 once exhausted
+  pub live : word b 0 6 ≡ liveCount c
   pub answer : isCase (word b 0 5) ≡ true
 
 -- the last tags, in the words 8 to 15
@@ -140,7 +143,8 @@ pub record PuttingKept (rows : List ℕ) (k : Kept) : Type 0 where
 pub record PutKept (k : Kept) (a b : List ℕ) : Type 0 where
   pub stays : Stays 0 3 16 a b
   pub kept : stateKept b ≡ k
-  -- and no other bit of the words of the tags
+  -- and nothing else: live is 0 once exhausted, and a tag takes 16 bits of its word
+  pub live : word b 0 6 ≡ liveCount (k .count)
   pub raw : (j : ℕ) → j < 8 → word b 0 (8 + j) ≡ rawOf (getD (k .tags) j (pos 0))
   -- the free word before them stays
   pub gap : word b 0 7 ≡ word a 0 7
@@ -148,9 +152,9 @@ pub record PutKept (k : Kept) (a b : List ℕ) : Type 0 where
 
 -- ---- contracts: the sheet stored
 
--- the rows but 1 and 2 stay
+-- the rows but 1 and 2 stay, and the words of row 2 that no line uses
 abbrev pub OthersStay : List ℕ → List ℕ → Type 0
-OthersStay a b = (h p : ℕ) → p < width → (h ≡ 1 → ⊥) → (h ≡ 2 → ⊥) → word b h p ≡ word a h p
+OthersStay a b = (h p : ℕ) → p < width → (h ≡ 1 → ⊥) → (h ≡ 2 → p < 32 → ⊥) → word b h p ≡ word a h p
 
 -- six words in the places of line k; the other places stay
 pub record PutWords (k : ℕ) (r : LineWords) (a b : List ℕ) : Type 0 where
@@ -184,6 +188,7 @@ pub record PutSheet (s : Sheet) (a b : List ℕ) : Type 0 where
   pub size : length b ≡ length a
   pub top : (p : ℕ) → p < width → (p ≡ 1 → ⊥) → (p ≡ 2 → ⊥) → word b 0 p ≡ word a 0 p
   pub rows : (h p : ℕ) → 2 < h → p < width → word b h p ≡ word a h p
+  pub free : (p : ℕ) → 32 ≤ p → p < width → word b 2 p ≡ word a 2 p
   pub value : sheetValue (stateSheet b) ≡ sheetValue s
   pub count : stateSheet b .count ≡ s .count
   pub kinds : hasKinds b ≡ true

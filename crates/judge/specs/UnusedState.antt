@@ -28,6 +28,8 @@ pub record KeepsNothingIn (w : List ℕ) : Type 0 where
   pub others : (h q : ℕ) → headRows ≤ h → h < height → q < width → (stateKept w .from ≤ h → h < stateKept w .from + liveCount (stateKept w .count) → ⊥) → word w h q ≡ 0
   -- and in each row held
   pub each : (k : ℕ) → k < liveCount (stateKept w .count) → UnusedInRow (sheetValue (stateSheet w)) w (stateKept w .from + k)
+  -- live once exhausted
+  pub live : word w 0 6 ≡ liveCount (stateKept w .count)
   -- last tags of clocks from C on
   pub tags : (k : ℕ) → stateSheet w .clocks ≤ k → k < 8 → word w 0 (8 + k) ≡ 0
   -- places without a line
@@ -35,4 +37,5 @@ pub record KeepsNothingIn (w : List ℕ) : Type 0 where
   -- free words of the head
   pub gap : word w 0 7 ≡ 0
   pub top : (q : ℕ) → 16 ≤ q → q < width → word w 0 q ≡ 0
+  pub numbers : (q : ℕ) → 32 ≤ q → q < width → word w 2 q ≡ 0
   pub head : (h q : ℕ) → 2 < h → h < headRows → q < width → word w h q ≡ 0

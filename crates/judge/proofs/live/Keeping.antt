@@ -75,6 +75,7 @@ module _ (k next : Kept) (p : Plan) {a : List ℕ} (can : KeepingNext a k next p
         sheet = sheet-beside c b (q .stays) ∙ sheet-stays a c (t .head);
         kept = q .kept;
         gap = q .gap ∙ t .head 0 7 (omega arith) (omega arith);
+        live = q .live;
         raw = q .raw;
         small = small-same c b (next .from) (next .count) same small;
         found = λ v lines planned.

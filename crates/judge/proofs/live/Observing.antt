@@ -203,6 +203,7 @@ module _ {w : List ℕ} {f : Found} {lines : List ℕ} (found : FoundIn w f line
               keeps-on b planned-after
               (subst (λ (k : Kept). NothingBeside (f .plan) (k .count) (k .from) b) (sym (kept .kept))
               (kept .nothing w (subst (λ (k : Kept). NothingBeside (f .plan) (k .count) (k .from) w) (sym (found .kept)) (beside-in w (ready .planned) n)) (takes .moved x q .stays)))
+              (kept .live ∙ ap (λ (k : Kept). liveCount (k .count)) (sym (kept .kept)))
               (λ j l. kept .raw j l ∙ ap (λ (k : Kept). rawOf (getD (k .tags) j (pos 0))) (sym (kept .kept)))
               (λ j l. ap (λ (k : Kept). getD (k .tags) j (pos 0)) (kept .kept) ∙ takes .tags (stateSheet w) ready-kept x q j (subst (λ (y : Sheet). y .clocks ≤ j) sheet-after l))
               w sheet-after (λ h j l m g. kept .head h j l m g ∙ head h j l m) (kept .gap ∙ head 0 7 (omega arith) (omega arith)) n

@@ -22,7 +22,7 @@ use Rattle.judge.specs.declared.held.Count.the-variants.{Live}
 use Rattle.judge.specs.declared.held.Held.{Held}
 use Rattle.judge.specs.declared.kept.Kept.{Kept}
 use Rattle.judge.specs.declared.plan.Plan.{Plan}
-use Rattle.judge.specs.View.{heldOf, sized}
+use Rattle.judge.specs.View.{liveCount, heldOf, sized}
 use Rattle.judge.specs.Answer.{answerOf, saidBy}
 use Rattle.judge.specs.Plan.{Fitting, Planned, PlanOf}
 use Rattle.judge.specs.Rows.{width, words, headRows, word}
@@ -130,11 +130,13 @@ module _ (bytes : List ℕ) (x : SheetRead) (e : x ≡ sheetRead (readSheet byte
     keeps =
         keeps-made b planned
         (subst (λ (y : Kept). NothingBeside p (y .count) (y .from) b) (sym kept-first) (beside-same (Live 1) headRows d b (omega arith) behind (cleared .nothing)))
+        (put .live ∙ ap (λ (y : Kept). liveCount (y .count)) (sym (put .kept)))
         (λ j l. put .raw j l ∙ ap (λ (y : Kept). rawOf (getD (y .tags) j (pos 0))) (sym (put .kept)))
         (λ j l. ap (λ (y : Kept). getD (y .tags) j (pos 0)) kept-first ∙ blank-at (pos 0) 8 j)
         (λ j l m. words-same h b (λ i q u w y. put .stays .same i q y (λ n s t. omega arith)) j m ∙ sheet .unused j (omega (arith, sheet .count, ap (λ (y : Sheet). y .count) (sheet-beside h b (put .stays)))) m)
         (put .gap ∙ blank-top 7 (omega arith) (omega arith))
         (λ j l m. put .stays .same 0 j m (λ y u w. omega arith) ∙ blank-top j (omega arith) m)
+        (λ j l m. put .stays .same 2 j m (λ y u w. omega arith) ∙ sheet .free j l m ∙ format .stays .same 2 j m (λ y u w. omega arith) ∙ blank 2 j (omega arith) m)
         (λ i j l m n. put .stays .same i j n (λ y u w. omega arith) ∙ sheet .rows i j l n ∙ format .stays .same i j n (λ y u w. omega arith) ∙ blank i j m n)
 
     pub opened-state : IsBytes bytes → x .answer ≡ told.Done → {y : code.Answer} → ((v : SheetValue) → answerOf y ≡ saidBy (foundIn v (Live 1) b headRows)) → OpenedIn readSheet bytes (Answered y) a b

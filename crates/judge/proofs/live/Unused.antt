@@ -11,6 +11,7 @@ use Rattle.records.specs.Sheet.{SheetValue, sheetValue}
 use Rattle.records.specs.Word.{unsigned, rawOf}
 use Rattle.judge.specs.declared.kept.Kept.{Kept}
 use Rattle.judge.specs.declared.plan.Plan.{Plan}
+use Rattle.judge.specs.View.{liveCount}
 use Rattle.judge.specs.Unused.{BlankFrom}
 use Rattle.judge.specs.Plan.{Planned}
 use Rattle.judge.specs.Rows.{width, headRows, word}
@@ -49,18 +50,20 @@ module _ (w : List ℕ) {p : Plan} {lines : List ℕ} (planned : Planned (sheetV
   beside-in n = record { others = n .others; each = λ k l. by-plan planned w (stateKept w .from + k) (n .each k l) }
 
   -- and the head
-  module _ (beside : NothingBeside p (stateKept w .count) (stateKept w .from) w) (raw : (j : ℕ) → j < 8 → word w 0 (8 + j) ≡ rawOf (getD (stateKept w .tags) j (pos 0))) (tags : BlankFrom (stateSheet w .clocks) (pos 0) (stateKept w .tags)) where
+  module _ (beside : NothingBeside p (stateKept w .count) (stateKept w .from) w) (live : word w 0 6 ≡ liveCount (stateKept w .count)) (raw : (j : ℕ) → j < 8 → word w 0 (8 + j) ≡ rawOf (getD (stateKept w .tags) j (pos 0))) (tags : BlankFrom (stateSheet w .clocks) (pos 0) (stateKept w .tags)) where
     tag-zero : (k : ℕ) → stateSheet w .clocks ≤ k → k < 8 → word w 0 (8 + k) ≡ 0
     tag-zero k l h = raw k h ∙ ap rawOf (tags k l) ∙ raw-zero
 
-    pub keeps-made : ((k : ℕ) → stateSheet w .count ≤ k → k < 16 → stateWords w k ≡ noWords) → word w 0 7 ≡ 0 → ((q : ℕ) → 16 ≤ q → q < width → word w 0 q ≡ 0) → ((h q : ℕ) → 2 < h → h < headRows → q < width → word w h q ≡ 0) → KeepsNothingIn w
-    keeps-made unlined gap top head = record {
+    pub keeps-made : ((k : ℕ) → stateSheet w .count ≤ k → k < 16 → stateWords w k ≡ noWords) → word w 0 7 ≡ 0 → ((q : ℕ) → 16 ≤ q → q < width → word w 0 q ≡ 0) → ((q : ℕ) → 32 ≤ q → q < width → word w 2 q ≡ 0) → ((h q : ℕ) → 2 < h → h < headRows → q < width → word w h q ≡ 0) → KeepsNothingIn w
+    keeps-made unlined gap top numbers head = record {
       others = beside .others;
       each = λ k l. by-sheet planned w (stateKept w .from + k) (beside .each k l);
+      live = live;
       tags = tag-zero;
       lines = unlined;
       gap = gap;
       top = top;
+      numbers = numbers;
       head = head;
     }
 
@@ -71,4 +74,5 @@ module _ (w : List ℕ) {p : Plan} {lines : List ℕ} (planned : Planned (sheetV
         (λ k l h. words-same a w (λ i j x y z. same i j (omega arith) z (λ e u t. omega arith)) k h ∙ n .lines k (subst (λ (s : Sheet). s .count ≤ k) sheet l) h)
         (gap ∙ n .gap)
         (λ q l h. same 0 q (omega arith) h (λ e u t. omega arith) ∙ n .top q l h)
+        (λ q l h. same 2 q (omega arith) h (λ e u t. omega arith) ∙ n .numbers q l h)
         (λ h q l m k. same h q m k (λ e u t. omega arith) ∙ n .head h q l m k)

@@ -14,6 +14,7 @@ use Rattle.tesl.proofs.Tests.{or-e, T→≡}
 use Rattle.judge.specs.declared.held.Count.{Count}
 use Rattle.judge.specs.declared.held.Count.the-variants.{Live}
 use Rattle.judge.specs.declared.kept.Kept.{Kept}
+use Rattle.judge.specs.View.{liveCount}
 use Rattle.judge.specs.Rows.{width, words, word, Stays}
 use Rattle.judge.specs.Settle.{Side}
 use Rattle.judge.specs.State.{countBy, stateCount, isSide, isCase, isKind, hasKinds, hasFormat, isState, format, PutFormat, FewIn, PutCount, PutTags, PutKept}
@@ -80,11 +81,13 @@ module _ (a : List ℕ) (case live : ℕ) (size : length a ≡ words) where
   here : word counted 0 5 ≡ case
   here = stored-other cased 0 6 live 0 5 (omega arith) (omega arith) (λ x y. omega arith) ∙ stored a 0 5 case (omega arith)
 
-  pub count-put : {c : Count} → countBy case live ≡ c → isCase case ≡ true → PutCount c a counted
-  count-put e t =
+  pub count-put : {c : Count} → countBy case live ≡ c → isCase case ≡ true → live ≡ liveCount c → PutCount c a counted
+  count-put e t q =
+      let l = stored cased 0 6 live (omega (arith, length-set a (width * 0 + 5) case)) in
       record {
         stays = stays-put (stays-put (stays-all 0 5 7 a) 5 case (omega arith) (omega arith) (omega arith)) 6 live (omega arith) (omega arith) (omega arith);
-        count = rw (here, stored cased 0 6 live (omega (arith, length-set a (width * 0 + 5) case))) e;
+        count = rw (here, l) e;
+        live = l ∙ q;
         answer = rw here t;
       }
 
@@ -142,4 +145,4 @@ module _ (k : Kept) (a : List ℕ) where
         ap₂ _&&_ (ap₂ _&&_ f g) (ap₂ _&&_ s r) ∙ and-true _
 
     pub kept-put : PutKept k a c
-    kept-put = record { stays = stays; gap = gap; raw = t .raw; kept = same-kept instants (t .tags) count from; state = state }
+    kept-put = record { stays = stays; live = late 6 (omega arith) ∙ n .live; gap = gap; raw = t .raw; kept = same-kept instants (t .tags) count from; state = state }

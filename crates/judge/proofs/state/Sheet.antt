@@ -110,8 +110,9 @@ module _ (s : Sheet) (a b : List ℕ) where
     sheet-put =
         record {
           size = length-set clocked (width * 0 + 2) (s .count) ∙ length-set b (width * 0 + 1) (s .clocks) ∙ w .size;
-          top = λ p l f g. other 0 p l (λ e. f) (λ e. g) ∙ w .rows 0 p l (λ e. omega arith) (λ e. omega arith);
-          rows = λ h p m l. other h p l (λ e. absurd (omega arith)) (λ e. absurd (omega arith)) ∙ w .rows h p l (λ e. omega arith) (λ e. omega arith);
+          top = λ p l f g. other 0 p l (λ e. f) (λ e. g) ∙ w .rows 0 p l (λ e. omega arith) (λ e x. omega arith);
+          rows = λ h p m l. other h p l (λ e. absurd (omega arith)) (λ e. absurd (omega arith)) ∙ w .rows h p l (λ e. omega arith) (λ e x. omega arith);
+          free = λ p l m. other 2 p m (λ e. absurd (omega arith)) (λ e. absurd (omega arith)) ∙ w .rows 2 p m (λ e. omega arith) (λ e x. omega arith);
           value = same-value clocks lines;
           count = count;
           kinds = T→≡ (hasKinds sheeted) (below-of 16 (λ k. not (ltb k (word sheeted 0 2)) || isKind (word sheeted 1 k)) (λ k h. ≡→T (kind k h)));

@@ -1,10 +1,13 @@
 -- The six words of a line in their places: they are read there, and the other places stay. Assumes nothing.
+use mathlib.Core.Bool.{Bool, true, false}
 use mathlib.Core.List.{List}
-use mathlib.Core.Path.{_≡_, _∙_}
+use mathlib.Core.Path.{_≡_, refl, _∙_}
 use Prim.Native.Nat.{ℕ, _+_, _*_, _<_}
 use native.Mathlib.Omega.{arith}
+use lib.Dec.{ltb}
 use lib.ListN.{length, getD, set, length-set}
 use lib.Seq.{getD-set-same, getD-set-other}
+use borrow.Author.Tests.{ltb-true, ltb-false}
 use Rattle.judge.specs.declared.line_words.LineWords.{LineWords}
 use Rattle.judge.specs.LineWords.{wordsBy}
 use Rattle.judge.specs.Rows.{width, words, word}
@@ -23,6 +26,14 @@ words-same a b f k l =
     (f 1 (48 + k) (omega arith) (omega arith) (omega arith))
     (f 2 k (omega arith) (omega arith) (omega arith))
     (f 2 (16 + k) (omega arith) (omega arith) (omega arith))
+
+-- a place of a line is in row 1, or among the first 32 words of row 2
+in-lines : (h p i k : ℕ) → p < width → k < 16 → width * h + p ≡ width * 1 + 16 * i + k → (h ≡ 1 → ⊥) → (h ≡ 2 → p < 32 → ⊥) → i < 6 → ⊥
+in-lines h p i k m few z f g n = by-test (ltb i 4) refl
+  where
+    by-test : (t : Bool) → ltb i 4 ≡ t → ⊥
+    by-test true e = let l = ltb-true i 4 e in f (omega arith)
+    by-test false e = let l = ltb-false i 4 e in g (omega arith) (omega arith)
 
 module _ (l : List ℕ) (k : ℕ) (r : LineWords) where
   -- the array after each store
@@ -94,5 +105,5 @@ module _ (l : List ℕ) (k : ℕ) (r : LineWords) where
               (other (width * 1 + (48 + j)) (λ m n z. f (omega arith)))
               (other (width * 2 + j) (λ m n z. f (omega arith)))
               (other (width * 2 + (16 + j)) (λ m n z. f (omega arith)));
-          rows = λ h p m f g. other (width * h + p) (λ i n z. omega arith);
+          rows = λ h p m f g. other (width * h + p) (λ i n z. in-lines h p i k m few z f g n);
         }

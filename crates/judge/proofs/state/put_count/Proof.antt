@@ -1,7 +1,8 @@
 -- `put_count` meets its contract: two words for each case. Assumes nothing.
-use mathlib.Core.Path.{refl, sym}
+use mathlib.Core.Path.{refl, sym, ap, _∙_}
 use native.Mathlib.Omega.{arith}
 use borrow.Author.Needs.{needs}
+use Rattle.judge.specs.View.{liveCount}
 use Rattle.judge.proofs.state.Laws.{few-live, count-put}
 use Rattle.judge.proofs.state.put_count.Statement.{statement}
 use Rattle.judge.proofs.state.put_count.Tie as tie
@@ -16,14 +17,14 @@ returns : tie.Need-returns
 returns c =
     let n = c .before .before .before .before in
     let s = n .before .before in
-    rw (c .put-word2 .ensures, c .before .before .put-word .ensures) (count-put (s .args .state .now) _ _ (s .pre .0) (sym (n .enum-told .given .1)) refl)
+    rw (c .put-word2 .ensures, c .before .before .put-word .ensures) (count-put (s .args .state .now) _ _ (s .pre .0) (sym (n .enum-told .given .1)) refl (ap liveCount (sym (n .enum-told .given .1))))
 
 returns-2 : tie.Need-returns-2
 returns-2 c =
     let w = c .before .before .before in
     let n = w .before .before .before in
     let s = n .before .before in
-    rw (c .put-word4 .ensures, w .put-word3 .ensures) (count-put (s .args .state .now) _ _ (s .pre .0) (rw (c .before .small-word .ensures) (sym (n .count .given .1))) refl)
+    rw (c .put-word4 .ensures, w .put-word3 .ensures) (count-put (s .args .state .now) _ _ (s .pre .0) (rw (c .before .small-word .ensures) (sym (n .count .given .1))) refl (c .before .small-word .ensures ∙ ap liveCount (sym (n .count .given .1))))
 
 pub put-count-spec : {M : Type 1} → statement M
 put-count-spec =
