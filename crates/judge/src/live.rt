@@ -81,6 +81,7 @@ fn no_plan() -> Plan
     }
 }
 
+// No monitor within its limits.
 fn nothing_found(kept: Kept) -> Found
     ensures { λ r. ⌜ NothingFound kept r ⌝ }
 {
@@ -200,13 +201,13 @@ pub fn last_reply(state: &[u32; SIZE]) -> Replied
     let from = kept.from;
     let count = kept.count;
     let instants = kept.instants;
-    let said = say_rows(state, from, count);
     Replied {
-        reply: Reply::Answered(said),
+        reply: Reply::Answered(say_rows(state, from, count)),
         instants,
     }
 }
 
+// A sheet without a clock, which is outside its limits.
 fn no_sheet() -> Sheet
     ensures { λ s. ⌜ s ≡ sheetOf (record { clocks = 0; lines = [] }) ⌝ }
 {

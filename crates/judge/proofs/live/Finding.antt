@@ -1,7 +1,7 @@
 -- A monitor found in words: each test that fails leaves none within its limits; where all hold, its sheet is prepared and it is ready. Assumes nothing.
 use mathlib.Core.Bool.{Bool, true, false, not, _&&_, and-false}
 use mathlib.Core.List.{List}
-use mathlib.Core.Path.{_≡_, refl, sym, ap, ap₂, _∙_, subst}
+use mathlib.Core.Path.{_≡_, sym, ap, _∙_, subst}
 use Prim.Native.Nat.{ℕ, _≤_, _<_}
 use native.Mathlib.Omega.{arith}
 use lib.Dec.{T}
@@ -21,7 +21,7 @@ use Rattle.judge.specs.Limits.{within, Limited}
 use Rattle.judge.specs.Plan.{numbers, Preparing, PlanOf, Planned}
 use Rattle.judge.specs.Rows.{words, word}
 use Rattle.judge.specs.RowsLimits.{RowsWithin, TestingAll}
-use Rattle.judge.specs.State.{hasFormat, hasKinds, isSide, isCase, isState, stateSheet, stateKept, stateMonitor}
+use Rattle.judge.specs.State.{hasFormat, hasKinds, isSide, isState, stateSheet, stateKept, stateMonitor}
 use Rattle.judge.specs.Live.{stateWithin}
 use Rattle.judge.specs.Found.{NothingFound, FoundIn}
 use Rattle.judge.proofs.monitor.Limits.{sheet-limits}

@@ -1,28 +1,24 @@
 -- A monitor stored after an instant: its rows are as they were found, and the head but for the monitor beside the sheet. Assumes nothing.
-use mathlib.Core.Bool.{Bool, true, _&&_}
+use mathlib.Core.Bool.{true, _&&_}
 use mathlib.Core.List.{List}
-use mathlib.Core.Path.{_≡_, refl, sym, ap, _∙_, subst}
+use mathlib.Core.Path.{_≡_, sym, _∙_, subst}
 use Prim.Native.Nat.{ℕ, _+_, _-_, _≤_, _<_}
 use native.Mathlib.Omega.{arith}
 use lib.Dec.{T}
-use lib.ListN.{length}
-use Rattle.records.specs.Sheet.{SheetValue}
 use Rattle.records.proofs.Lists.{both}
 use Rattle.judge.specs.declared.held.Count.{Count}
 use Rattle.judge.specs.declared.held.Count.the-variants.{Exhausted, Live}
 use Rattle.judge.specs.declared.kept.Kept.{Kept}
 use Rattle.judge.specs.declared.plan.Plan.{Plan}
 use Rattle.judge.specs.View.{liveCount}
-use Rattle.judge.specs.Plan.{Planned}
-use Rattle.judge.specs.Rows.{words, headRows, height, width, sides, word, RowsStay}
-use Rattle.judge.specs.Settle.{Side, foundIn, SmallIn}
-use Rattle.judge.specs.Fill.{workedRows}
+use Rattle.judge.specs.Rows.{headRows, width, word}
+use Rattle.judge.specs.Settle.{foundIn, SmallIn}
 use Rattle.judge.specs.UnusedWords.{NothingBeside}
 use Rattle.judge.specs.Cleared.{Tidying, Tidied}
-use Rattle.judge.specs.State.{hasFormat, hasKinds, isSide, isCase, isState, stateSheet, stateKept, FewIn, PuttingKept, PutKept}
+use Rattle.judge.specs.State.{hasFormat, hasKinds, isSide, isState, FewIn, PuttingKept, PutKept}
 use Rattle.judge.specs.Found.{KeepingNext, KeptNext}
 use Rattle.judge.proofs.kept.Laws.{other-side}
-use Rattle.judge.proofs.unused.Sides.{SameRows, few-live, small-same, found-same, nothing-same}
+use Rattle.judge.proofs.unused.Sides.{SameRows, small-same, found-same, nothing-same}
 use Rattle.judge.proofs.state.Laws.{side-is}
 use Rattle.judge.proofs.state.Same.{sheet-beside, sheet-stays, state-stays}
 

@@ -3,15 +3,15 @@ use mathlib.Core.Bool.{Bool, true, false, not, _&&_}
 use mathlib.Core.List.{List}
 use mathlib.Core.Option.{Option}
 use mathlib.Core.Path.{_≡_, refl, sym, ap, ap₂, _∙_, subst}
-use Prim.Native.Nat.{ℕ, _+_, _-_, _≤_, _<_}
+use Prim.Native.Nat.{ℕ, _-_, _≤_}
 use native.Mathlib.Omega.{arith}
 use lib.Dec.{T}
 use lib.IntN.{pos}
 use lib.ListN.{length, getD}
 use borrow.Author.Tests.{not-true, not-false}
 use Rattle.records.specs.declared.sheet.Sheet.{Sheet}
-use Rattle.records.specs.Outcome.{taken, refused}
-use Rattle.records.specs.Sheet.{SheetValue, sheetValue}
+use Rattle.records.specs.Outcome.{refused}
+use Rattle.records.specs.Sheet.{sheetValue}
 use Rattle.records.specs.Word.{rawOf}
 use Rattle.records.proofs.Lists.{both, refused-taken}
 use Rattle.tesl.specs.Run.{Instant}

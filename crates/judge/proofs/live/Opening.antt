@@ -1,10 +1,8 @@
 -- A state opened: the head and one row are cleared, the remainder of no instant is begun there, every word that it doesn't use is cleared; then the format, the sheet and the monitor beside it are stored, each where the others are not; so it follows the sheet that was read. Assumes nothing.
-use mathlib.Core.Bool.{true}
 use mathlib.Core.List.{List, []}
 use mathlib.Core.Path.{_≡_, refl, sym, ap, _∙_, subst}
-use Prim.Native.Nat.{ℕ, _+_, _*_, _≤_, _<_}
+use Prim.Native.Nat.{ℕ, _+_, _≤_, _<_}
 use native.Mathlib.Omega.{arith}
-use lib.Dec.{T}
 use lib.IntN.{pos}
 use lib.ListN.{length, getD}
 use Rattle.records.specs.declared.record.Answer.the-variants as told
@@ -22,7 +20,7 @@ use Rattle.judge.specs.declared.held.Count.the-variants.{Live}
 use Rattle.judge.specs.declared.held.Held.{Held}
 use Rattle.judge.specs.declared.kept.Kept.{Kept}
 use Rattle.judge.specs.declared.plan.Plan.{Plan}
-use Rattle.judge.specs.View.{liveCount, heldOf, sized}
+use Rattle.judge.specs.View.{liveCount, heldOf}
 use Rattle.judge.specs.Answer.{answerOf, saidBy}
 use Rattle.judge.specs.Plan.{Fitting, Planned, PlanOf}
 use Rattle.judge.specs.Rows.{width, words, headRows, word}

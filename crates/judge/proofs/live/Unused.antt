@@ -1,5 +1,4 @@
 -- Words that nothing uses, told by a plan and told by the sheet that the plan is of, are the same; and so after an instant. Assumes nothing.
-use mathlib.Core.Bool.{false}
 use mathlib.Core.List.{List}
 use mathlib.Core.Path.{_≡_, refl, sym, ap, _∙_, subst}
 use Prim.Native.Nat.{ℕ, _+_, _-_, _≤_, _<_}
@@ -9,7 +8,6 @@ use lib.ListN.{getD}
 use Rattle.records.specs.declared.sheet.Sheet.{Sheet}
 use Rattle.records.specs.Sheet.{SheetValue, sheetValue}
 use Rattle.records.specs.Word.{unsigned, rawOf}
-use Rattle.judge.specs.declared.kept.Kept.{Kept}
 use Rattle.judge.specs.declared.plan.Plan.{Plan}
 use Rattle.judge.specs.View.{liveCount}
 use Rattle.judge.specs.Unused.{BlankFrom}

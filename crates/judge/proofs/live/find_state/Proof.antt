@@ -1,5 +1,5 @@
 -- `find_state` meets its contract: the tests are made in turn, and the sheet is prepared before the rows are looked at. Assumes nothing.
-use mathlib.Core.Path.{_≡_, sym, _∙_}
+use mathlib.Core.Path.{_≡_}
 use native.Mathlib.Omega.{arith}
 use lib.ListN.{length}
 use borrow.Author.Needs.{needs}

@@ -1,5 +1,4 @@
 -- `keep_next` meets its contract: the rows are tidied, then the monitor beside its sheet is stored. Assumes nothing.
-use borrow.Author.Needs.{needs}
 use Rattle.judge.proofs.live.Keeping.{can-tidy, can-put, kept-next}
 use Rattle.judge.proofs.live.keep_next.Statement.{statement}
 use Rattle.judge.proofs.live.keep_next.Tie as tie

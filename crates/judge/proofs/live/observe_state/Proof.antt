@@ -1,5 +1,5 @@
 -- `observe_state` meets its contract: the monitor is found, observed in its own rows, and stored again where the instant was accepted. Assumes nothing.
-use mathlib.Core.Bool.{true, false}
+use mathlib.Core.Bool.{false}
 use Prim.Native.Nat.{ℕ}
 use lib.ListN.{length-replicate}
 use borrow.Author.Needs.{needs}
