@@ -1,1 +1,3 @@
+pub mod Held
 pub mod Machine
+pub mod Live

@@ -27,11 +27,7 @@ pub record Small (r : LogResult) : Type 0 where
 
 -- ---- after a log
 
--- after an answer the monitor follows some run
-abbrev pub LastFollows : LastMonitor → Type 0
-LastFollows r = (a : Answer) → replyOf (r .reply) ≡ taken a → (s : SheetValue) × (run : List Instant) × Follows s run (r .monitor)
-
--- after an answer: how many of that run's distinct remainders owe the clock
+-- after an answer: how many of the run's distinct remainders owe the clock
 pub record OwingAfter (r : LastMonitor) (clock n : ℕ) : Type 0 where
   pub none : (k : ℕ) → replyOf (r .reply) ≡ refused k → n ≡ 0
   pub owing : (a : Answer) → replyOf (r .reply) ≡ taken a → (s : SheetValue) (run : List Instant) → Follows s run (r .monitor) → n ≡ owingIn clock s run

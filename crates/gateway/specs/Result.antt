@@ -34,6 +34,11 @@ judgedCode r =
 
 -- ---- the panel
 
+-- the panel's count; 0 where it refuses
+abbrev pub shownCount : Outcome ℕ → ℕ
+shownCount (taken n) = n
+shownCount (refused n) = 0
+
 -- none is held once exhausted
 abbrev pub unlessExhausted : Answer → ℕ → ℕ
 unlessExhausted exhausted n = 0

@@ -5,10 +5,16 @@ mod owing;
 mod pack;
 
 use crate::owing::owing_after;
+use crate::owing::owing_count;
 use crate::pack::pack;
 use crate::pack::pack_reply;
 use crate::pack::reading_number;
 use crate::pack::reply_number;
+use judge::live::STATE_WORDS;
+use judge::live::last_reply;
+use judge::live::monitor_in;
+use judge::live::observe_state;
+use judge::live::open_state;
 use judge::log::follow_log;
 use judge::log::judge_log;
 use judge::log::watch_log;
@@ -20,6 +26,7 @@ ghost use Rattle.records.specs.Instant.{readInstant};
 ghost use Rattle.tesl.specs.Machine.{judgeLog};
 ghost use Rattle.judge.specs.Log.{watchLog};
 ghost use Rattle.gateway.specs.Result.{numberOf, judgedCode, shownCode};
+ghost use Rattle.gateway.specs.Live.{LiftOpened, LiftObserved, lastCode, owingCode};
 
 // Returns the result of a sheet and a whole log: the last answer, or the number of the first refusal and the count before it.
 #[no_mangle]
@@ -52,6 +59,47 @@ pub extern "C" fn lift_panel(sheet: &[u8], log: &[u8], clock: u8) -> u64
     let owing = owing_after(last, clock);
     let reply = last.reply;
     pack(reply_number(reply), 0, owing, 0, last.instants)
+}
+
+// Opens a sheet into a state, whatever its words were. Returns the answer for no instant; or the number of the sheet's refusal alone, and then no word changes.
+#[no_mangle]
+pub extern "C" fn lift_open(sheet: &[u8], state: &mut [u32; STATE_WORDS]) -> u64
+    ensures { λ r. ⌜ LiftOpened (now (sheet .entry)) r (now (state .entry)) (now (state .exit)) ⌝ }
+{
+    let reply = open_state(sheet, state);
+    pack_reply(reply, 0)
+}
+
+// Observes an instant with a state. Returns the answer and the count of instants held with this one; or the number of a refusal, 11 where the words are no monitor within its limits, and the count held, and then no word changes.
+#[no_mangle]
+pub extern "C" fn lift_observe(state: &mut [u32; STATE_WORDS], instant: &[u8]) -> u64
+    ensures { λ r. ⌜ LiftObserved (now (instant .entry)) r (now (state .entry)) (now (state .exit)) ⌝ }
+{
+    let replied = observe_state(state, instant);
+    let reply = replied.reply;
+    pack_reply(reply, replied.instants)
+}
+
+// Returns 11, or the count of instants held, and in the place of live how many of the live remainders owe the clock a tick: 0 once broken or exhausted. The answer and clear are 0.
+#[no_mangle]
+pub extern "C" fn lift_owing(state: &[u32; STATE_WORDS], clock: u8) -> u64
+    ensures { λ r. ⌜ r ≡ owingCode clock (now (state .entry)) ⌝ }
+{
+    let given = monitor_in(state);
+    let monitor = given.monitor;
+    let owing = owing_count(monitor, clock);
+    let reply = given.reply;
+    pack(reply_number(reply), 0, owing, 0, monitor.instants)
+}
+
+// Returns the last answer and the count of instants held; or 11.
+#[no_mangle]
+pub extern "C" fn lift_last(state: &[u32; STATE_WORDS]) -> u64
+    ensures { λ r. ⌜ r ≡ lastCode (now (state .entry)) ⌝ }
+{
+    let last = last_reply(state);
+    let reply = last.reply;
+    pack_reply(reply, last.instants)
 }
 
 // Returns the number of a sheet's refusal; 0 where it is taken.

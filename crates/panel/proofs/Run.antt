@@ -71,7 +71,7 @@ unfolding owingCount
 held-count clock v Exhausted rs t = refl
 held-count clock v (Live n) rs t = entries-count clock v (take n rs) (and-r (leb n 32) (all (λ (r : arrays.Remainder). leb (r .owed) 8) (take n rs)) t)
 
-within-count : (clock : ℕ) (m : Monitor) → within m ≡ true → panelCount clock m ≡ taken (count (owesClock clock) (live (heldBy m)))
+pub within-count : (clock : ℕ) (m : Monitor) → within m ≡ true → panelCount clock m ≡ taken (count (owesClock clock) (live (heldBy m)))
 unfolding panelCount
 within-count clock m e =
     let c = m .held .count in

@@ -1,5 +1,5 @@
 -- `lift_panel` meets its contract: after an answer the monitor follows the list of the machine. Assumes nothing.
-use Rattle.gateway.proofs.owing.Laws.{log-follows, log-few, shown-code}
+use Rattle.gateway.proofs.owing.Laws.{log-few, shown-code}
 use borrow.Author.Needs.{needs}
 use Rattle.gateway.proofs.lift_panel.Statement.{statement}
 use Rattle.gateway.proofs.lift_panel.Tie as tie
@@ -8,7 +8,7 @@ follow-log-requires : tie.Need-follow-log-requires
 follow-log-requires c κs = search needs
 
 owing-after-requires : tie.Need-owing-after-requires
-owing-after-requires c κs = log-follows _ _ _ (c .follow-log .ensures)
+owing-after-requires c κs = search needs
 
 reply-number-requires : tie.Need-reply-number-requires
 reply-number-requires c κs = search needs

@@ -1,7 +1,6 @@
--- What the panel of the monitor after a log shows of the machine's list. Assumes nothing.
+-- What the panel of a monitor shows: at most 32, and of the monitor after a log what the machine's list says. Assumes nothing.
 use mathlib.Core.Bool.{Bool, true, false, cond}
 use mathlib.Core.List.{List, [], _∷_}
-use mathlib.Core.Logic.{_≢_}
 use mathlib.Core.Path.{_≡_, refl, sym, ap, _∙_}
 use Prim.Native.Nat.{ℕ, suc, _≤_}
 use native.Mathlib.Omega.{arith}
@@ -11,22 +10,25 @@ use Rattle.records.specs.Sheet.{SheetValue, readSheet}
 use Rattle.records.proofs.Lists.{refused-taken}
 use Rattle.tesl.specs.Lists.{count}
 use Rattle.tesl.specs.Run.{Instant}
-use Rattle.tesl.specs.Answer.{Answer, exhausted, broken, holding, remainders, mostLive, answer}
+use Rattle.tesl.specs.Answer.{Answer, exhausted, broken, holding, remainders, answer}
 use Rattle.tesl.specs.Machine.{held, session, LogResult, callsOf, judgeLog}
-use Rattle.theory.proofs.Answers.{few-remainders}
 use Rattle.judge.specs.declared.answer.Answer as code
 use Rattle.judge.specs.declared.answer.Reply.the-variants as reply
 use Rattle.judge.specs.declared.monitor.Monitor.{Monitor}
+use Rattle.judge.specs.View.{live}
 use Rattle.judge.specs.Answer.{replyOf}
+use Rattle.judge.specs.Limits.{within}
+use Rattle.judge.specs.Monitor.{heldBy}
 use Rattle.judge.specs.Promises.{Follows}
 use Rattle.judge.specs.Log.{FollowsLog}
 use Rattle.panel.specs.declared.Panel.{Panel}
 use Rattle.panel.specs.declared.Panel.the-variants as shown
 use Rattle.panel.specs.Panel.{owesClock, panelOf, panelCount}
-use Rattle.panel.proofs.Run.{panel-of-run}
+use Rattle.panel.proofs.Run.{within-count, panel-of-run}
 use Rattle.judge.specs.declared.log.LastMonitor.{LastMonitor}
-use Rattle.gateway.specs.Result.{numberOf, packed, unlessRefused, unlessExhausted, owingIn, owingOf, shownCode}
-use Rattle.gateway.specs.Inner.{LastFollows, OwingAfter}
+use Rattle.gateway.specs.Result.{numberOf, packed, unlessRefused, shownCount, unlessExhausted, owingIn, owingOf, shownCode}
+use Rattle.gateway.specs.Inner.{OwingAfter}
+use Rattle.gateway.proofs.Held.{held-few}
 use Rattle.gateway.proofs.Machine.{judged-small}
 
 -- ---- the panel
@@ -39,50 +41,48 @@ count-few p (x ∷ xs) = by-test (p x) (count-few p xs)
     by-test true h = omega arith
     by-test false h = omega arith
 
-module _ (clock : ℕ) (s : SheetValue) (run : List Instant) where
-  owing-few : owingIn clock s run ≤ 32
-  unfolding owingIn
-  owing-few = by-answer (answer s run) refl
+-- what a monitor's panel shows
+module _ (m : Monitor) (clock : ℕ) {x : Panel} (p : panelOf x ≡ panelCount clock m) where
+  pub shown-small : {n : ℕ} → x ≡ shown.Count n → n ≤ 32
+  unfolding panelCount
+  shown-small {n} q = by-limits (within m) refl
     where
-      some : answer s run ≢ exhausted → count (owesClock clock) (remainders s run) ≤ 32
-      some n = omega (arith, few-remainders mostLive s run n, count-few (owesClock clock) (remainders s run))
+      same : taken n ≡ panelCount clock m
+      same = sym (ap panelOf q) ∙ p
 
-      by-answer : (a : Answer) → answer s run ≡ a → unlessExhausted a (count (owesClock clock) (remainders s run)) ≤ 32
-      by-answer exhausted e = omega arith
-      by-answer broken e = some (λ x. let z : _≡_ {A = ℕ} 0 1 = cc in absurd (omega arith))
-      by-answer (holding live standing) e = some (λ x. let z : _≡_ {A = ℕ} 0 1 = cc in absurd (omega arith))
+      by-limits : (b : Bool) → within m ≡ b → n ≤ 32
+      by-limits false e = let k : panelCount clock m ≡ refused 11 = rw e in refused-taken (sym k ∙ sym same)
+      by-limits true e =
+          let k = same ∙ within-count clock m e in
+          let f : n ≡ count (owesClock clock) (live (heldBy m)) = cc in
+          omega (arith, f, count-few (owesClock clock) (live (heldBy m)), held-few m e)
 
-  owing-shown : (m : Monitor) → Follows s run m → panelCount clock m ≡ taken (owingIn clock s run)
-  unfolding owingIn
-  owing-shown m f = by-answer (answer s run) refl
-    where
-      by-answer : (a : Answer) → answer s run ≡ a → panelCount clock m ≡ taken (unlessExhausted a (count (owesClock clock) (remainders s run)))
-      by-answer exhausted e = panel-of-run s run m clock f .none e
-      by-answer broken e = panel-of-run s run m clock f .distinct (λ x. let z : _≡_ {A = ℕ} 0 1 = cc in absurd (omega arith))
-      by-answer (holding live standing) e = panel-of-run s run m clock f .distinct (λ x. let z : _≡_ {A = ℕ} 0 1 = cc in absurd (omega arith))
+  pub shown-counted : {n : ℕ} → x ≡ shown.Count n → n ≡ shownCount (panelCount clock m)
+  shown-counted q = ap shownCount (sym (ap panelOf q) ∙ p)
 
+  pub shown-none : {n : ℕ} → x ≡ shown.Refused n → 0 ≡ shownCount (panelCount clock m)
+  shown-none q = ap shownCount (sym (ap panelOf q) ∙ p)
+
+-- of a monitor that follows a run
+pub owing-shown : (clock : ℕ) (s : SheetValue) (run : List Instant) (m : Monitor) → Follows s run m → panelCount clock m ≡ taken (owingIn clock s run)
+unfolding owingIn
+owing-shown clock s run m f = by-answer (answer s run) refl
+  where
+    by-answer : (a : Answer) → answer s run ≡ a → panelCount clock m ≡ taken (unlessExhausted a (count (owesClock clock) (remainders s run)))
+    by-answer exhausted e = panel-of-run s run m clock f .none e
+    by-answer broken e = panel-of-run s run m clock f .distinct (λ x. let z : _≡_ {A = ℕ} 0 1 = cc in absurd (omega arith))
+    by-answer (holding live standing) e = panel-of-run s run m clock f .distinct (λ x. let z : _≡_ {A = ℕ} 0 1 = cc in absurd (omega arith))
+
+-- ---- after a log
 module _ (last : LastMonitor) (clock : ℕ) where
   pub owing-refused : {n : ℕ} → last .reply ≡ reply.Refused n → OwingAfter last clock 0
   owing-refused e = record { none = λ k q. refl; owing = λ a q. refused-taken (sym (ap replyOf e) ∙ q) }
 
-  module _ {a : code.Answer} (e : last .reply ≡ reply.Answered a) {x : Panel} (p : panelOf x ≡ panelCount clock (last .monitor)) where
-    same-count : {n : ℕ} → x ≡ shown.Count n → (s : SheetValue) (run : List Instant) → Follows s run (last .monitor) → n ≡ owingIn clock s run
-    same-count q s run f = let k = sym (ap panelOf q) ∙ p ∙ owing-shown clock s run (last .monitor) f in cc
-
-    pub count-byte : LastFollows last → {n : ℕ} → x ≡ shown.Count n → n ≤ 32
-    count-byte follows q =
-        let k = follows _ (ap replyOf e) in
-        omega (arith, same-count q (k .0) (k .1) (k .2), owing-few clock (k .0) (k .1))
-
-    pub owing-counted : {n : ℕ} → x ≡ shown.Count n → OwingAfter last clock n
-    owing-counted q = record { none = λ k r. refused-taken (sym r ∙ ap replyOf e); owing = λ b r s run f. same-count q s run f }
-
-    -- a monitor that follows a run is within its limits
-    pub owing-outside : {n : ℕ} → x ≡ shown.Refused n → OwingAfter last clock 0
-    owing-outside q = record {
-      none = λ k r. refl;
-      owing = λ b r s run f. refused-taken (sym (ap panelOf q) ∙ p ∙ owing-shown clock s run (last .monitor) f);
-    }
+  pub owing-counted : {a : code.Answer} → last .reply ≡ reply.Answered a → {n : ℕ} → n ≡ shownCount (panelCount clock (last .monitor)) → OwingAfter last clock n
+  owing-counted e q = record {
+    none = λ k r. refused-taken (sym r ∙ ap replyOf e);
+    owing = λ b r s run f. q ∙ ap shownCount (owing-shown clock s run (last .monitor) f);
+  }
 
 -- ---- the exported call
 
@@ -95,9 +95,6 @@ module _ (sheet log : List ℕ) (last : LastMonitor) (h : FollowsLog sheet log l
       by-read : (o : Outcome SheetValue) → readSheet sheet ≡ o → (s : SheetValue) × (readSheet sheet ≡ taken s)
       by-read (taken s) f = (s, f)
       by-read (refused n) f = let k : replyOf (last .reply) ≡ refused n = ap (λ (r : LogResult). r .outcome) (h .judged) ∙ rw f in refused-taken (sym k ∙ e)
-
-  pub log-follows : LastFollows last
-  log-follows a e = let s = answered-sheet e in (s .0, held (s .0) [] (callsOf log), h .follows (s .0) (s .1) a e)
 
   pub log-few : last .instants ≤ 4000
   log-few = omega (arith, judged-small sheet log .count, ap (λ (r : LogResult). r .instants) (h .judged))
