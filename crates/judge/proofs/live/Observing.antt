@@ -10,7 +10,7 @@ use lib.IntN.{pos}
 use lib.ListN.{length, getD}
 use borrow.Author.Tests.{not-true, not-false}
 use Rattle.records.specs.declared.sheet.Sheet.{Sheet}
-use Rattle.records.specs.Outcome.{refused}
+use Rattle.records.specs.Outcome.{taken, refused}
 use Rattle.records.specs.Sheet.{sheetValue}
 use Rattle.records.specs.Word.{rawOf}
 use Rattle.records.proofs.Lists.{both, refused-taken}
