@@ -2,7 +2,13 @@
 //! what each returns.
 
 mod raw {
+    use super::STATE;
+
     extern "C" {
+        pub fn lift_open(sheet: *const u8, sheet_len: usize, state: *mut [u32; STATE]) -> u64;
+        pub fn lift_observe(state: *mut [u32; STATE], record: *const u8, record_len: usize) -> u64;
+        pub fn lift_last(state: *const [u32; STATE]) -> u64;
+        pub fn lift_owing(state: *const [u32; STATE], clock: u8) -> u64;
         pub fn lift_judge(
             sheet: *const u8,
             sheet_len: usize,
@@ -38,6 +44,13 @@ pub const INSTANTS: usize = 4000;
 /// The refusal number of a buffer that is too short.
 pub const SHORT_BUFFER: u8 = 10;
 
+/// The refusal number of a state that is no monitor within its limits.
+pub const NO_MONITOR: u8 = 11;
+
+/// Words of a state, and bytes.
+pub const STATE: usize = 4608;
+pub const STATE_BYTES: usize = 4 * STATE;
+
 #[derive(Clone, Copy, Debug, PartialEq, Eq)]
 pub enum Answer {
     Exhausted,
@@ -45,7 +58,7 @@ pub enum Answer {
     Holding { live: u8, clear: bool },
 }
 
-/// A value after a whole log, and the instants taken.
+/// A value after a whole log or a call, and the instants taken.
 #[derive(Clone, Copy, Debug, PartialEq, Eq)]
 pub struct Taken<T> {
     pub value: T,
@@ -86,9 +99,66 @@ fn answer(entry: [u8; ENTRY]) -> Answer {
     }
 }
 
+/// A monitor, called instant by instant. Its words are all there is of it.
+#[derive(Clone, PartialEq, Eq)]
+pub struct State([u32; STATE]);
+
+// Each call here and below: a slice's pointer is valid for its length and
+// never null, and what is written is borrowed by nobody else.
+impl State {
+    /// No monitor yet: `NO_MONITOR` is what the calls say but `open`.
+    pub const fn new() -> State {
+        State([0; STATE])
+    }
+
+    /// Opens a sheet, with the answer for no instant. Refused, the state stays
+    /// as it was.
+    pub fn open(&mut self, sheet: &[u8]) -> Result<Answer> {
+        let result = unsafe { raw::lift_open(sheet.as_ptr(), sheet.len(), &mut self.0) };
+        unpack(result, answer)
+    }
+
+    /// Takes an instant's record. Refused, the state stays as it was.
+    pub fn observe(&mut self, record: &[u8]) -> Result<Answer> {
+        let result = unsafe { raw::lift_observe(&mut self.0, record.as_ptr(), record.len()) };
+        unpack(result, answer)
+    }
+
+    /// The last answer: what to show after a restart.
+    pub fn last(&self) -> Result<Answer> {
+        let result = unsafe { raw::lift_last(&self.0) };
+        unpack(result, answer)
+    }
+
+    /// How many of the live remainders owe this clock a tick.
+    pub fn owing(&self, clock: u8) -> Result<u8> {
+        let result = unsafe { raw::lift_owing(&self.0, clock) };
+        unpack(result, |[_, owing, _]| owing)
+    }
+
+    /// The words as bytes, to be stored whole.
+    pub fn to_bytes(&self) -> Vec<u8> {
+        self.0.iter().flat_map(|w| w.to_ne_bytes()).collect()
+    }
+
+    /// The words that were stored. Whether they are a monitor the calls tell.
+    pub fn from_bytes(bytes: &[u8; STATE_BYTES]) -> State {
+        let mut state = State::new();
+        for (w, b) in state.0.iter_mut().zip(bytes.chunks_exact(4)) {
+            *w = u32::from_ne_bytes([b[0], b[1], b[2], b[3]]);
+        }
+        state
+    }
+}
+
+impl Default for State {
+    fn default() -> State {
+        State::new()
+    }
+}
+
 /// The last answer of a whole log; for an empty log that of opening.
 pub fn judge(sheet: &[u8], log: &[u8]) -> Result<Answer> {
-    // A slice's pointer is valid for its length and never null; so below.
     let result = unsafe { raw::lift_judge(sheet.as_ptr(), sheet.len(), log.as_ptr(), log.len()) };
     unpack(result, answer)
 }

@@ -1,8 +1,6 @@
 //! listing SHEET LOG: prints what `watch SHEET LOG` prints, by `lift::watch`.
 //! Before that it tries the other calls on document 01's listing, and panics
 //! if one of them gives something else.
-mod lift;
-
 use lift::{Answer, Refused, Taken};
 use std::env;
 use std::fs;
