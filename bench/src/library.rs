@@ -1,7 +1,12 @@
 //! The calls of the proved library.
+use crate::state::Words;
 use std::os::raw::c_uchar;
 
 extern "C" {
+    fn lift_open(sheet: *const c_uchar, sheet_len: usize, state: *mut Words) -> u64;
+    fn lift_observe(state: *mut Words, record: *const c_uchar, record_len: usize) -> u64;
+    fn lift_last(state: *const Words) -> u64;
+    fn lift_owing(state: *const Words, clock: u8) -> u64;
     fn lift_judge(
         sheet: *const c_uchar,
         sheet_len: usize,
@@ -28,6 +33,22 @@ extern "C" {
 }
 
 // Each call: a slice's pointer is valid for its length, and never null.
+
+pub fn open(sheet: &[u8], state: &mut Words) -> u64 {
+    unsafe { lift_open(sheet.as_ptr(), sheet.len(), state) }
+}
+
+pub fn observe(state: &mut Words, record: &[u8]) -> u64 {
+    unsafe { lift_observe(state, record.as_ptr(), record.len()) }
+}
+
+pub fn last(state: &Words) -> u64 {
+    unsafe { lift_last(state) }
+}
+
+pub fn owing(state: &Words, clock: u8) -> u64 {
+    unsafe { lift_owing(state, clock) }
+}
 
 pub fn judge(sheet: &[u8], log: &[u8]) -> u64 {
     unsafe { lift_judge(sheet.as_ptr(), sheet.len(), log.as_ptr(), log.len()) }

@@ -1,17 +1,21 @@
 //! The library beside a plain monitor: the same output, times, instructions
 //! and stack.
 //!
-//!     bench                              the table of times
-//!     bench random SEED COUNT            random sheets and logs through both
-//!     bench count CASE monitor|plain N   one run on N instants, to be counted
-//!     bench counted                      the cases, and the two N to count with
-//!     bench stack                        the stack that a call takes
+//!     bench                                   the table of times
+//!     bench random SEED COUNT                 random sheets and logs through both
+//!     bench live SEED COUNT                   random lists of live calls through both
+//!     bench count CALL CASE library|plain N   one run on N instants, to be counted
+//!     bench counted                           the calls and cases, and the two N to count with
+//!     bench stack                             the stack that a call takes
 mod bytes;
+mod calls;
 mod cases;
 mod library;
+mod live;
 mod plain;
 mod random;
 mod stack;
+mod state;
 mod table;
 mod xorshift;
 
@@ -20,18 +24,22 @@ use std::hint::black_box;
 use std::process::exit;
 
 fn usage() -> ! {
-    eprintln!("bench [random SEED COUNT | count CASE monitor|plain N | counted | stack]");
+    eprintln!(
+        "bench [random SEED COUNT | live SEED COUNT | count CALL CASE library|plain N | counted | stack]"
+    );
     exit(2)
 }
 
-fn count(name: &str, which: &str, n: usize) {
+fn count(call: &str, name: &str, which: &str, n: usize) {
     let all = cases::all();
-    let Some(c) = all.iter().find(|c| c.name == name && n <= cases::INSTANTS) else {
+    let Some((call, c)) = calls::measured(&all)
+        .find(|(l, c)| l.name == call && c.name == name && n <= cases::INSTANTS)
+    else {
         usage()
     };
     match which {
-        "monitor" => black_box(library::judge(&c.sheet, c.first(n))),
-        "plain" => black_box(plain::judge(&c.sheet, c.first(n))),
+        "library" => black_box((call.library)(c, n)),
+        "plain" => black_box((call.plain)(c, n)),
         _ => usage(),
     };
 }
@@ -47,10 +55,15 @@ fn main() {
                 exit(1);
             }
         }
-        ["count", name, which, n] => count(name, which, number(n) as usize),
+        ["live", seed, many] => {
+            if live::random(number(seed), number(many)) != 0 {
+                exit(1);
+            }
+        }
+        ["count", call, name, which, n] => count(call, name, which, number(n) as usize),
         ["counted"] => {
-            for c in cases::all() {
-                println!("{} {} {}", c.name, c.counted.0, c.counted.1);
+            for (call, c) in calls::measured(&cases::all()) {
+                println!("{} {} {} {}", call.name, c.name, c.counted.0, c.counted.1);
             }
         }
         ["stack"] => stack::stack(),

@@ -107,6 +107,7 @@ struct Precedes {
 }
 
 /// The lines of a sheet, listed by what is asked of them.
+#[derive(Clone)]
 struct Sheet {
     clocks: usize,
     sporadic: List<Obligation, MAX_SPORADIC>,
@@ -241,6 +242,14 @@ fn read_instant(kind: u16, body: &[u8], clocks: usize) -> Result<Instant, u8> {
     Ok(instant)
 }
 
+/// 12 to 15, or the instant that these bytes and no more are.
+fn whole_instant(bytes: &[u8], clocks: usize) -> Result<Instant, u8> {
+    match record(bytes) {
+        Some((kind, body)) if bytes.len() == HEAD + body.len() => read_instant(kind, body, clocks),
+        _ => Err(12),
+    }
+}
+
 // ---- the monitor
 
 /// Obligations without repeats; a lead for each precedes line, in the
@@ -254,6 +263,7 @@ struct Remainder {
 
 /// The remainders held; the place after the last is where the next one is
 /// built before it is compared with them.
+#[derive(Clone)]
 struct Set {
     live: usize,
     clear: bool,
@@ -281,7 +291,8 @@ struct Filling {
 
 struct Exhausted;
 
-struct Monitor {
+#[derive(Clone)]
+pub struct Monitor {
     sheet: Sheet,
     instants: u32,
     tags: [i16; MAX_CLOCKS],
@@ -505,6 +516,81 @@ fn same(x: &Remainder, r: &Remainder, leads: usize) -> bool {
         && x.owed.all().iter().all(|o| r.owed.all().contains(o))
 }
 
+// ---- live
+
+/// A remainder to be looked at: obligations in order, each a clock, a due and
+/// an on-clock; the leads of the precedes lines; the stopped clocks, a mask.
+#[derive(Clone, Debug, PartialEq, Eq, PartialOrd, Ord)]
+pub struct Held {
+    pub owed: Vec<(u8, i32, u8)>,
+    pub leads: Vec<u32>,
+    pub stopped: u8,
+}
+
+impl Monitor {
+    pub fn opened(sheet: &[u8]) -> Result<Monitor, u8> {
+        read_sheet(sheet).map(Monitor::open)
+    }
+
+    /// Takes an instant's record.
+    pub fn call(&mut self, bytes: &[u8]) -> u64 {
+        let number = match whole_instant(bytes, self.sheet.clocks) {
+            Err(number) => number,
+            Ok(_) if self.instants == MAX_INSTANTS => 16,
+            Ok(instant) => {
+                self.observe(&instant);
+                0
+            }
+        };
+        result(number, self)
+    }
+
+    pub fn last(&self) -> u64 {
+        result(0, self)
+    }
+
+    /// How many of the live remainders owe a clock a tick.
+    pub fn owing(&self, clock: u8) -> u64 {
+        pack(0, [0, owing(self, clock), 0], self.instants)
+    }
+
+    pub fn clocks(&self) -> usize {
+        self.sheet.clocks
+    }
+
+    /// The last tags, where some instant is held and something is still live.
+    pub fn tags(&self) -> Option<&[i16]> {
+        let live = self.instants > 0 && self.answer()[0] == HOLDING;
+        live.then_some(&self.tags[..self.sheet.clocks])
+    }
+
+    /// Those held, in order.
+    pub fn remainders(&self) -> Vec<Held> {
+        let held = self.held();
+        let live = if self.exhausted { 0 } else { held.live };
+        let mut all: Vec<Held> = held.items[..live]
+            .iter()
+            .map(|r| {
+                let mut owed: Vec<_> = r
+                    .owed
+                    .all()
+                    .iter()
+                    .map(|o| (o.clock, o.due, o.on))
+                    .collect();
+                owed.sort();
+                let leads = &r.leads[..self.sheet.precedes.count];
+                Held {
+                    owed,
+                    leads: leads.iter().map(|&n| n as u32).collect(),
+                    stopped: r.stopped,
+                }
+            })
+            .collect();
+        all.sort();
+        all
+    }
+}
+
 // ---- the calls
 
 fn pack(number: u8, answer: [u8; ENTRY], count: u32) -> u64 {
@@ -584,21 +670,24 @@ pub fn watch(sheet: &[u8], log: &[u8], out: &mut [u8]) -> u64 {
     }
 }
 
+fn owing(m: &Monitor, clock: u8) -> u8 {
+    if m.exhausted {
+        return 0;
+    }
+    let held = m.held();
+    held.items[..held.live]
+        .iter()
+        .filter(|r| r.owed.all().iter().any(|o| o.clock == clock))
+        .count() as u8
+}
+
 pub fn panel(sheet: &[u8], log: &[u8], clock: u8) -> u64 {
     match read_sheet(sheet) {
         Err(number) => pack(number, [0; ENTRY], 0),
         Ok(sheet) => {
             let mut m = Monitor::open(sheet);
             let number = follow(&mut m, log, |_| ());
-            let held = m.held();
-            let mut owing = 0;
-            if number == 0 && !m.exhausted {
-                for r in &held.items[..held.live] {
-                    if r.owed.all().iter().any(|o| o.clock == clock) {
-                        owing += 1;
-                    }
-                }
-            }
+            let owing = if number == 0 { owing(&m, clock) } else { 0 };
             pack(number, [0, owing, 0], m.instants)
         }
     }
@@ -629,10 +718,5 @@ pub fn instant_number(bytes: &[u8], clocks: u8) -> u8 {
     if !(1..=MAX_CLOCKS).contains(&(clocks as usize)) {
         return 4;
     }
-    match record(bytes) {
-        Some((kind, body)) if bytes.len() == HEAD + body.len() => {
-            read_instant(kind, body, clocks as usize).err().unwrap_or(0)
-        }
-        _ => 12,
-    }
+    whole_instant(bytes, clocks as usize).err().unwrap_or(0)
 }

@@ -11,10 +11,10 @@ const EXTREME: [i16; 10] = [-32768, -32767, -257, -256, -1, 0, 1, 256, 257, 3276
 type Line = Vec<u8>;
 
 /// A sheet and a log, records apart.
-struct Input {
-    clocks: u8,
+pub struct Input {
+    pub clocks: u8,
     lines: Vec<Line>,
-    instants: Vec<Vec<u8>>,
+    pub instants: Vec<Vec<u8>>,
 }
 
 fn small(r: &mut Xorshift, low: i16, high: i16) -> i16 {
@@ -160,7 +160,7 @@ fn is_holding(result: u64) -> bool {
 
 /// Mostly few clocks, small tags and few unseen ticks, so that dues are met or
 /// missed; some near the limits, some with eight clocks unseen, some long.
-fn input(r: &mut Xorshift) -> Input {
+pub fn input(r: &mut Xorshift) -> Input {
     if r.once_in(1000) {
         return long_input(r);
     }
@@ -251,7 +251,7 @@ fn long_input(r: &mut Xorshift) -> Input {
 }
 
 impl Input {
-    fn sheet(&self) -> Vec<u8> {
+    pub fn sheet(&self) -> Vec<u8> {
         let mut bytes = clocks(self.clocks);
         bytes.extend(self.lines.concat());
         bytes
@@ -261,13 +261,13 @@ impl Input {
         self.instants.concat()
     }
 
-    fn is_long(&self) -> bool {
+    pub fn is_long(&self) -> bool {
         self.instants.len() > 1000
     }
 
     /// A fault in one record of the sheet or the log, often in the last: there
     /// it meets the seventeenth line and the instant after 4,000.
-    fn damage(&mut self, r: &mut Xorshift) {
+    pub fn damage(&mut self, r: &mut Xorshift) {
         let any = r.below(256) as u8;
         let long = self.is_long();
         let records = if long || r.once_in(2) {
@@ -317,7 +317,7 @@ impl Input {
 }
 
 /// A fault in a byte string.
-fn damage_bytes(r: &mut Xorshift, bytes: &mut Vec<u8>) {
+pub fn damage_bytes(r: &mut Xorshift, bytes: &mut Vec<u8>) {
     let at = r.below(bytes.len() as u64 + 1) as usize;
     let any = r.below(256) as u8;
     match r.below(7) {
@@ -334,7 +334,7 @@ fn damage_bytes(r: &mut Xorshift, bytes: &mut Vec<u8>) {
 }
 
 /// A fault in the record of the clocks.
-fn damage_head(r: &mut Xorshift, sheet: &mut Vec<u8>) {
+pub fn damage_head(r: &mut Xorshift, sheet: &mut Vec<u8>) {
     let any = r.below(256) as u8;
     match r.below(4) {
         0 => sheet[4] = r.pick(&[0, 9, 255, any]),
@@ -349,8 +349,8 @@ fn damage_head(r: &mut Xorshift, sheet: &mut Vec<u8>) {
 
 /// How often each outcome of a call was seen.
 #[derive(Default)]
-struct Seen {
-    numbers: [u64; 17],
+pub struct Seen {
+    pub numbers: [u64; 17],
     exhausted: u64,
     broken: u64,
     clear: u64,
@@ -360,14 +360,14 @@ struct Seen {
 }
 
 impl Seen {
-    fn number(&mut self, n: u64) {
+    pub fn number(&mut self, n: u64) {
         match self.numbers.get_mut(n as usize) {
             Some(count) => *count += 1,
             None => self.other += 1,
         }
     }
 
-    fn result(&mut self, result: u64) {
+    pub fn result(&mut self, result: u64) {
         self.number(result & 0xff);
         self.full += (result >> 16 & 0xff == 32) as u64;
         match (result >> 8 & 0xff, result >> 24 & 0xff) {
@@ -380,7 +380,15 @@ impl Seen {
         }
     }
 
-    fn print(&self, call: &str, taken: &str) {
+    /// The answers.
+    pub fn said(&self) -> String {
+        format!(
+            "holding {} clear and {} owed, of these {} with 32 live, broken {}, exhausted {}",
+            self.clear, self.owed, self.full, self.broken, self.exhausted
+        )
+    }
+
+    pub fn print(&self, call: &str, taken: &str) {
         println!("{call}: {taken}");
         let refused: Vec<String> = (1..17)
             .filter(|&n| self.numbers[n] > 0)
@@ -394,7 +402,7 @@ impl Seen {
     }
 }
 
-fn hex(bytes: &[u8]) -> String {
+pub fn hex(bytes: &[u8]) -> String {
     bytes
         .iter()
         .map(|b| format!("{b:02x}"))
@@ -549,14 +557,8 @@ pub fn random(seed: u64, count: u64) -> u64 {
     for index in 0..count {
         test.run(&mut Xorshift::new(seed ^ index << 20), index);
     }
-    let said = |s: &Seen| {
-        format!(
-            "holding {} clear and {} owed, of these {} with 32 live, broken {}, exhausted {}",
-            s.clear, s.owed, s.full, s.broken, s.exhausted
-        )
-    };
-    test.judged.print("lift_judge", &said(&test.judged));
-    test.watched.print("lift_watch", &said(&test.watched));
+    test.judged.print("lift_judge", &test.judged.said());
+    test.watched.print("lift_watch", &test.watched.said());
     test.panelled.print(
         "lift_panel",
         &format!(

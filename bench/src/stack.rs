@@ -1,7 +1,9 @@
 //! The stack that a call takes: it runs on a thread whose stack is memory of
 //! ours, filled with a pattern, and what is changed afterwards was used.
 use crate::cases;
+use crate::state::WORDS;
 use crate::{library, plain};
+use std::cell::RefCell;
 use std::hint::black_box;
 use std::os::raw::{c_int, c_void};
 use std::ptr;
@@ -62,6 +64,22 @@ pub fn stack() {
     let log = c.first(4);
     let idle = used(&|| ());
     let print = |name: &str, run: &dyn Fn()| println!("{:<28} {:>7} bytes", name, used(run) - idle);
+    let state = RefCell::new(Box::new([0; WORDS]));
+    print("lift_open", &|| {
+        black_box(library::open(&c.sheet, &mut state.borrow_mut()));
+    });
+    for record in log.chunks_exact(c.record) {
+        library::observe(&mut state.borrow_mut(), record);
+    }
+    print("lift_observe", &|| {
+        black_box(library::observe(&mut state.borrow_mut(), &log[..c.record]));
+    });
+    print("lift_last", &|| {
+        black_box(library::last(&state.borrow()));
+    });
+    print("lift_owing", &|| {
+        black_box(library::owing(&state.borrow(), 0));
+    });
     print("lift_judge", &|| {
         black_box(library::judge(&c.sheet, log));
     });

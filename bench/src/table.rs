@@ -1,4 +1,5 @@
 //! Times of the library and of the plain monitor on the same input.
+use crate::calls::measured;
 use crate::cases::{self, Case};
 use crate::{library, plain};
 use std::hint::black_box;
@@ -75,39 +76,47 @@ fn best(a: &dyn Fn(), b: &dyn Fn()) -> (f64, f64) {
 
 pub fn table() {
     println!(
-        "{:<9} {:>8} {:>6} {:>5} {:>11} {:>11} {:>7}",
-        "case", "instants", "live", "owed", "library ns", "plain ns", "ratio"
+        "{:<12} {:<9} {:>8} {:>6} {:>5} {:>11} {:>11} {:>7}",
+        "call", "case", "instants", "live", "owed", "library ns", "plain ns", "ratio"
     );
-    let mut worst = (0.0, "");
-    for c in cases::all() {
-        let live = check(&c);
-        let log = c.first(c.timed);
-        let owed = plain::most_owed(&c.sheet, log);
+    let all = cases::all();
+    let mut worst = (0.0, "", "");
+    for (call, c) in measured(&all) {
+        let live = check(c);
+        let n = c.timed;
+        assert_eq!(
+            (call.library)(c, n),
+            (call.plain)(c, n),
+            "{} on {}",
+            call.name,
+            c.name
+        );
+        let owed = plain::most_owed(&c.sheet, c.first(n));
         let (library, plain) = best(
             &|| {
-                black_box(library::judge(black_box(&c.sheet), black_box(log)));
+                black_box((call.library)(black_box(c), black_box(n)));
             },
             &|| {
-                black_box(plain::judge(black_box(&c.sheet), black_box(log)));
+                black_box((call.plain)(black_box(c), black_box(n)));
             },
         );
         let ratio = library / plain;
         if ratio > worst.0 {
-            worst = (ratio, c.name);
+            worst = (ratio, call.name, c.name);
         }
-        let n = c.timed as f64;
         println!(
-            "{:<9} {:>8} {:>6.1} {:>5} {:>11.0} {:>11.0} {:>7.2}   {}",
+            "{:<12} {:<9} {:>8} {:>6.1} {:>5} {:>11.0} {:>11.0} {:>7.2}   {}",
+            call.name,
             c.name,
-            c.timed,
+            n,
             live,
             owed,
-            library / n,
-            plain / n,
+            library / n as f64,
+            plain / n as f64,
             ratio,
             c.about
         );
     }
-    println!("worst ratio: {:.2} ({})", worst.0, worst.1);
+    println!("worst ratio: {:.2} ({}, {})", worst.0, worst.1, worst.2);
     println!("instants: how many of the 4,000 are timed; live: mean of these; owed: the most of a remainder after them; ns: per instant");
 }

@@ -1,0 +1,144 @@
+//! The words of a state, read as document 01's monitor by the layout of
+//! judge's specs/State.antt and specs/Rows.antt: what the library leaves in
+//! them is held against the plain monitor, and damaged words against the
+//! limits. It shares nothing with the library.
+use crate::bytes;
+use crate::plain::Held;
+
+pub const WORDS: usize = 4608;
+
+pub type Words = [u32; WORDS];
+
+/// The format and its version, word 0.
+pub const FORMAT: u32 = 0x4c46_0001;
+
+/// Words of a row, and the first rows of the two sides.
+pub const WIDTH: usize = 64;
+pub const SIDES: [usize; 2] = [6, 39];
+
+/// Where the parts of a remainder begin in its row.
+const COUNT: usize = 0;
+const CLOCKS: usize = 1;
+const ON_CLOCKS: usize = 9;
+const DUES: usize = 17;
+const LEADS: usize = 25;
+const STOPPED: usize = 41;
+
+/// A monitor within its limits.
+pub struct Monitor {
+    pub clocks: usize,
+    pub sheet: Vec<u8>,
+    pub instants: u32,
+    pub tags: [i16; 8],
+    pub exhausted: bool,
+    /// None once exhausted.
+    pub held: Vec<Held>,
+}
+
+impl Monitor {
+    /// Answer, live, clear.
+    pub fn answer(&self) -> [u8; 3] {
+        match self.held.len() {
+            _ if self.exhausted => [1, 0, 0],
+            0 => [2, 0, 0],
+            live => [3, live as u8, self.is_clear() as u8],
+        }
+    }
+
+    fn is_clear(&self) -> bool {
+        self.held.iter().any(|r| r.owed.is_empty())
+    }
+
+    pub fn owing(&self, clock: u8) -> u8 {
+        let owes = |r: &&Held| r.owed.iter().any(|o| o.0 == clock);
+        self.held.iter().filter(owes).count() as u8
+    }
+}
+
+/// The bytes of line k, if it has a kind and its clocks are below the count.
+fn line(w: &Words, k: usize, clocks: usize) -> Option<Vec<u8>> {
+    let byte = |part: usize| w[WIDTH + 16 * part + k] as u8;
+    let number = |part: usize| w[2 * WIDTH + 16 * part + k] as u16;
+    let (a, b, d) = (byte(1), byte(2), byte(3));
+    let (x, y) = (number(0), number(1));
+    let line = match w[WIDTH + k] {
+        16 => bytes::sporadic(a, x as i16, b),
+        17 => bytes::relation(a, x as i16, b, y as i16),
+        18 => bytes::implies(a, b),
+        19 => bytes::excludes(a, b),
+        20 if d as usize >= clocks => return None,
+        20 => bytes::delayed(a, x, b, d),
+        21 => bytes::weakly(a, b),
+        22 => bytes::strictly(a, b),
+        23 => bytes::kills(a, b),
+        _ => return None,
+    };
+    ((a as usize) < clocks && (b as usize) < clocks).then_some(line)
+}
+
+/// The remainder of a row, if it is within the limits.
+fn remainder(row: &[u32], clocks: usize, leads: &[usize], instants: u32) -> Option<Held> {
+    let count = row[COUNT] as usize;
+    if count > 8 {
+        return None;
+    }
+    let mut owed: Vec<_> = (0..count)
+        .map(|j| {
+            let (clock, on) = (row[CLOCKS + j] as u8, row[ON_CLOCKS + j] as u8);
+            (clock, row[DUES + j] as i32, on)
+        })
+        .collect();
+    owed.sort();
+    let leads: Vec<u32> = leads.iter().map(|k| row[LEADS + k]).collect();
+    let within = owed.iter().all(|&(clock, due, on)| {
+        (clock as usize) < clocks && (on as usize) < clocks && (-32768..=98302).contains(&due)
+    });
+    let stopped = (0..clocks)
+        .map(|k| ((row[STOPPED + k] & 1) as u8) << k)
+        .sum();
+    (within && leads.iter().all(|&n| n <= instants)).then_some(Held {
+        owed,
+        leads,
+        stopped,
+    })
+}
+
+/// The monitor of a state; none: 11.
+pub fn read(w: &Words) -> Option<Monitor> {
+    let (clocks, lines) = (w[1] as usize, w[2] as usize);
+    let (instants, side, live) = (w[3], w[4] as usize, w[6] as usize);
+    let exhausted = w[5] == 1;
+    if w[0] != FORMAT || !(1..=8).contains(&clocks) || lines > 16 || instants > 4000 {
+        return None;
+    }
+    if !SIDES.contains(&side) || !(1..=2).contains(&w[5]) || !exhausted && live > 32 {
+        return None;
+    }
+    let of_kind = |kinds: &[u32]| -> Vec<usize> {
+        (0..lines)
+            .filter(|k| kinds.contains(&w[WIDTH + k]))
+            .collect()
+    };
+    if of_kind(&[16]).len() > 8 {
+        return None;
+    }
+    let mut sheet = bytes::clocks(clocks as u8);
+    for k in 0..lines {
+        sheet.extend(line(w, k, clocks)?);
+    }
+    let leads = of_kind(&[21, 22]);
+    let mut held = Vec::new();
+    for i in 0..if exhausted { 0 } else { live } {
+        let row = &w[WIDTH * (side + i)..];
+        held.push(remainder(row, clocks, &leads, instants)?);
+    }
+    held.sort();
+    Some(Monitor {
+        clocks,
+        sheet,
+        instants,
+        tags: std::array::from_fn(|k| w[8 + k] as i16),
+        exhausted,
+        held,
+    })
+}
