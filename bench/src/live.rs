@@ -121,6 +121,7 @@ impl Test {
             self.same("a monitor", slot, false, true);
             return;
         };
+        self.same("no word left over", slot, state::is_tidy(&slot.words), true);
         self.same("the sheet", slot, &read.sheet, &slot.sheet);
         self.same("the instants", slot, read.instants as u64, m.last() >> 32);
         self.same("those held", slot, &read.held, &m.remainders());

@@ -142,3 +142,23 @@ pub fn read(w: &Words) -> Option<Monitor> {
         held,
     })
 }
+
+/// Whether every word that a monitor does not use is 0: those of the two sides
+/// beside its remainders, and the tags of clocks that its sheet does not have.
+pub fn is_tidy(w: &Words) -> bool {
+    let (clocks, lines, side) = (w[1] as usize, w[2] as usize, w[4] as usize);
+    let live = if w[5] == 1 { 0 } else { w[6] as usize };
+    let mut rest = Box::new(*w);
+    for row in rest[WIDTH * side..].chunks_exact_mut(WIDTH).take(live) {
+        let count = row[COUNT] as usize;
+        row[COUNT] = 0;
+        for part in [CLOCKS, ON_CLOCKS, DUES] {
+            row[part..part + count].fill(0);
+        }
+        for k in (0..lines).filter(|k| [21, 22].contains(&w[WIDTH + k])) {
+            row[LEADS + k] = 0;
+        }
+        row[STOPPED..STOPPED + clocks].fill(0);
+    }
+    rest[8 + clocks..16].iter().all(|&x| x == 0) && rest[WIDTH * SIDES[0]..].iter().all(|&x| x == 0)
+}
