@@ -9,18 +9,6 @@ use borrow.Author.Needs.{needs}
 use Rattle.records.proofs.instant.put_cell.Statement.{statement}
 use Rattle.records.proofs.instant.put_cell.Tie as tie
 
-tick-byte-requires : tie.Need-tick-byte-requires
-tick-byte-requires c κs = search needs
-
-slice-write-buffer : tie.Need-slice-write-buffer
-slice-write-buffer c = search needs
-
-add-put-word : tie.Need-add-put-word
-add-put-word c = search needs
-
-raw-of-requires : tie.Need-raw-of-requires
-raw-of-requires c κs = search needs
-
 put-word-requires : tie.Need-put-word-requires
 put-word-requires c κs = simp length-set (omega arith)
 
@@ -29,17 +17,12 @@ same-length c = c .before .before .put-word .kept .0 ∙ simp length-set
 
 returns : tie.Need-returns
 returns c =
-    let a = c .before .before .before .before .before .before .before .args in
-    cell-stored (a .buffer .now) _ (a .at) (a .t) (a .tag) (c .before .before .before .before .before .tick-byte .ensures) (c .before .before .before .raw-of .ensures ∙ ap rawOf (toZ-ofZ (c .before .before .before .before .before .before .before .fits .tag))) (c .before .before .put-word .ensures)
+    let p = c .before .before in
+    let t = p .before .before .before in
+    let s = t .before .before in
+    let a = s .args in
+    cell-stored (a .buffer .now) _ (a .at) (a .t) (a .tag) (t .tick-byte .ensures) (p .before .raw-of .ensures ∙ ap rawOf (toZ-ofZ (s .fits .tag))) (p .put-word .ensures)
 
 pub put-cell-spec : {M : Type 1} → statement M
 put-cell-spec =
-    tie.close
-    (tie.spec
-    tick-byte-requires
-    slice-write-buffer
-    add-put-word
-    raw-of-requires
-    put-word-requires
-    same-length
-    returns)
+    tie.close (tie.spec (λ c κs. search needs) (λ c. search needs) (λ c. search needs) (λ c κs. search needs) put-word-requires same-length returns)

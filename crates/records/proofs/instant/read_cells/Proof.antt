@@ -17,47 +17,11 @@ Inv-loop body clocks n v₀ i₀ v i =
 abbrev μ-loop : tie.MeasureT-loop
 μ-loop body clocks n v₀ i₀ v i = n - i
 
-wide-byte-requires : tie.Need-wide-byte-requires Inv-loop μ-loop
-wide-byte-requires c κs = search needs
-
-blank-instant-requires : tie.Need-blank-instant-requires Inv-loop μ-loop
-blank-instant-requires c κs = search needs
-
 loop-holds : tie.Need-loop-holds Inv-loop μ-loop
 loop-holds c = (omega arith, search (needs, cells-start))
 
-mul-at : tie.Need-mul-at Inv-loop μ-loop
-mul-at c = search needs
-
-shared-slice-read-x : tie.Need-shared-slice-read-x Inv-loop μ-loop
-shared-slice-read-x c = search needs
-
-refused-instant-requires : tie.Need-refused-instant-requires Inv-loop μ-loop
-refused-instant-requires c κs = search needs
-
 returns : tie.Need-returns Inv-loop μ-loop
 returns c = search (needs, cells-no)
-
-add-word-at : tie.Need-add-word-at Inv-loop μ-loop
-add-word-at c = search needs
-
-word-at-requires : tie.Need-word-at-requires Inv-loop μ-loop
-word-at-requires c κs = search needs
-
-tag-of-requires : tie.Need-tag-of-requires Inv-loop μ-loop
-tag-of-requires c κs = search needs
-
-tick-of-requires : tie.Need-tick-of-requires Inv-loop μ-loop
-tick-of-requires c κs = search needs
-
-with-cell-requires : tie.Need-with-cell-requires Inv-loop μ-loop
-with-cell-requires c κs = search needs
-
-add-i : tie.Need-add-i Inv-loop μ-loop
-add-i c = search needs
-
-loop-less : tie.Need-loop-less Inv-loop μ-loop
-loop-less c = search needs
 
 loop-again : tie.Need-loop-again Inv-loop μ-loop
 loop-again c = (omega arith, search (needs, cells-more))
@@ -67,23 +31,6 @@ returns-2 c = search (needs, cells-end)
 
 pub read-cells-spec : {M : Type 1} → statement M
 read-cells-spec =
-    tie.close
-    (tie.spec
-    Inv-loop
-    μ-loop
-    wide-byte-requires
-    blank-instant-requires
-    loop-holds
-    mul-at
-    shared-slice-read-x
-    refused-instant-requires
-    returns
-    add-word-at
-    word-at-requires
-    tag-of-requires
-    tick-of-requires
-    with-cell-requires
-    add-i
-    loop-less
-    loop-again
-    returns-2)
+    tie.close (tie.spec Inv-loop μ-loop (λ c κs. search needs) (λ c κs. search needs) loop-holds (λ c. search needs) (λ c. search needs)
+    (λ c κs. search needs) returns (λ c. search needs) (λ c κs. search needs) (λ c κs. search needs) (λ c κs. search needs) (λ c κs. search needs)
+    (λ c. search needs) (λ c. search needs) loop-again returns-2)

@@ -3,11 +3,9 @@ use borrow.Author.Needs.{needs}
 use Rattle.records.proofs.instant.refused_instant.Statement.{statement}
 use Rattle.records.proofs.instant.refused_instant.Tie as tie
 
-blank-instant-requires : tie.Need-blank-instant-requires
-blank-instant-requires c κs = search needs
-
 returns : tie.Need-returns
 returns c = rw (c .blank-instant .ensures)
 
 pub refused-instant-spec : {M : Type 1} → statement M
-refused-instant-spec = tie.close (tie.spec blank-instant-requires returns)
+refused-instant-spec =
+    tie.close (tie.spec (λ c κs. search needs) returns)

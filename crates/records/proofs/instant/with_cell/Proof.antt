@@ -4,14 +4,9 @@ use borrow.Author.Needs.{needs}
 use Rattle.records.proofs.instant.with_cell.Statement.{statement}
 use Rattle.records.proofs.instant.with_cell.Tie as tie
 
-array-set-from-ticks : tie.Need-array-set-from-ticks
-array-set-from-ticks c = search needs
-
-with-tag-requires : tie.Need-with-tag-requires
-with-tag-requires c κs = search needs
-
 returns : tie.Need-returns
 returns c = rw (c .with-tag .ensures, toZ-ofZ (c .before .before .before .fits .tag))
 
 pub with-cell-spec : {M : Type 1} → statement M
-with-cell-spec = tie.close (tie.spec array-set-from-ticks with-tag-requires returns)
+with-cell-spec =
+    tie.close (tie.spec (λ c. search needs) (λ c κs. search needs) returns)

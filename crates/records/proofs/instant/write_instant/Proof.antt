@@ -4,43 +4,19 @@ use borrow.Author.Needs.{needs}
 use Rattle.records.proofs.instant.write_instant.Statement.{statement}
 use Rattle.records.proofs.instant.write_instant.Tie as tie
 
-clock-count-requires : tie.Need-clock-count-requires
-clock-count-requires c κs = search needs
-
 returns : tie.Need-returns
-returns c = search (needs, write-4, write-10, write-done)
-
-wide-byte-requires : tie.Need-wide-byte-requires
-wide-byte-requires c κs = search needs
-
-mul-size : tie.Need-mul-size
-mul-size c = search needs
-
-add-size : tie.Need-add-size
-add-size c = search needs
+returns c = search (needs, write-4)
 
 returns-2 : tie.Need-returns-2
-returns-2 c = search (needs, write-4, write-10, write-done)
+returns-2 c = search (needs, write-10)
 
 put-instant-requires : tie.Need-put-instant-requires
 put-instant-requires c κs = search (needs, few-clocks)
 
-same-length : tie.Need-same-length
-same-length c = search needs
-
 returns-3 : tie.Need-returns-3
-returns-3 c = search (needs, write-4, write-10, write-done)
+returns-3 c = search (needs, write-done)
 
 pub write-instant-spec : {M : Type 1} → statement M
 write-instant-spec =
-    tie.close
-    (tie.spec
-    clock-count-requires
-    returns
-    wide-byte-requires
-    mul-size
-    add-size
-    returns-2
-    put-instant-requires
-    same-length
-    returns-3)
+    tie.close (tie.spec (λ c κs. search needs) returns (λ c κs. search needs) (λ c. search needs) (λ c. search needs) returns-2 put-instant-requires
+    (λ c. search needs) returns-3)

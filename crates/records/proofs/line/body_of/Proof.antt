@@ -6,63 +6,6 @@ use borrow.Author.Needs.{needs}
 use Rattle.records.proofs.line.body_of.Statement.{statement}
 use Rattle.records.proofs.line.body_of.Tie as tie
 
-enum-known-l : tie.Need-enum-known-l
-enum-known-l c = search needs
-
-raw-of-requires : tie.Need-raw-of-requires
-raw-of-requires c κs = search needs
-
-low-byte-requires : tie.Need-low-byte-requires
-low-byte-requires c κs = search needs
-
-high-byte-requires : tie.Need-high-byte-requires
-high-byte-requires c κs = search needs
-
-enum-known-l-2 : tie.Need-enum-known-l-2
-enum-known-l-2 c = search needs
-
-raw-of-requires-2 : tie.Need-raw-of-requires-2
-raw-of-requires-2 c κs = search needs
-
-raw-of-requires-3 : tie.Need-raw-of-requires-3
-raw-of-requires-3 c κs = search needs
-
-low-byte-requires-2 : tie.Need-low-byte-requires-2
-low-byte-requires-2 c κs = search needs
-
-high-byte-requires-2 : tie.Need-high-byte-requires-2
-high-byte-requires-2 c κs = search needs
-
-low-byte-requires-3 : tie.Need-low-byte-requires-3
-low-byte-requires-3 c κs = search needs
-
-high-byte-requires-3 : tie.Need-high-byte-requires-3
-high-byte-requires-3 c κs = search needs
-
-enum-known-l-3 : tie.Need-enum-known-l-3
-enum-known-l-3 c = search needs
-
-enum-known-l-4 : tie.Need-enum-known-l-4
-enum-known-l-4 c = search needs
-
-enum-known-l-5 : tie.Need-enum-known-l-5
-enum-known-l-5 c = search needs
-
-low-byte-requires-4 : tie.Need-low-byte-requires-4
-low-byte-requires-4 c κs = search needs
-
-high-byte-requires-4 : tie.Need-high-byte-requires-4
-high-byte-requires-4 c κs = search needs
-
-enum-known-l-6 : tie.Need-enum-known-l-6
-enum-known-l-6 c = search needs
-
-enum-known-l-7 : tie.Need-enum-known-l-7
-enum-known-l-7 c = search needs
-
-enum-known-l-8 : tie.Need-enum-known-l-8
-enum-known-l-8 c = search needs
-
 returns : tie.Need-returns
 returns c =
     let t = c .before .before .before .before .l .given .0 .1 .1 .0 in
@@ -96,32 +39,7 @@ returns-8 c = rw (c .before .l8 .given .1) (search needs)
 
 pub body-of-spec : {M : Type 1} → statement M
 body-of-spec =
-    tie.close
-    (tie.spec
-    enum-known-l
-    raw-of-requires
-    low-byte-requires
-    high-byte-requires
-    enum-known-l-2
-    raw-of-requires-2
-    raw-of-requires-3
-    low-byte-requires-2
-    high-byte-requires-2
-    low-byte-requires-3
-    high-byte-requires-3
-    enum-known-l-3
-    enum-known-l-4
-    enum-known-l-5
-    low-byte-requires-4
-    high-byte-requires-4
-    enum-known-l-6
-    enum-known-l-7
-    enum-known-l-8
-    returns
-    returns-2
-    returns-3
-    returns-4
-    returns-5
-    returns-6
-    returns-7
-    returns-8)
+    tie.close (tie.spec (λ c. search needs) (λ c κs. search needs) (λ c κs. search needs) (λ c κs. search needs) (λ c. search needs)
+    (λ c κs. search needs) (λ c κs. search needs) (λ c κs. search needs) (λ c κs. search needs) (λ c κs. search needs) (λ c κs. search needs)
+    (λ c. search needs) (λ c. search needs) (λ c. search needs) (λ c κs. search needs) (λ c κs. search needs) (λ c. search needs) (λ c. search needs)
+    (λ c. search needs) returns returns-2 returns-3 returns-4 returns-5 returns-6 returns-7 returns-8)

@@ -4,43 +4,19 @@ use borrow.Author.Needs.{needs}
 use Rattle.records.proofs.line.check_line.Statement.{statement}
 use Rattle.records.proofs.line.check_line.Tie as tie
 
-kind-of-requires : tie.Need-kind-of-requires
-kind-of-requires c κs = search needs
-
-line-shape-requires : tie.Need-line-shape-requires
-line-shape-requires c κs = search needs
-
-body-of-requires : tie.Need-body-of-requires
-body-of-requires c κs = search needs
-
-slice-aggregate-clocks-below : tie.Need-slice-aggregate-clocks-below
-slice-aggregate-clocks-below c = search needs
-
 clocks-below-requires : tie.Need-clocks-below-requires
 clocks-below-requires c κs = check-room 0 0 (c .before .before .before .before .args .l) _ _ _ (c .before .before .before .kind-of .ensures) (c .before .before .line-shape .ensures) (c .before .body-of .ensures .0)
 
 returns : tie.Need-returns
-returns c = search (needs, check-7, check-9, check-done) depth 12
-
-is-ninth-requires : tie.Need-is-ninth-requires
-is-ninth-requires c κs = search needs
+returns c = search (needs, check-7) depth 12
 
 returns-2 : tie.Need-returns-2
-returns-2 c = search (needs, check-7, check-9, check-done) depth 12
+returns-2 c = search (needs, check-9) depth 12
 
 returns-3 : tie.Need-returns-3
-returns-3 c = search (needs, check-7, check-9, check-done) depth 12
+returns-3 c = search (needs, check-done) depth 12
 
 pub check-line-spec : {M : Type 1} → statement M
 check-line-spec =
-    tie.close
-    (tie.spec
-    kind-of-requires
-    line-shape-requires
-    body-of-requires
-    slice-aggregate-clocks-below
-    clocks-below-requires
-    returns
-    is-ninth-requires
-    returns-2
-    returns-3)
+    tie.close (tie.spec (λ c κs. search needs) (λ c κs. search needs) (λ c κs. search needs) (λ c. search needs) clocks-below-requires returns
+    (λ c κs. search needs) returns-2 returns-3)

@@ -20,22 +20,13 @@ word-at-requires : tie.Need-word-at-requires
 unfolding lengthOf
 word-at-requires c κs = let e = c .before .before .before .before .pre .1 ∙ ap lengthOf (c .match .keys1) in omega arith
 
-tag-of-requires : tie.Need-tag-of-requires
-tag-of-requires c κs = search needs
-
 word-at-requires-2 : tie.Need-word-at-requires-2
 unfolding lengthOf
 word-at-requires-2 c κs = let e = c .before .before .before .before .pre .1 ∙ ap lengthOf (c .match .keys2) in omega arith
 
-tag-of-requires-2 : tie.Need-tag-of-requires-2
-tag-of-requires-2 c κs = search needs
-
 word-at-requires-3 : tie.Need-word-at-requires-3
 unfolding lengthOf
 word-at-requires-3 c κs = let e = c .before .before .before .before .before .before .pre .1 ∙ ap lengthOf (c .before .before .match .keys2) in omega arith
-
-tag-of-requires-3 : tie.Need-tag-of-requires-3
-tag-of-requires-3 c κs = search needs
 
 shared-slice-read-t16 : tie.Need-shared-slice-read-t16
 unfolding lengthOf
@@ -84,23 +75,6 @@ returns-8 c =
 
 pub line-of-spec : {M : Type 1} → statement M
 line-of-spec =
-    tie.close
-    (tie.spec
-    shared-slice-read-a
-    shared-slice-read-b
-    word-at-requires
-    tag-of-requires
-    word-at-requires-2
-    tag-of-requires-2
-    word-at-requires-3
-    tag-of-requires-3
-    shared-slice-read-t16
-    word-at-requires-4
-    returns
-    returns-2
-    returns-3
-    returns-4
-    returns-5
-    returns-6
-    returns-7
-    returns-8)
+    tie.close (tie.spec shared-slice-read-a shared-slice-read-b word-at-requires (λ c κs. search needs) word-at-requires-2 (λ c κs. search needs)
+    word-at-requires-3 (λ c κs. search needs) shared-slice-read-t16 word-at-requires-4 returns returns-2 returns-3 returns-4 returns-5 returns-6
+    returns-7 returns-8)

@@ -6,12 +6,6 @@ use borrow.Author.Needs.{needs}
 use Rattle.records.proofs.line.line_size.Statement.{statement}
 use Rattle.records.proofs.line.line_size.Tie as tie
 
-kind-of-requires : tie.Need-kind-of-requires
-kind-of-requires c κs = search needs
-
-line-shape-requires : tie.Need-line-shape-requires
-line-shape-requires c κs = search needs
-
 add-result : tie.Need-add-result
 add-result c =
     let e = table-size (c .before .before .before .args .l) (c .before .line-shape .ensures) (c .before .before .kind-of .ensures) in
@@ -23,4 +17,5 @@ returns c =
     omega arith
 
 pub line-size-spec : {M : Type 1} → statement M
-line-size-spec = tie.close (tie.spec kind-of-requires line-shape-requires add-result returns)
+line-size-spec =
+    tie.close (tie.spec (λ c κs. search needs) (λ c κs. search needs) add-result returns)

@@ -8,28 +8,9 @@ use Rattle.records.proofs.record.record_at.Tie as tie
 returns : tie.Need-returns
 returns c = sym (torn-past _ _ (c .if1 .taken))
 
-sub-first-record : tie.Need-sub-first-record
-sub-first-record c = search needs
-
-part-first-record-start : tie.Need-part-first-record-start
-part-first-record-start c = search needs
-
-part-first-record-end : tie.Need-part-first-record-end
-part-first-record-end c = search needs
-
-first-record-requires : tie.Need-first-record-requires
-first-record-requires c κs = search needs
-
 returns-2 : tie.Need-returns-2
 returns-2 c = c .first-record .ensures ∙ rw part-from (at-front _ _)
 
 pub record-at-spec : {M : Type 1} → statement M
 record-at-spec =
-    tie.close
-    (tie.spec
-    returns
-    sub-first-record
-    part-first-record-start
-    part-first-record-end
-    first-record-requires
-    returns-2)
+    tie.close (tie.spec returns (λ c. search needs) (λ c. search needs) (λ c. search needs) (λ c κs. search needs) returns-2)

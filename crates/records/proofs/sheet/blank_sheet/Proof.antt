@@ -3,11 +3,9 @@ use borrow.Author.Needs.{needs}
 use Rattle.records.proofs.sheet.blank_sheet.Statement.{statement}
 use Rattle.records.proofs.sheet.blank_sheet.Tie as tie
 
-blank-line-requires : tie.Need-blank-line-requires
-blank-line-requires c κs = search needs
-
 returns : tie.Need-returns
 returns c = rw (c .blank-line .ensures)
 
 pub blank-sheet-spec : {M : Type 1} → statement M
-blank-sheet-spec = tie.close (tie.spec blank-line-requires returns)
+blank-sheet-spec =
+    tie.close (tie.spec (λ c κs. search needs) returns)

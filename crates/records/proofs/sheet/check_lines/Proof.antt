@@ -15,35 +15,11 @@ abbrev μ-loop : tie.MeasureT-loop
 loop-holds : tie.Need-loop-holds Inv-loop μ-loop
 loop-holds c = (omega arith, omega arith, check-start _)
 
-line-at-requires : tie.Need-line-at-requires Inv-loop μ-loop
-line-at-requires c κs = search needs
-
-check-line-requires : tie.Need-check-line-requires Inv-loop μ-loop
-check-line-requires c κs = search needs
-
-enum-known-n : tie.Need-enum-known-n Inv-loop μ-loop
-enum-known-n c = search needs
-
 returns : tie.Need-returns Inv-loop μ-loop
 returns c = search (needs, check-refused) depth 12
 
-enum-told : tie.Need-enum-told Inv-loop μ-loop
-enum-told c = search needs
-
-kind-of-requires : tie.Need-kind-of-requires Inv-loop μ-loop
-kind-of-requires c κs = search needs
-
-sporadic-of-requires : tie.Need-sporadic-of-requires Inv-loop μ-loop
-sporadic-of-requires c κs = search needs
-
 add-spent : tie.Need-add-spent Inv-loop μ-loop
 add-spent c = omega (arith, sporadic-one (c .before .kind-of .result), c .sporadic-of .ensures)
-
-add-i : tie.Need-add-i Inv-loop μ-loop
-add-i c = search needs
-
-loop-less : tie.Need-loop-less Inv-loop μ-loop
-loop-less c = search needs
 
 loop-again : tie.Need-loop-again Inv-loop μ-loop
 loop-again c = (omega arith, omega (arith, sporadic-one (c .before .kind-of .result), c .sporadic-of .ensures), search (needs, check-more) depth 12)
@@ -53,20 +29,5 @@ returns-2 c = search (needs, check-end) depth 8
 
 pub check-lines-spec : {M : Type 1} → statement M
 check-lines-spec =
-    tie.close
-    (tie.spec
-    Inv-loop
-    μ-loop
-    loop-holds
-    line-at-requires
-    check-line-requires
-    enum-known-n
-    returns
-    enum-told
-    kind-of-requires
-    sporadic-of-requires
-    add-spent
-    add-i
-    loop-less
-    loop-again
-    returns-2)
+    tie.close (tie.spec Inv-loop μ-loop loop-holds (λ c κs. search needs) (λ c κs. search needs) (λ c. search needs) returns (λ c. search needs)
+    (λ c κs. search needs) (λ c κs. search needs) add-spent (λ c. search needs) (λ c. search needs) loop-again returns-2)

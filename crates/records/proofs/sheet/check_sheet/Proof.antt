@@ -4,20 +4,15 @@ use borrow.Author.Needs.{needs}
 use Rattle.records.proofs.sheet.check_sheet.Statement.{statement}
 use Rattle.records.proofs.sheet.check_sheet.Tie as tie
 
-clock-count-requires : tie.Need-clock-count-requires
-clock-count-requires c κs = search needs
-
 returns : tie.Need-returns
 returns c = search (needs, check-4) depth 12
 
 returns-2 : tie.Need-returns-2
 returns-2 c = search (needs, check-8) depth 12
 
-check-lines-requires : tie.Need-check-lines-requires
-check-lines-requires c κs = search needs
-
 returns-3 : tie.Need-returns-3
 returns-3 c = search (needs, check-all) depth 12
 
 pub check-sheet-spec : {M : Type 1} → statement M
-check-sheet-spec = tie.close (tie.spec clock-count-requires returns returns-2 check-lines-requires returns-3)
+check-sheet-spec =
+    tie.close (tie.spec (λ c κs. search needs) returns returns-2 (λ c κs. search needs) returns-3)

@@ -12,18 +12,6 @@ use Rattle.records.proofs.sheet.line_at.Tie as tie
 sixteen : (c : tie.Start) → length (c .args .t1 .lines) ≡ 16
 sixteen c = simp length-map at (c .good .0 .1 .1 .1 .1 .0 .1 .0 .1)
 
-mul-slot : tie.Need-mul-slot
-mul-slot c = search needs
-
-element-copy-out-slot : tie.Need-element-copy-out-slot
-element-copy-out-slot c = search needs
-
-blank-line-requires : tie.Need-blank-line-requires
-blank-line-requires c κs = search needs
-
-returns : tie.Need-returns
-returns c = search needs
-
 returns-2 : tie.Need-returns-2
 returns-2 c =
     let a = c .before .before .args in
@@ -31,4 +19,5 @@ returns-2 c =
     rw (c .blank-line .ensures, List·getD-eq-default (a .t1 .lines) (slotOf blankLine) {n = a .i} (omega arith))
 
 pub line-at-spec : {M : Type 1} → statement M
-line-at-spec = tie.close (tie.spec mul-slot element-copy-out-slot blank-line-requires returns returns-2)
+line-at-spec =
+    tie.close (tie.spec (λ c. search needs) (λ c. search needs) (λ c κs. search needs) (λ c. search needs) returns-2)

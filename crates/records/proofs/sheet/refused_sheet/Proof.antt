@@ -3,11 +3,9 @@ use borrow.Author.Needs.{needs}
 use Rattle.records.proofs.sheet.refused_sheet.Statement.{statement}
 use Rattle.records.proofs.sheet.refused_sheet.Tie as tie
 
-blank-sheet-requires : tie.Need-blank-sheet-requires
-blank-sheet-requires c κs = search needs
-
 returns : tie.Need-returns
 returns c = rw (c .blank-sheet .ensures)
 
 pub refused-sheet-spec : {M : Type 1} → statement M
-refused-sheet-spec = tie.close (tie.spec blank-sheet-requires returns)
+refused-sheet-spec =
+    tie.close (tie.spec (λ c κs. search needs) returns)

@@ -16,26 +16,11 @@ Inv-loop s n size₀ i₀ size i =
 abbrev μ-loop : tie.MeasureT-loop
 μ-loop s n size₀ i₀ size i = n - i
 
-add-size : tie.Need-add-size Inv-loop μ-loop
-add-size c = search needs
-
 loop-holds : tie.Need-loop-holds Inv-loop μ-loop
 loop-holds c = (omega arith, omega arith, sheet-length (c .args .s))
 
-line-at-requires : tie.Need-line-at-requires Inv-loop μ-loop
-line-at-requires c κs = search needs
-
-line-size-requires : tie.Need-line-size-requires Inv-loop μ-loop
-line-size-requires c κs = search needs
-
 add-size-2 : tie.Need-add-size-2 Inv-loop μ-loop
 add-size-2 c = omega (arith, size-small (c .line-size .result) (c .before .line-at .result) (c .line-size .ensures))
-
-add-i : tie.Need-add-i Inv-loop μ-loop
-add-i c = search needs
-
-loop-less : tie.Need-loop-less Inv-loop μ-loop
-loop-less c = search needs
 
 loop-again : tie.Need-loop-again Inv-loop μ-loop
 loop-again c =
@@ -47,16 +32,5 @@ returns c = search (needs, size-all) depth 8
 
 pub sheet-size-spec : {M : Type 1} → statement M
 sheet-size-spec =
-    tie.close
-    (tie.spec
-    Inv-loop
-    μ-loop
-    add-size
-    loop-holds
-    line-at-requires
-    line-size-requires
-    add-size-2
-    add-i
-    loop-less
-    loop-again
-    returns)
+    tie.close (tie.spec Inv-loop μ-loop (λ c. search needs) loop-holds (λ c κs. search needs) (λ c κs. search needs) add-size-2 (λ c. search needs)
+    (λ c. search needs) loop-again returns)

@@ -4,15 +4,6 @@ use borrow.Author.Needs.{needs}
 use Rattle.records.proofs.sheet.write_sheet.Statement.{statement}
 use Rattle.records.proofs.sheet.write_sheet.Tie as tie
 
-check-sheet-requires : tie.Need-check-sheet-requires
-check-sheet-requires c κs = search needs
-
-enum-known-n : tie.Need-enum-known-n
-enum-known-n c = search needs
-
-enum-told : tie.Need-enum-told
-enum-told c = search needs
-
 sheet-size-requires : tie.Need-sheet-size-requires
 sheet-size-requires c κs = search (needs, few-lines) depth 8
 
@@ -25,22 +16,10 @@ put-sheet-requires c κs = search (needs, few-lines) depth 8
 returns-2 : tie.Need-returns-2
 returns-2 c = search (needs, write-refused) depth 12
 
-same-length : tie.Need-same-length
-same-length c = search needs
-
 returns-3 : tie.Need-returns-3
 returns-3 c = search (needs, write-done) depth 12
 
 pub write-sheet-spec : {M : Type 1} → statement M
 write-sheet-spec =
-    tie.close
-    (tie.spec
-    check-sheet-requires
-    enum-known-n
-    enum-told
-    sheet-size-requires
-    returns
-    put-sheet-requires
-    returns-2
-    same-length
-    returns-3)
+    tie.close (tie.spec (λ c κs. search needs) (λ c. search needs) (λ c. search needs) sheet-size-requires returns put-sheet-requires returns-2
+    (λ c. search needs) returns-3)
