@@ -1,5 +1,5 @@
 -- The calls on a state of words pack what `judge` replies: it has room in a result; the panel counts what the words hold; and so every list of calls returns what the plain machine replies, packed. Assumes nothing.
-use mathlib.Core.Bool.{Bool, true, false, cond, _&&_}
+use mathlib.Core.Bool.{Bool, true, false, _&&_}
 use mathlib.Core.List.{List, [], _∷_}
 use mathlib.Core.Option.{Option}
 use mathlib.Core.Path.{_≡_, refl, sym, ap, ap₂, _∙_, subst}
@@ -95,7 +95,7 @@ module _ {r : Replied} {w : List ℕ} (said : SaidIn r w) where
   unfolding lastReply
   last-said = by-limits (stateWithin w) refl
     where
-      by-limits : (b : Bool) → stateWithin w ≡ b → replyOf (r .reply) ≡ cond (stateWithin w) (taken (saidBy (heldBy (stateMonitor w)))) (refused 11)
+      by-limits : (b : Bool) → stateWithin w ≡ b → replyOf (r .reply) ≡ lastReply w
       by-limits true e = said .inside e ∙ rw e
       by-limits false e = ap replyOf (said .outside e) ∙ rw e
 
