@@ -1,0 +1,153 @@
+// States in which a word was made another.
+use crate::listing::late;
+use crate::listing::met;
+use crate::place;
+use crate::row::step;
+use crate::same::compared;
+use crate::state::last;
+use crate::state::owing;
+use crate::text::say;
+use gateway::lift_observe;
+use gateway::lift_open;
+use judge::live::STATE_WORDS;
+
+// The bytes of a sheet of sixteen lines, each 0 implies 0.
+const SIXTEEN_LINES: usize = 101;
+
+// A line's record, where the first begins, and where its kind stands in it.
+const LINE: usize = 6;
+
+const FIRST_LINE: usize = 5;
+
+const KIND_IN_LINE: usize = 2;
+
+// Dues beyond both ends, 98,303 and -32,769, in 32 bits of two's complement.
+const DUE_TOO_HIGH: u32 = 98303;
+
+const DUE_TOO_LOW: u32 = 4294934527;
+
+// 0 delayed by 2 on 0 implies 1, 0 weakly precedes 1: a tick at -3, unseen at -2. Two remainders are held.
+pub fn two_held() -> [u32; STATE_WORDS] {
+    let mut state = [0u32; STATE_WORDS];
+    let _open = lift_open(
+        b"\x01\x00\x01\x00\x02\x05\x00\x14\x00\x00\x00\x01\x02\x00\x02\x00\x15\x00\x00\x01",
+        &mut state,
+    );
+    let _tick = lift_observe(&mut state, b"\x06\x00\x20\x00\x01\xfd\xff\x00\x00\x00");
+    let _unseen = lift_observe(&mut state, b"\x06\x00\x20\x00\x02\xfe\xff\x00\x00\x00");
+    state
+}
+
+fn sixteen_lines() -> [u8; SIXTEEN_LINES] {
+    let mut bytes = [0u8; SIXTEEN_LINES];
+    bytes[0] = 1;
+    bytes[2] = 1;
+    bytes[4] = 2;
+    let mut k = 0;
+    while k < 16 {
+        bytes[FIRST_LINE + LINE * k] = 2;
+        bytes[FIRST_LINE + KIND_IN_LINE + LINE * k] = 18;
+        k += 1;
+    }
+    bytes
+}
+
+fn many_lines() -> [u32; STATE_WORDS] {
+    let mut state = [0u32; STATE_WORDS];
+    let _open = lift_open(&sixteen_lines(), &mut state);
+    state
+}
+
+fn with_word(from: [u32; STATE_WORDS], at: usize, word: u32) -> [u32; STATE_WORDS] {
+    if STATE_WORDS <= at {
+        return from;
+    }
+    let mut state = from;
+    state[at] = word;
+    state
+}
+
+// The word at a place.
+fn word_of(state: [u32; STATE_WORDS], at: usize) -> u32 {
+    if STATE_WORDS <= at {
+        return 0;
+    }
+    state[at]
+}
+
+// The calls on a state with one word made another; then the next instant with the word as it was.
+fn refused(what: &[u8], from: [u32; STATE_WORDS], at: usize, word: u32) {
+    step(what);
+    let before = with_word(from, at, word);
+    let mut state = before;
+    last(&state);
+    owing(&state, 1);
+    met(&mut state);
+    compared(&before, &state);
+    say(b"  restored\n");
+    let mut again = with_word(state, at, word_of(from, at));
+    met(&mut again);
+}
+
+pub fn outside() {
+    say(
+        b"A delay line and a precedes line, two instants: a word made another, outside the limits\n",
+    );
+    let s = two_held();
+    refused(b"another format", s, place::FORMAT, 1);
+    refused(b"no clocks", s, place::CLOCKS, 0);
+    refused(b"9 clocks", s, place::CLOCKS, 9);
+    refused(b"17 lines", s, place::LINES, 17);
+    refused(b"17 lines for 16", many_lines(), place::LINES, 17);
+    refused(b"4,001 instants", s, place::INSTANTS, 4001);
+    refused(b"side 7", s, place::SIDE, 7);
+    refused(b"case 3", s, place::CASE, 3);
+    refused(b"33 live", s, place::LIVE, 33);
+    refused(b"a line of kind 24", s, place::KIND, 24);
+    refused(b"9 obligations", s, place::OWED, 9);
+    refused(b"an obligation of clock 2", s, place::CLOCK, 2);
+    refused(b"an obligation on clock 2", s, place::ON_CLOCK, 2);
+    refused(b"a due of 98,303", s, place::DUE, DUE_TOO_HIGH);
+    refused(b"a due of -32,769", s, place::DUE, DUE_TOO_LOW);
+    refused(b"a lead of 3", s, place::LEAD, 3);
+}
+
+// The calls on a state with one word made another, and two instants more.
+fn taken(what: &[u8], from: [u32; STATE_WORDS], at: usize, word: u32) {
+    step(what);
+    let mut state = with_word(from, at, word);
+    last(&state);
+    owing(&state, 1);
+    met(&mut state);
+    late(&mut state);
+}
+
+pub fn unused() {
+    say(b"The same state: a word that is not in use made another\n");
+    let s = two_held();
+    taken(b"none", s, place::FREE, 0);
+    taken(b"a free word of the head", s, place::FREE, 1);
+    taken(b"the kind of a third line 24", s, place::UNUSED_KIND, 24);
+    taken(b"the lead of the delay line 3", s, place::DELAY_LEAD, 3);
+    taken(
+        b"an eighth due of 98,303",
+        s,
+        place::EIGHTH_DUE,
+        DUE_TOO_HIGH,
+    );
+    taken(
+        b"9 obligations behind the two held",
+        s,
+        place::THIRD_OWED,
+        9,
+    );
+    taken(b"9 obligations in the other side", s, place::OTHER_OWED, 9);
+}
+
+pub fn no_monitor() {
+    say(b"All words 0\n");
+    let mut state = [0u32; STATE_WORDS];
+    last(&state);
+    owing(&state, 0);
+    met(&mut state);
+}
