@@ -10,12 +10,14 @@ use Rattle.judge.proofs.rows.put_obligation.Tie as tie
 
 returns : tie.Need-returns
 returns c =
-    let told = c .before .before .before .before .before .before .before .before .before in
+    let due = c .before in
+    let on = due .before .before in
+    let clock = on .before .before .before in
+    let told = clock .before .before .before in
     let a = told .before .args in
-    let due = c .before .due-word in
     let e = toZ-ofZ {w = w32} {z = a .o .due} (record { sfits = told .struct-told .given .1 .1 .0 .1 }) in
-    rw (c .put-word3 .ensures, c .before .before .before .put-word2 .ensures, c .before .before .before .before .before .before .put-word .ensures)
-    (obligation-put (a .rows .now) (a .i) (a .j) _ _ _ (omega arith) (omega arith) (omega arith) (c .before .before .before .before .before .before .before .byte-word .ensures) (c .before .before .before .before .byte-word2 .ensures) (due .ensures ∙ e))
+    rw (c .put-word3 .ensures, on .put-word2 .ensures, clock .put-word .ensures)
+    (obligation-put (a .rows .now) (a .i) (a .j) _ _ _ (omega arith) (omega arith) (omega arith) (clock .before .byte-word .ensures) (on .before .byte-word2 .ensures) (due .due-word .ensures ∙ e))
 
 pub put-obligation-spec : {M : Type 1} → statement M
 put-obligation-spec =
