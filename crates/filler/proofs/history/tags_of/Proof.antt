@@ -10,41 +10,7 @@ Inv-loop run n k tags₀ i₀ tags i = Unit
 abbrev μ-loop : tie.MeasureT-loop
 μ-loop run n k tags₀ i₀ tags i = n - i
 
-loop-holds : tie.Need-loop-holds Inv-loop μ-loop
-loop-holds c = search needs
-
-tag-at-requires : tie.Need-tag-at-requires Inv-loop μ-loop
-tag-at-requires c κs = search needs
-
-mul-tags : tie.Need-mul-tags Inv-loop μ-loop
-mul-tags c = search needs
-
-array-set-from-tags : tie.Need-array-set-from-tags Inv-loop μ-loop
-array-set-from-tags c = search needs
-
-add-i : tie.Need-add-i Inv-loop μ-loop
-add-i c = search needs
-
-loop-less : tie.Need-loop-less Inv-loop μ-loop
-loop-less c = search needs
-
-loop-again : tie.Need-loop-again Inv-loop μ-loop
-loop-again c = search needs
-
-returns : tie.Need-returns Inv-loop μ-loop
-returns c = search needs
-
 pub tags-of-spec : {M : Type 1} → statement M
 tags-of-spec =
-    tie.close
-    (tie.spec
-    Inv-loop
-    μ-loop
-    loop-holds
-    tag-at-requires
-    mul-tags
-    array-set-from-tags
-    add-i
-    loop-less
-    loop-again
-    returns)
+    tie.close (tie.spec Inv-loop μ-loop (λ c. search needs) (λ c κs. search needs) (λ c. search needs) (λ c. search needs) (λ c. search needs)
+    (λ c. search needs) (λ c. search needs) (λ c. search needs))

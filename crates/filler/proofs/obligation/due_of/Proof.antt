@@ -16,17 +16,9 @@ sum c = rw (held-wide w64 tt (c .before .fits .tag) (c .wide .ensures), toZ-pos 
 fits : (c : tie.After-wide) → SFits w64 (c .before .args .tag +ℤ pos (c .before .args .delay))
 fits c = sfits-widen {w = w32} {w′ = w64} tt (due-fits (c .before .args .tag) (c .before .args .delay) (c .before .fits .tag) (omega arith))
 
-wide-requires : tie.Need-wide-requires
-wide-requires c κs = search needs
-
-cast-result : tie.Need-cast-result
-cast-result c = search needs
-
 add-result : tie.Need-add-result
 add-result c = rw (sum c) (fits c)
 
-returns : tie.Need-returns
-returns c = search needs
-
 pub due-of-spec : {M : Type 1} → statement M
-due-of-spec = tie.close (tie.spec wide-requires cast-result add-result returns)
+due-of-spec =
+    tie.close (tie.spec (λ c κs. search needs) (λ c. search needs) add-result (λ c. search needs))

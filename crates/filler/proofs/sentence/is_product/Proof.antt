@@ -18,39 +18,17 @@ sum c =
     let f = c .before .before .before .before .fits in
     rw (held-wide w64 tt (f .p) (c .before .before .wide2 .ensures), held-wide w64 tt (f .b) (c .before .wide3 .ensures), held-wide w64 tt (f .q) (c .wide4 .ensures), toZ-ofZ {w = w64} (product-fits (f .p) (f .b)))
 
-wide-requires : tie.Need-wide-requires
-wide-requires c κs = search needs
-
-wide-requires-2 : tie.Need-wide-requires-2
-wide-requires-2 c κs = search needs
-
-wide-requires-3 : tie.Need-wide-requires-3
-wide-requires-3 c κs = search needs
-
 mul-result : tie.Need-mul-result
 mul-result c =
     let f = c .before .before .before .fits in
     rw (held-wide w64 tt (f .p) (c .before .wide2 .ensures), held-wide w64 tt (f .b) (c .wide3 .ensures)) (product-fits (f .p) (f .b))
-
-wide-requires-4 : tie.Need-wide-requires-4
-wide-requires-4 c κs = search needs
 
 add-result : tie.Need-add-result
 add-result c =
     let f = c .before .before .before .before .fits in
     rw (sum c) (relation-fits (f .p) (f .b) (f .q))
 
-returns : tie.Need-returns
-returns c = search needs
-
 pub is-product-spec : {M : Type 1} → statement M
 is-product-spec =
-    tie.close
-    (tie.spec
-    wide-requires
-    wide-requires-2
-    wide-requires-3
-    mul-result
-    wide-requires-4
-    add-result
-    returns)
+    tie.close (tie.spec (λ c κs. search needs) (λ c κs. search needs) (λ c κs. search needs) mul-result (λ c κs. search needs) add-result
+    (λ c. search needs))

@@ -10,49 +10,7 @@ Inv-loop n a b i₀ i = Unit
 abbrev μ-loop : tie.MeasureT-loop
 μ-loop n a b i₀ i = n - i
 
-loop-holds : tie.Need-loop-holds Inv-loop μ-loop
-loop-holds c = search needs
-
-add-tick-count : tie.Need-add-tick-count Inv-loop μ-loop
-add-tick-count c = search needs
-
-tick-count-requires : tie.Need-tick-count-requires Inv-loop μ-loop
-tick-count-requires c κs = search needs
-
-add-tick-count-2 : tie.Need-add-tick-count-2 Inv-loop μ-loop
-add-tick-count-2 c = search needs
-
-tick-count-requires-2 : tie.Need-tick-count-requires-2 Inv-loop μ-loop
-tick-count-requires-2 c κs = search needs
-
-returns : tie.Need-returns Inv-loop μ-loop
-returns c = search needs
-
-add-i : tie.Need-add-i Inv-loop μ-loop
-add-i c = search needs
-
-loop-less : tie.Need-loop-less Inv-loop μ-loop
-loop-less c = search needs
-
-loop-again : tie.Need-loop-again Inv-loop μ-loop
-loop-again c = search needs
-
-returns-2 : tie.Need-returns-2 Inv-loop μ-loop
-returns-2 c = search needs
-
 pub weakly-spec : {M : Type 1} → statement M
 weakly-spec =
-    tie.close
-    (tie.spec
-    Inv-loop
-    μ-loop
-    loop-holds
-    add-tick-count
-    tick-count-requires
-    add-tick-count-2
-    tick-count-requires-2
-    returns
-    add-i
-    loop-less
-    loop-again
-    returns-2)
+    tie.close (tie.spec Inv-loop μ-loop (λ c. search needs) (λ c. search needs) (λ c κs. search needs) (λ c. search needs) (λ c κs. search needs)
+    (λ c. search needs) (λ c. search needs) (λ c. search needs) (λ c. search needs) (λ c. search needs))
