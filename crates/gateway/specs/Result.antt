@@ -1,5 +1,6 @@
 -- What the exported calls return, as numbers and bytes of the plain machine's answers.
 use mathlib.Core.List.{List, []}
+use mathlib.Core.Path.{_≡_}
 use Prim.Native.Nat.{ℕ, _+_, _*_}
 use Rattle.records.specs.Outcome.{Outcome, taken, refused}
 use Rattle.records.specs.Sheet.{SheetValue, readSheet}
@@ -8,6 +9,7 @@ use Rattle.tesl.specs.Run.{Instant}
 use Rattle.tesl.specs.Answer.{Answer, exhausted, broken, holding, remainders, answer}
 use Rattle.tesl.specs.Machine.{held, LogResult, callsOf, judgeLog}
 use Rattle.judge.specs.Entry.{answerCode, liveCode, clearCode}
+use Rattle.judge.specs.Log.{Watched}
 use Rattle.panel.specs.Panel.{owesClock}
 
 -- ---- numbers
@@ -31,6 +33,10 @@ packed number code live isClear instants = number + 256 * code + 65536 * live + 
 abbrev pub judgedCode : LogResult → ℕ
 judgedCode r =
     packed (numberOf (r .outcome)) (unlessRefused answerCode (r .outcome)) (unlessRefused liveCode (r .outcome)) (unlessRefused clearCode (r .outcome)) (r .instants)
+
+-- ---- every answer of a log: the result packed, and the whole buffer
+abbrev pub WatchedAs : Watched → ℕ → List ℕ → Type 0
+WatchedAs w result buffer = (result ≡ judgedCode (w .result)) × (buffer ≡ w .buffer)
 
 -- ---- the panel
 

@@ -25,7 +25,7 @@ ghost use Rattle.records.specs.Sheet.{readSheet};
 ghost use Rattle.records.specs.Instant.{readInstant};
 ghost use Rattle.tesl.specs.Machine.{judgeLog};
 ghost use Rattle.judge.specs.Log.{watchLog};
-ghost use Rattle.gateway.specs.Result.{numberOf, judgedCode, shownCode};
+ghost use Rattle.gateway.specs.Result.{numberOf, judgedCode, WatchedAs, shownCode};
 ghost use Rattle.gateway.specs.Live.{LiftOpened, LiftObserved, lastCode, owingCode};
 
 // Returns the result of a sheet and a whole log: the last answer, or the number of the first refusal and the count before it.
@@ -42,7 +42,7 @@ pub extern "C" fn lift_judge(sheet: &[u8], log: &[u8]) -> u64
 // Later bytes stay. Where `out` is shorter than that: returns 10, no answer and the count of instants taken, and `out` stays as it was.
 #[no_mangle]
 pub extern "C" fn lift_watch(sheet: &[u8], log: &[u8], out: &mut [u8]) -> u64
-    ensures { λ r. ⌜ (r ≡ judgedCode (watchLog (now (sheet .entry)) (now (log .entry)) (now (out .entry)) .result)) × (now (out .exit) ≡ watchLog (now (sheet .entry)) (now (log .entry)) (now (out .entry)) .buffer) ⌝ }
+    ensures { λ r. ⌜ WatchedAs (watchLog (now (sheet .entry)) (now (log .entry)) (now (out .entry))) r (now (out .exit)) ⌝ }
 {
     let judged = watch_log(sheet, log, out);
     let reply = judged.reply;
