@@ -11,13 +11,13 @@ use Rattle.records.proofs.Lists.{both}
 use Rattle.tesl.specs.Remainder.{Remainder}
 use Rattle.tesl.specs.Answer.{judged}
 use Rattle.tesl.proofs.Tests.{≡→T}
-use Rattle.judge.specs.declared.held.Count.{Count}
-use Rattle.judge.specs.declared.held.Count.the-variants.{Exhausted, Live}
+use Rattle.judge.specs.declared.held.Status.{Status}
+use Rattle.judge.specs.declared.held.Status.the-variants.{Exhausted, Live}
 use Rattle.judge.specs.declared.monitor.Monitor.{Monitor}
-use Rattle.judge.specs.View.{viewOf, heldIn, live}
+use Rattle.judge.specs.View.{viewOf, heldIn, heldList}
 use Rattle.judge.specs.Answer.{saidBy}
 use Rattle.judge.specs.Entry.{liveCode}
-use Rattle.judge.specs.Limits.{sheetWithin, heldWithin, within}
+use Rattle.judge.specs.Limits.{sheetWithin, heldWithin, monitorWithin}
 use Rattle.judge.specs.Monitor.{sheetBy, heldBy}
 use Rattle.panel.proofs.Laws.{within-held}
 
@@ -27,18 +27,18 @@ take-most (suc n) [] = omega arith
 take-most (suc n) (x ∷ xs) = omega (arith, take-most n xs)
 
 -- no more than are counted
-said-live : (h : Option (List Remainder)) → liveCode (saidBy h) ≤ length (live h)
+said-live : (h : Option (List Remainder)) → liveCode (saidBy h) ≤ length (heldList h)
 unfolding judged
 said-live none = omega arith
 said-live (some []) = omega arith
 said-live (some (r ∷ rs)) = omega arith
 
-module _ (m : Monitor) (e : within m ≡ true) where
-  pub held-few : length (live (heldBy m)) ≤ 32
+module _ (m : Monitor) (e : monitorWithin m ≡ true) where
+  pub held-few : length (heldList (heldBy m)) ≤ 32
   unfolding heldWithin
   held-few = by-count (m .held .count) (within-held m e)
     where
-      by-count : (c : Count) → heldWithin (sheetBy m) (m .instants) c (m .held .remainders) ≡ true → length (live (heldIn (sheetBy m) c (m .held .remainders))) ≤ 32
+      by-count : (c : Status) → heldWithin (sheetBy m) (m .instants) c (m .held .remainders) ≡ true → length (heldList (heldIn (sheetBy m) c (m .held .remainders))) ≤ 32
       by-count Exhausted h = omega arith
       by-count (Live n) h = omega (arith, leb→le n 32 (≡→T (both (leb n 32) h .0)), take-most n (m .held .remainders), length-map (take n (m .held .remainders)) (viewOf (sheetBy m)))
 
@@ -46,5 +46,5 @@ module _ (m : Monitor) (e : within m ≡ true) where
   said-few = omega (arith, said-live (heldBy m), held-few)
 
   pub instants-few : m .instants ≤ 4000
-  unfolding within
+  unfolding monitorWithin
   instants-few = leb→le (m .instants) 4000 (≡→T (both (leb (m .instants) 4000) (both (sheetWithin (sheetBy m)) e .1) .0))

@@ -13,18 +13,18 @@ use Rattle.tesl.specs.Lists.{count}
 use Rattle.tesl.specs.Remainder.{Remainder}
 use Rattle.tesl.specs.Run.{Instant}
 use Rattle.tesl.specs.Answer.{Answer, answer}
-use Rattle.tesl.specs.Machine.{accepts, listAfter, reply, held}
+use Rattle.tesl.specs.Machine.{accepts, listAfter, reply, listAfterCalls}
 use Rattle.theory.specs.Session.{Observing}
 use Rattle.judge.specs.declared.answer.Reply.{Reply}
 use Rattle.judge.specs.declared.live.Replied.{Replied}
 use Rattle.judge.specs.declared.monitor.Monitor.{Monitor}
-use Rattle.judge.specs.declared.monitor.Given.{Given}
-use Rattle.judge.specs.View.{live}
+use Rattle.judge.specs.declared.monitor.CallResult.{CallResult}
+use Rattle.judge.specs.View.{heldList}
 use Rattle.judge.specs.Answer.{replyOf, saidBy}
 use Rattle.judge.specs.Entry.{liveCode}
-use Rattle.judge.specs.Limits.{within}
+use Rattle.judge.specs.Limits.{monitorWithin}
 use Rattle.judge.specs.Monitor.{heldBy, noMonitor}
-use Rattle.judge.specs.Kept.{given}
+use Rattle.judge.specs.Progress.{given}
 use Rattle.judge.specs.Promises.{Follows}
 use Rattle.judge.specs.State.{isState, stateMonitor}
 use Rattle.judge.specs.Live.{stateWithin, instantsIn, observesIn, FollowsIn, OpenedIn, ObservedIn, SaidIn, GivenIn}
@@ -36,7 +36,7 @@ use Rattle.judge.proofs.LiveDemands.{called-in, state-in}
 use Rattle.panel.specs.Panel.{owesClock, panelCount}
 use Rattle.panel.proofs.Run.{within-count}
 use Rattle.gateway.specs.Result.{numberOf, unlessRefused, packed, shownCount, owingIn}
-use Rattle.gateway.specs.Inner.{Small}
+use Rattle.gateway.specs.Inner.{Packable}
 use Rattle.gateway.specs.Live.{resultCode, LiftOpened, LiftObserved, lastReply, lastCode, owingBy, owingCode, LiftCalls, no-call, call, LiftRan, packedReplies, LiftAnswered, LiftSame, LiftDemand3}
 use Rattle.gateway.proofs.Held.{said-few, instants-few}
 use Rattle.gateway.proofs.owing.Laws.{owing-shown}
@@ -44,11 +44,11 @@ use Rattle.gateway.proofs.owing.Laws.{owing-shown}
 -- ---- a state
 
 module _ (w : List ℕ) where
-  limits-in : stateWithin w ≡ true → within (stateMonitor w) ≡ true
+  limits-in : stateWithin w ≡ true → monitorWithin (stateMonitor w) ≡ true
   unfolding stateWithin
   limits-in e = both (isState w) e .1
 
-  state-within : isState w ≡ true → within (stateMonitor w) ≡ true → stateWithin w ≡ true
+  state-within : isState w ≡ true → monitorWithin (stateMonitor w) ≡ true → stateWithin w ≡ true
   unfolding stateWithin
   state-within s l = ap₂ _&&_ s l
 
@@ -65,22 +65,22 @@ module _ (w : List ℕ) where
 
 -- ---- lift_open
 module _ {sheet : List ℕ} {r : Reply} {a b : List ℕ} (o : OpenedIn readSheet sheet r a b) where
-  pub opened-small : Small (record { outcome = replyOf r; instants = 0 })
+  pub opened-small : Packable (record { outcome = replyOf r; instants = 0 })
   opened-small = by-read (readSheet sheet) refl
     where
-      by-read : (x : Outcome SheetValue) → readSheet sheet ≡ x → Small (record { outcome = replyOf r; instants = 0 })
+      by-read : (x : Outcome SheetValue) → readSheet sheet ≡ x → Packable (record { outcome = replyOf r; instants = 0 })
       by-read (refused n) e = rw (o .refuses n e .0) record { live = omega arith; count = omega arith }
       by-read (taken s) e = rw (o .opens s e .0) record { live = live-small s []; count = omega arith }
 
 -- ---- lift_observe
 module _ {bytes : List ℕ} {r : Replied} {a b : List ℕ} (o : ObservedIn bytes r a b) where
-  pub observed-small : Small (record { outcome = replyOf (r .reply); instants = r .instants })
+  pub observed-small : Packable (record { outcome = replyOf (r .reply); instants = r .instants })
   observed-small = by-outcome (observesIn a bytes) refl
     where
       few : r .instants ≤ 4000
       few = omega (arith, o .instants, few-instants b)
 
-      by-outcome : (x : Outcome Instant) → observesIn a bytes ≡ x → Small (record { outcome = replyOf (r .reply); instants = r .instants })
+      by-outcome : (x : Outcome Instant) → observesIn a bytes ≡ x → Packable (record { outcome = replyOf (r .reply); instants = r .instants })
       by-outcome (refused n) e = rw (o .refuses n e .0) record { live = omega arith; count = few }
       by-outcome (taken i) e =
           let k = o .accepts i e .1 in
@@ -99,13 +99,13 @@ module _ {r : Replied} {w : List ℕ} (said : SaidIn r w) where
       by-limits true e = said .inside e ∙ rw e
       by-limits false e = ap replyOf (said .outside e) ∙ rw e
 
-  pub last-small : Small (record { outcome = replyOf (r .reply); instants = r .instants })
+  pub last-small : Packable (record { outcome = replyOf (r .reply); instants = r .instants })
   last-small = by-limits (stateWithin w) refl
     where
       few : r .instants ≤ 4000
       few = omega (arith, said .instants, few-instants w)
 
-      by-limits : (b : Bool) → stateWithin w ≡ b → Small (record { outcome = replyOf (r .reply); instants = r .instants })
+      by-limits : (b : Bool) → stateWithin w ≡ b → Packable (record { outcome = replyOf (r .reply); instants = r .instants })
       by-limits true e = rw (said .inside e) record { live = said-in w e; count = few }
       by-limits false e = rw (said .outside e) record { live = omega arith; count = few }
 
@@ -114,13 +114,13 @@ module _ {r : Replied} {w : List ℕ} (said : SaidIn r w) where
   last-code q = q ∙ ap₂ resultCode last-said (said .instants)
 
 -- ---- lift_owing
-panel-outside : (clock : ℕ) (m : Monitor) → within m ≡ false → panelCount clock m ≡ refused 11
+panel-outside : (clock : ℕ) (m : Monitor) → monitorWithin m ≡ false → panelCount clock m ≡ refused 11
 unfolding panelCount
 panel-outside clock m e = rw e
 
 -- the panel's count of what is held
 abbrev counted : ℕ → Option (List Remainder) → Outcome ℕ
-counted clock h = taken (count (owesClock clock) (live h))
+counted clock h = taken (count (owesClock clock) (heldList h))
 
 module _ (clock : ℕ) (w : List ℕ) where
   owing-inside : stateWithin w ≡ true → owingBy clock w ≡ counted clock (heldBy (stateMonitor w))
@@ -131,14 +131,14 @@ module _ (clock : ℕ) (w : List ℕ) where
   unfolding owingBy
   owing-outside e = rw e
 
-module _ {g : Given} {w : List ℕ} (h : GivenIn g w) where
+module _ {g : CallResult} {w : List ℕ} (h : GivenIn g w) where
   given-instants : g .monitor .instants ≡ instantsIn w
   unfolding noMonitor
   given-instants = by-limits (stateWithin w) refl
     where
       by-limits : (b : Bool) → stateWithin w ≡ b → g .monitor .instants ≡ instantsIn w
       by-limits true e = h .instants e ∙ sym (instants-held w e)
-      by-limits false e = ap (λ (x : Given). x .monitor .instants) (h .outside e) ∙ sym (no-instants w e)
+      by-limits false e = ap (λ (x : CallResult). x .monitor .instants) (h .outside e) ∙ sym (no-instants w e)
 
   pub given-few : g .monitor .instants ≤ 4000
   given-few = omega (arith, given-instants, few-instants w)
@@ -150,7 +150,7 @@ module _ {g : Given} {w : List ℕ} (h : GivenIn g w) where
       where
         by-limits : (b : Bool) → stateWithin w ≡ b → numberOf (replyOf (g .reply)) ≡ numberOf (owingBy clock w)
         by-limits true e = ap numberOf (h .inside e .0) ∙ sym (ap numberOf (owing-inside clock w e))
-        by-limits false e = ap (λ (x : Given). numberOf (replyOf (x .reply))) (h .outside e) ∙ sym (ap numberOf (owing-outside clock w e))
+        by-limits false e = ap (λ (x : CallResult). numberOf (replyOf (x .reply))) (h .outside e) ∙ sym (ap numberOf (owing-outside clock w e))
 
     given-count : shownCount (panelCount clock (g .monitor)) ≡ shownCount (owingBy clock w)
     given-count = by-limits (stateWithin w) refl
@@ -158,7 +158,7 @@ module _ {g : Given} {w : List ℕ} (h : GivenIn g w) where
         by-limits : (b : Bool) → stateWithin w ≡ b → shownCount (panelCount clock (g .monitor)) ≡ shownCount (owingBy clock w)
         by-limits true e = ap shownCount (within-count clock (g .monitor) (h .inside e .1) ∙ ap (counted clock) (h .held e) ∙ sym (owing-inside clock w e))
         by-limits false e =
-            ap shownCount (ap (λ (x : Given). panelCount clock (x .monitor)) (h .outside e) ∙ panel-outside clock noMonitor no-monitor-outside ∙ sym (owing-outside clock w e))
+            ap shownCount (ap (λ (x : CallResult). panelCount clock (x .monitor)) (h .outside e) ∙ panel-outside clock noMonitor no-monitor-outside ∙ sym (owing-outside clock w e))
 
     pub owing-code : {owing number result : ℕ} → owing ≡ shownCount (panelCount clock (g .monitor)) → number ≡ numberOf (replyOf (g .reply))
         → result ≡ packed number 0 owing 0 (g .monitor .instants) → result ≡ owingCode clock w
@@ -194,8 +194,8 @@ module _ {s : SheetValue} {run : List Instant} {w : List ℕ} (f : FollowsIn s r
   next-follows o = record { state = state-in (o .observed) (f .state); follows = called o .follows }
 
 all-calls : {s : SheetValue} (run : List Instant) {w : List ℕ} → FollowsIn s run w → {calls : List (List ℕ)} {results last : List ℕ} → LiftCalls w calls results last
-    → (results ≡ packedReplies s run calls) × FollowsIn s (held s run calls) last
-unfolding packedReplies held
+    → (results ≡ packedReplies s run calls) × FollowsIn s (listAfterCalls s run calls) last
+unfolding packedReplies listAfterCalls
 all-calls run f no-call = (refl, f)
 all-calls {s} run f (call {bytes = bytes} o cs) =
     let g = next-follows f o in

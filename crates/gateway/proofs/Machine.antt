@@ -15,7 +15,7 @@ use Rattle.judge.specs.Entry.{liveCode, answersTaken}
 use Rattle.judge.specs.Log.{entries, Watched, watchLog}
 use Rattle.judge.proofs.log.Answers.{live-small, answers-small, answers-few, concluded-count}
 use Rattle.gateway.specs.Result.{unlessRefused}
-use Rattle.gateway.specs.Inner.{Small}
+use Rattle.gateway.specs.Inner.{Packable}
 
 concluded-live : (o : Outcome Answer) (n : ℕ) (replies : List (Outcome Answer)) → unlessRefused liveCode o ≤ 32
     → All (λ (a : Answer). liveCode a ≤ 32) (answersTaken replies) → unlessRefused liveCode (concluded o n replies .outcome) ≤ 32
@@ -23,11 +23,11 @@ concluded-live o n [] h all = h
 concluded-live o n (taken a ∷ replies) h all = concluded-live (taken a) (suc n) replies (all .0) (all .1)
 concluded-live o n (refused m ∷ replies) h all = omega arith
 
-pub judged-small : (sheet log : List ℕ) → Small (judgeLog sheet log)
+pub judged-small : (sheet log : List ℕ) → Packable (judgeLog sheet log)
 unfolding judgeLog session
 judged-small sheet log = by-read (readSheet sheet) refl
   where
-    by-read : (o : Outcome SheetValue) → readSheet sheet ≡ o → Small (judgeLog sheet log)
+    by-read : (o : Outcome SheetValue) → readSheet sheet ≡ o → Packable (judgeLog sheet log)
     by-read (refused n) e = rw e record { live = omega arith; count = omega arith }
     by-read (taken s) e =
         let calls = callsOf log in
@@ -40,10 +40,10 @@ judged-small sheet log = by-read (readSheet sheet) refl
         }
 
 -- with every answer in a buffer, too
-pub watched-small : (sheet log out : List ℕ) → Small (watchLog sheet log out .result)
+pub watched-small : (sheet log out : List ℕ) → Packable (watchLog sheet log out .result)
 unfolding watchLog
 watched-small sheet log out = by-test (ltb (length out) (length (entries sheet log))) _
   where
-    by-test : (b : Bool) (w : List ℕ) → Small (cond {A = Watched} b (record { result = record { outcome = refused 10; instants = judgeLog sheet log .instants }; buffer = out }) (record { result = judgeLog sheet log; buffer = w }) .result)
+    by-test : (b : Bool) (w : List ℕ) → Packable (cond {A = Watched} b (record { result = record { outcome = refused 10; instants = judgeLog sheet log .instants }; buffer = out }) (record { result = judgeLog sheet log; buffer = w }) .result)
     by-test true w = record { live = omega arith; count = judged-small sheet log .count }
     by-test false w = judged-small sheet log

@@ -2,8 +2,8 @@
 use mathlib.Core.List.{List}
 use mathlib.Core.Path.{_≡_}
 use Prim.Native.Nat.{ℕ, _≤_}
-use Rattle.records.specs.declared.record.Answer as reading
-use Rattle.records.specs.declared.record.Answer.the-variants.{Done, Refused}
+use Rattle.records.specs.declared.record.Decision as reading
+use Rattle.records.specs.declared.record.Decision.the-variants.{Done, Refused}
 use Rattle.records.specs.Outcome.{taken, refused}
 use Rattle.records.specs.Sheet.{SheetValue}
 use Rattle.tesl.specs.Run.{Instant}
@@ -16,12 +16,12 @@ use Rattle.judge.specs.Promises.{Follows}
 use Rattle.gateway.specs.Result.{unlessRefused, owingIn}
 
 -- the number of what reading refuses
-abbrev pub readingNumber : reading.Answer → ℕ
+abbrev pub readingNumber : reading.Decision → ℕ
 readingNumber Done = 0
 readingNumber (Refused n) = n
 
 -- what has room in a result
-pub record Small (r : LogResult) : Type 0 where
+pub record Packable (r : LogResult) : Type 0 where
   pub live : unlessRefused liveCode (r .outcome) ≤ 32
   pub count : r .instants ≤ 4000
 

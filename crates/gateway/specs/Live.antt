@@ -8,7 +8,7 @@ use Rattle.records.specs.Outcome.{Outcome, taken, refused}
 use Rattle.records.specs.Sheet.{SheetValue, readSheet}
 use Rattle.tesl.specs.Run.{Instant}
 use Rattle.tesl.specs.Answer.{Answer, answer}
-use Rattle.tesl.specs.Machine.{accepts, listAfter, reply, held}
+use Rattle.tesl.specs.Machine.{accepts, listAfter, reply, listAfterCalls}
 use Rattle.judge.specs.declared.answer.Reply.{Reply}
 use Rattle.judge.specs.declared.live.Replied.{Replied}
 use Rattle.judge.specs.Answer.{replyOf, saidBy}
@@ -91,7 +91,7 @@ pub record LiftAnswered (s : SheetValue) (run : List Instant) {sheet : List ℕ}
 -- the sheet is refused: its number alone, no word changes, and nothing is said of later calls
 pub record LiftSame {sheet : List ℕ} {calls : List (List ℕ)} (r : LiftRan sheet calls) : Type 0 where
   pub refuses : (n : ℕ) → readSheet sheet ≡ refused n → (r .opening ≡ resultCode (refused n) 0) × (r .opened ≡ r .before)
-  pub reads : (s : SheetValue) → readSheet sheet ≡ taken s → LiftAnswered s (held s [] calls) r
+  pub reads : (s : SheetValue) → readSheet sheet ≡ taken s → LiftAnswered s (listAfterCalls s [] calls) r
 
 -- for every sheet's bytes, every list of records' bytes and every state before
 abbrev pub LiftDemand3 : Type 0

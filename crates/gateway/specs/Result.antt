@@ -7,7 +7,7 @@ use Rattle.records.specs.Sheet.{SheetValue, readSheet}
 use Rattle.tesl.specs.Lists.{count}
 use Rattle.tesl.specs.Run.{Instant}
 use Rattle.tesl.specs.Answer.{Answer, exhausted, broken, holding, remainders, answer}
-use Rattle.tesl.specs.Machine.{held, LogResult, callsOf, judgeLog}
+use Rattle.tesl.specs.Machine.{listAfterCalls, LogResult, callsOf, judgeLog}
 use Rattle.judge.specs.Entry.{answerCode, liveCode, clearCode}
 use Rattle.judge.specs.Log.{Watched}
 use Rattle.panel.specs.Panel.{owesClock}
@@ -57,7 +57,7 @@ owingIn clock s run = unlessExhausted (answer s run) (count (owesClock clock) (r
 
 -- the run is the machine's list after the log
 abbrev pub owingOf : ℕ → List ℕ → Outcome SheetValue → ℕ
-owingOf clock log (taken s) = owingIn clock s (held s [] (callsOf log))
+owingOf clock log (taken s) = owingIn clock s (listAfterCalls s [] (callsOf log))
 owingOf clock log (refused n) = 0
 
 -- in the place of live; answer and clear are 0

@@ -3,20 +3,20 @@ use judge::answer::Reply;
 use judge::entry::answer_code;
 use judge::entry::clear_code;
 use judge::entry::live_code;
-use records::record::Answer as Reading;
+use records::record::Decision;
 ghost use mathlib.Core.Path.{_≡_};
 ghost use Prim.Native.Nat.{_≤_};
 ghost use Rattle.judge.specs.Answer.{replyOf};
 ghost use Rattle.gateway.specs.Result.{numberOf, packed, judgedCode};
-ghost use Rattle.gateway.specs.Inner.{readingNumber, Small};
+ghost use Rattle.gateway.specs.Inner.{readingNumber, Packable};
 
 // The number of what reading refuses.
-pub(crate) fn reading_number(answer: Reading) -> u8
+pub(crate) fn reading_number(answer: Decision) -> u8
     ensures { λ r. ⌜ r ≡ readingNumber answer ⌝ }
 {
     match answer {
-        Reading::Done => 0,
-        Reading::Refused(n) => n,
+        Decision::Done => 0,
+        Decision::Refused(n) => n,
     }
 }
 
@@ -44,7 +44,7 @@ pub(crate) fn pack(number: u8, answer: u8, live: u8, clear: u8, count: usize) ->
 
 // The result of a reply and the count of instants taken.
 pub(crate) fn pack_reply(reply: Reply, count: usize) -> u64
-    requires { ⌜ Small (record { outcome = replyOf reply; instants = count }) ⌝ }
+    requires { ⌜ Packable (record { outcome = replyOf reply; instants = count }) ⌝ }
     ensures { λ r. ⌜ r ≡ judgedCode (record { outcome = replyOf reply; instants = count }) ⌝ }
 {
     match reply {

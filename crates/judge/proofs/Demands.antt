@@ -16,14 +16,14 @@ use Rattle.theory.proofs.Machine.{same-session, each-answer}
 use Rattle.theory.proofs.Said.{answer-said}
 use Rattle.theory.proofs.Seen.{seen-judged}
 use Rattle.judge.specs.declared.monitor.Monitor.{Monitor}
-use Rattle.judge.specs.declared.monitor.Given.{Given}
+use Rattle.judge.specs.declared.monitor.CallResult.{CallResult}
 use Rattle.judge.specs.Answer.{replyOf}
 use Rattle.judge.specs.Promises.{Follows, observes, Called}
 use Rattle.judge.specs.Demands.{openedOf, Opens, Observes, Demand3, Demand3Said, Demand2}
 
 -- ---- opening
 
-opening-follows : (read : Reader) (sheet : List ℕ) (outcome : Outcome (machine.Opened Monitor)) → Opens read sheet outcome → Opening read Follows sheet outcome
+opening-follows : (read : Reader) (sheet : List ℕ) (outcome : Outcome (machine.OpenedMonitor Monitor)) → Opens read sheet outcome → Opening read Follows sheet outcome
 opening-follows read sheet outcome (r, h, e) = subst (Opening read Follows sheet) e (by-read (read sheet) refl)
   where
     by-read : (o : Outcome SheetValue) → read sheet ≡ o → Opening read Follows sheet (openedOf (replyOf (r .reply)) (r .monitor))
@@ -37,7 +37,7 @@ pub same-call : (s : SheetValue) (run : List Instant) (m : Monitor) (bytes : Lis
 unfolding observes accepts
 same-call s run m bytes f = rw (f .limits, f .instants, ap (λ (v : SheetValue). v .clocks) (f .sheet))
 
-pub called-follows : (s : SheetValue) (run : List Instant) (m : Monitor) (bytes : List ℕ) (r : Given)
+pub called-follows : (s : SheetValue) (run : List Instant) (m : Monitor) (bytes : List ℕ) (r : CallResult)
     → Follows s run m → Called m bytes r → Observing Follows s run bytes (replyOf (r .reply)) (r .monitor)
 called-follows s run m bytes r f h = by-outcome (accepts s run bytes) refl
   where
@@ -45,8 +45,8 @@ called-follows s run m bytes r f h = by-outcome (accepts s run bytes) refl
     by-outcome (refused n) q =
         let g = h .refuses n (same-call s run m bytes f ∙ q) in
         record {
-          same = rw q (ap (λ (x : Given). replyOf (x .reply)) g);
-          follows = rw q (subst (Follows s run) (sym (ap (λ (x : Given). x .monitor) g)) f);
+          same = rw q (ap (λ (x : CallResult). replyOf (x .reply)) g);
+          follows = rw q (subst (Follows s run) (sym (ap (λ (x : CallResult). x .monitor) g)) f);
         }
     by-outcome (taken i) q =
         let g = h .accepts i (same-call s run m bytes f ∙ q) .follows s run f in

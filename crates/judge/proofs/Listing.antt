@@ -84,24 +84,24 @@ module _ {A : Type 0} {f g : ℕ → A} where
 -- ---- stores in a list that reads d past its end
 module _ {A : Type 0} (d : A) where
   -- the places before b are as they were
-  abbrev pub Kept : ℕ → List A → List A → Type 0
-  Kept b was l = (p : ℕ) → p < b → getD l p d ≡ getD was p d
+  abbrev pub PlacesStay : ℕ → List A → List A → Type 0
+  PlacesStay b was l = (p : ℕ) → p < b → getD l p d ≡ getD was p d
 
   -- what stands at n places from b on
   abbrev placesFrom : ℕ → ℕ → List A → List A
   placesFrom b n l = listed (λ k. getD l (b + k) d) n
 
-  kept-set : (b p : ℕ) (a : A) (was l : List A) → b ≤ p → Kept b was l → Kept b was (set l p a)
-  kept-set b p a was l h k q m = getD-set-other l p q a d (λ e. omega arith) ∙ k q m
+  stay-set : (b p : ℕ) (a : A) (was l : List A) → b ≤ p → PlacesStay b was l → PlacesStay b was (set l p a)
+  stay-set b p a was l h k q m = getD-set-other l p q a d (λ e. omega arith) ∙ k q m
 
   -- places that end before b
-  pub places-kept : (b s n : ℕ) (was l : List A) → s + n ≤ b → Kept b was l → placesFrom s n l ≡ placesFrom s n was
-  places-kept b s n was l h k = listed-same n (λ j m. k (s + j) (omega arith))
+  pub places-stay : (b s n : ℕ) (was l : List A) → s + n ≤ b → PlacesStay b was l → placesFrom s n l ≡ placesFrom s n was
+  places-stay b s n was l h k = listed-same n (λ j m. k (s + j) (omega arith))
 
   -- ---- the first k elements of x, stored from place b on
   module _ (b : ℕ) (was x : List A) where
     abbrev pub Copied : List A → ℕ → Type 0
-    Copied l k = (length l ≡ length was) × (placesFrom b k l ≡ take k x) × Kept b was l
+    Copied l k = (length l ≡ length was) × (placesFrom b k l ≡ take k x) × PlacesStay b was l
 
     pub copied-start : Copied was 0
     unfolding listedFrom
@@ -113,7 +113,7 @@ module _ {A : Type 0} (d : A) where
           let r : b + k < length l = omega (arith, w .0) in (
             length-set l (b + k) (getD x k d) ∙ w .0,
             listed-next k (λ j i. getD-set-other l (b + k) (b + j) (getD x k d) d (λ e. omega arith)) (getD-set-same l (b + k) (getD x k d) d r) (w .1) ∙ rw (add-one, take-suc x k d m),
-            kept-set b (b + k) (getD x k d) was l (omega arith) (w .2),
+            stay-set b (b + k) (getD x k d) was l (omega arith) (w .2),
           )
 
       pub copied-all : (n : ℕ) → length x ≡ n → n ≡ k → placesFrom b n l ≡ x

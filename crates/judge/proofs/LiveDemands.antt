@@ -13,7 +13,7 @@ use Rattle.theory.specs.Session as machine
 use Rattle.theory.proofs.Machine.{same-session}
 use Rattle.judge.specs.declared.live.Replied.{Replied}
 use Rattle.judge.specs.Answer.{replyOf}
-use Rattle.judge.specs.Kept.{given}
+use Rattle.judge.specs.Progress.{given}
 use Rattle.judge.specs.Promises.{Follows, observes, Called}
 use Rattle.judge.specs.State.{isState, stateMonitor}
 use Rattle.judge.specs.Live.{observesIn, FollowsIn, ObservedIn, openedAs, OpensIn, ObservesIn, Demand3In, Demand3SaidIn, Demand2In}
@@ -21,7 +21,7 @@ use Rattle.judge.proofs.Demands.{same-call, called-follows, each-said, 
 
 -- ---- opening
 
-opening-follows : (read : Reader) (sheet : List ℕ) (outcome : Outcome (machine.Opened (List ℕ))) → OpensIn read sheet outcome → Opening read FollowsIn sheet outcome
+opening-follows : (read : Reader) (sheet : List ℕ) (outcome : Outcome (machine.OpenedMonitor (List ℕ))) → OpensIn read sheet outcome → Opening read FollowsIn sheet outcome
 opening-follows read sheet outcome (r, a, b, h, e) = subst (Opening read FollowsIn sheet) e (by-read (read sheet) refl)
   where
     by-read : (o : Outcome SheetValue) → read sheet ≡ o → Opening read FollowsIn sheet (openedAs (replyOf r) b)

@@ -1,5 +1,5 @@
 pub mod Effects
 pub mod Adding
-pub mod Keeping
+pub mod StillOwed
 pub mod Row
 pub mod Built

@@ -4,8 +4,8 @@ pub mod Advance
 pub mod Once
 pub mod Counted
 pub mod Gather
-pub mod Settle
+pub mod Apply
 pub mod Found
 pub mod Listed
 pub mod Carried
-pub mod Heed
+pub mod Relevant

@@ -7,11 +7,11 @@ use lib.ListN.{length}
 use Rattle.records.specs.Sheet.{SheetValue}
 use Rattle.tesl.specs.Answer.{mostLive}
 use Rattle.judge.specs.declared.plan.Plan.{Plan}
-use Rattle.judge.specs.declared.held.Count.{Count}
-use Rattle.judge.specs.View.{cut, liveCount}
-use Rattle.judge.specs.Plan.{Fitting, Planned}
+use Rattle.judge.specs.declared.held.Status.{Status}
+use Rattle.judge.specs.View.{usedPart, liveCount}
+use Rattle.judge.specs.Plan.{PlanFits, Planned}
 use Rattle.judge.specs.Rows.{width, sides, word, rowCount, rowObligation, rowLead, rowOf, Stays, HeadStays, RowsStay}
-use Rattle.judge.specs.Settle.{Side, foundIn, SmallIn, builtRows}
+use Rattle.judge.specs.Apply.{Side, foundIn, FewOwedIn, builtRows}
 use Rattle.judge.specs.Fill.{workedRows}
 use Rattle.judge.specs.UnusedWords.{leadUsed, NothingInRow, NothingBeside}
 
@@ -34,15 +34,15 @@ pub record ClearedOwed (i n : ℕ) (a b : List ℕ) : Type 0 where
   pub dues : (j : ℕ) → n ≤ j → j < 8 → word b i (17 + j) ≡ 0
 
 -- the leads of lines that are no precedes lines are zero, the others stay
-pub record ClearedLeads (reach : ℕ) (precede : List Bool) (i : ℕ) (a b : List ℕ) : Type 0 where
+pub record ClearedLeads (leaders : ℕ) (precede : List Bool) (i : ℕ) (a b : List ℕ) : Type 0 where
   pub stays : Stays i 25 41 a b
-  pub used : (k : ℕ) → leadUsed reach precede k ≡ true → rowLead b i k ≡ rowLead a i k
-  pub unused : (k : ℕ) → k < 16 → leadUsed reach precede k ≡ false → rowLead b i k ≡ 0
+  pub used : (k : ℕ) → leadUsed leaders precede k ≡ true → rowLead b i k ≡ rowLead a i k
+  pub unused : (k : ℕ) → k < 16 → leadUsed leaders precede k ≡ false → rowLead b i k ≡ 0
 
 -- row i reads as before, for every sheet that the plan is of, and what its remainder doesn't use is zero
 pub record ClearedRow (p : Plan) (i : ℕ) (a b : List ℕ) : Type 0 where
   pub count : rowCount b i ≡ rowCount a i
-  pub row : (v : SheetValue) (lines : List ℕ) → Planned v p lines → cut v (rowOf b i) ≡ cut v (rowOf a i)
+  pub row : (v : SheetValue) (lines : List ℕ) → Planned v p lines → usedPart v (rowOf b i) ≡ usedPart v (rowOf a i)
   pub nothing : NothingInRow p b i
 
 -- so row i; the other rows stay
@@ -56,38 +56,38 @@ pub record ClearedEach (p : Plan) (from n : ℕ) (a b : List ℕ) : Type 0 where
   pub each : (k : ℕ) → k < n → ClearedRow p (from + k) a b
 
 -- those held from row `from` on, a side's first
-pub record Holding (rows : List ℕ) (from : ℕ) (count : Count) (p : Plan) : Type 0 where
+pub record Holding (rows : List ℕ) (from : ℕ) (count : Status) (p : Plan) : Type 0 where
   pub side : Side from
-  pub small : SmallIn count rows from
-  pub plan : Fitting p
+  pub small : FewOwedIn count rows from
+  pub plan : PlanFits p
 
 -- those held are as before, for every sheet that the plan is of, and the head stays; nothing is beside them
-pub record ClearedBeside (p : Plan) (from : ℕ) (count : Count) (a b : List ℕ) : Type 0 where
+pub record ClearedBeside (p : Plan) (from : ℕ) (count : Status) (a b : List ℕ) : Type 0 where
   pub size : length b ≡ length a
   pub head : HeadStays a b
-  pub small : SmallIn count b from
+  pub small : FewOwedIn count b from
   pub held : (v : SheetValue) (lines : List ℕ) → Planned v p lines → foundIn v count b from ≡ foundIn v count a from
   pub nothing : NothingBeside p count from b
 
 -- those found from row `to` on are as before, for every sheet that the plan is of; of the rows that may have been built in, what they don't use is zero, other rows stay
-pub record ClearedFound (p : Plan) (to : ℕ) (count : Count) (a b : List ℕ) : Type 0 where
+pub record ClearedFound (p : Plan) (to : ℕ) (count : Status) (a b : List ℕ) : Type 0 where
   pub stays : RowsStay to (builtRows count) a b
-  pub small : SmallIn count b to
+  pub small : FewOwedIn count b to
   pub found : (v : SheetValue) (lines : List ℕ) → Planned v p lines → foundIn v count b to ≡ foundIn v count a to
   pub others : (h q : ℕ) → to ≤ h → h < to + builtRows count → q < width → (h < to + liveCount count → ⊥) → word b h q ≡ 0
   pub each : (k : ℕ) → k < liveCount count → NothingInRow p b (to + k)
 
 -- those that were held on a side, and those found on the other
-pub record Tidying (rows : List ℕ) (from : ℕ) (was count : Count) (p : Plan) : Type 0 where
+pub record Tidying (rows : List ℕ) (from : ℕ) (was count : Status) (p : Plan) : Type 0 where
   pub side : Side from
   pub held : liveCount was ≤ mostLive
-  pub small : SmallIn count rows (sides - from)
-  pub plan : Fitting p
+  pub small : FewOwedIn count rows (sides - from)
+  pub plan : PlanFits p
 
 -- those found are as before, for every sheet that the plan is of, and the head stays; nothing is beside them, if nothing was beside those held before the instant, in the words `before`
-pub record Tidied (p : Plan) (from : ℕ) (was count : Count) (a b : List ℕ) : Type 0 where
+pub record Tidied (p : Plan) (from : ℕ) (was count : Status) (a b : List ℕ) : Type 0 where
   pub size : length b ≡ length a
   pub head : HeadStays a b
-  pub small : SmallIn count b (sides - from)
+  pub small : FewOwedIn count b (sides - from)
   pub found : (v : SheetValue) (lines : List ℕ) → Planned v p lines → foundIn v count b (sides - from) ≡ foundIn v count a (sides - from)
   pub nothing : (before : List ℕ) → NothingBeside p was from before → RowsStay (sides - from) (workedRows was count) before a → NothingBeside p count (sides - from) b

@@ -11,22 +11,22 @@ use Rattle.theory.specs.Session as machine
 use Rattle.theory.specs.Said.{Said}
 use Rattle.theory.specs.Seen.{SeenJudged}
 use Rattle.judge.specs.declared.monitor.Monitor.{Monitor}
-use Rattle.judge.specs.declared.monitor.Given.{Given}
+use Rattle.judge.specs.declared.monitor.CallResult.{CallResult}
 use Rattle.judge.specs.Answer.{replyOf}
 use Rattle.judge.specs.Promises.{Follows, Opened, Observed}
 
 -- ---- a call and what it gave
 
 -- refused, there is no monitor to call
-abbrev pub openedOf : Outcome Answer → Monitor → Outcome (machine.Opened Monitor)
+abbrev pub openedOf : Outcome Answer → Monitor → Outcome (machine.OpenedMonitor Monitor)
 openedOf (taken a) m = taken (record { said = a; monitor = m })
 openedOf (refused n) m = refused n
 
-abbrev pub Opens : Reader → List ℕ → Outcome (machine.Opened Monitor) → Type 0
-Opens read sheet outcome = (r : Given) × Opened read sheet r × (openedOf (replyOf (r .reply)) (r .monitor) ≡ outcome)
+abbrev pub Opens : Reader → List ℕ → Outcome (machine.OpenedMonitor Monitor) → Type 0
+Opens read sheet outcome = (r : CallResult) × Opened read sheet r × (openedOf (replyOf (r .reply)) (r .monitor) ≡ outcome)
 
 abbrev pub Observes : Monitor → List ℕ → Outcome Answer → Monitor → Type 0
-Observes m bytes given after = (r : Given) × Observed m bytes r × (replyOf (r .reply) ≡ given) × (r .monitor ≡ after)
+Observes m bytes given after = (r : CallResult) × Observed m bytes r × (replyOf (r .reply) ≡ given) × (r .monitor ≡ after)
 
 -- ---- demand 3: for every byte string handed to `open` and every list of byte strings handed to `observe`, each call getting the monitor that the call before gave back,
 -- what opening and every call answered is what the plain machine answers, and the last monitor follows the machine's list

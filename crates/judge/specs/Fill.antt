@@ -13,19 +13,19 @@ use Rattle.tesl.specs.Answer.{mostLive}
 use Rattle.judge.specs.declared.fill.Before.{Before}
 use Rattle.judge.specs.declared.fill.Extent.{Extent}
 use Rattle.judge.specs.declared.plan.Plan.{Plan}
-use Rattle.judge.specs.declared.held.Count.{Count}
-use Rattle.judge.specs.View.{liveCount, live, seenOf, tagsBefore}
+use Rattle.judge.specs.declared.held.Status.{Status}
+use Rattle.judge.specs.View.{liveCount, heldList, seenOf, tagsBefore}
 use Rattle.judge.specs.Lines.{smallLeads}
-use Rattle.judge.specs.Heed.{heeded}
-use Rattle.judge.specs.Plan.{Fitting, Planned}
+use Rattle.judge.specs.Relevant.{relevantOnly}
+use Rattle.judge.specs.Plan.{PlanFits, Planned}
 use Rattle.judge.specs.Rows.{sides, words, RowsStay}
-use Rattle.judge.specs.Settle.{Side, SmallIn, foundIn, builtRows}
+use Rattle.judge.specs.Apply.{Side, FewOwedIn, foundIn, builtRows}
 use Rattle.judge.specs.Fillings.{mostFillings, listSize, fillingsFrom, fillingsIn}
 use Rattle.judge.specs.Work.{worked}
 
 -- of the clocks from k on; an unseen tick of a clock without a flag counts as idle
 abbrev pub fillingsLeft : List Bool → List TickSlot → ℕ → ℕ → List Bool → List (List Bool)
-fillingsLeft flags seen clocks k ticks = fillingsFrom k (heeded (λ j. getD flags j true) k (drop k (seenOf clocks seen))) ticks
+fillingsLeft flags seen clocks k ticks = fillingsFrom k (relevantOnly (λ j. getD flags j true) k (drop k (seenOf clocks seen))) ticks
 
 -- room for the fillings left, after the first n
 pub record Listing (list : List Bool) (x : Extent) (flags : List Bool) (k : ℕ) (seen : List TickSlot) (ticks : List Bool) (n : ℕ) : Type 0 where
@@ -44,21 +44,21 @@ pub record Listed (rules : List Bool → Bool) (left : List (List Bool)) (n r : 
 -- ---- an instant
 
 -- those held on a side, and a list to work in
-pub record Working (rows : List ℕ) (from : ℕ) (count : Count) (p : Plan) (list : List Bool) : Type 0 where
+pub record Working (rows : List ℕ) (from : ℕ) (count : Status) (p : Plan) (list : List Bool) : Type 0 where
   pub size : length rows ≡ words
   pub side : Side from
-  pub small : SmallIn count rows from
-  pub plan : Fitting p
+  pub small : FewOwedIn count rows from
+  pub plan : PlanFits p
   pub lists : length list ≡ listSize
 
 -- the rows of the other side that an instant may have built in: none where none is held, since then nothing is worked
-abbrev pub workedRows : Count → Count → ℕ
+abbrev pub workedRows : Status → Status → ℕ
 workedRows count r = cond (eqb (liveCount count) 0) 0 (builtRows r)
 
 -- those held after an instant, on the other side; the rows that nothing was built in stay
-pub record Worked (lines : List ℕ) (p : Plan) (before : Before) (instant : Instant) (from : ℕ) (count : Count) (r : Count) (a b : List ℕ) (list : List Bool) : Type 0 where
+pub record Worked (lines : List ℕ) (p : Plan) (before : Before) (instant : Instant) (from : ℕ) (count : Status) (r : Status) (a b : List ℕ) (list : List Bool) : Type 0 where
   pub stays : RowsStay (sides - from) (workedRows count r) a b
-  pub small : SmallIn r b (sides - from)
+  pub small : FewOwedIn r b (sides - from)
   pub lists : length list ≡ listSize
-  pub works : (v : SheetValue) → Planned v p lines → T (all smallLeads (live (foundIn v count a from)))
+  pub works : (v : SheetValue) → Planned v p lines → T (all smallLeads (heldList (foundIn v count a from)))
       → foundIn v r b (sides - from) ≡ worked mostLive v (tagsBefore (before .first) (before .tags)) (seenOf (v .clocks) (instant .ticks)) (instant .tags) (foundIn v count a from)

@@ -19,30 +19,30 @@ use Rattle.judge.specs.declared.advance.Next.the-variants.{Fails, Over, 
 use Rattle.judge.specs.declared.filling.Filling.{Filling}
 use Rattle.judge.specs.declared.plan.Plan.{Plan}
 use Rattle.judge.specs.Advanced.{Advanced, fails, over, onto}
-use Rattle.judge.specs.View.{filledOf, firstOf, cut}
+use Rattle.judge.specs.View.{filledOf, firstOf, usedPart}
 use Rattle.judge.specs.Lines.{allStopped, smallLeads}
 use Rattle.judge.specs.Carried.{needOf, gainOf, lossOf}
-use Rattle.judge.specs.Plan.{isRule, lineIn, Leading, Fitting, Planned}
+use Rattle.judge.specs.Plan.{isRule, planLine, Leading, PlanFits, Planned}
 use Rattle.judge.specs.Rows.{width, rowCount, rowOf, Between, Stays}
 use Rattle.judge.specs.Work.{advanced}
 
 -- the instant, and what its delay lines begin
-abbrev pub instantOf : Filling → Filled
-instantOf f = filledOf (f .ticks) (f .tags)
+abbrev pub filledInstant : Filling → Filled
+filledInstant f = filledOf (f .ticks) (f .tags)
 
 abbrev pub begunIn : Filling → List Obligation
 begunIn f = firstOf (f .count) (f .begun)
 
 -- what was gathered of a filling is what the sheet's lines make of it
-pub record Asked (v : SheetValue) (p : Plan) (f : Filling) : Type 0 where
+pub record GatheredFor (v : SheetValue) (p : Plan) (f : Filling) : Type 0 where
   pub as-many : p .clocks ≡ v .clocks
   pub few-clocks : v .clocks ≤ 8
-  pub leading : Leading v (p .reach) (p .precede)
-  pub begins : begunIn f ≡ onceEach sameObligation (flatMap (owedFrom (instantOf f)) (v .lines))
+  pub leading : Leading v (p .leaders) (p .precede)
+  pub begins : begunIn f ≡ onceEach sameObligation (flatMap (owedFrom (filledInstant f)) (v .lines))
   pub ends : f .stops ≡ allStopped (f .ticks) (filter isRule (v .lines)) (replicate 8 false)
-  pub needed : (k : ℕ) → k < p .reach → getD (f .needs) k 0 ≡ needOf (f .ticks) (getD (v .lines) k blankLine)
-  pub gained : (k : ℕ) → k < p .reach → getD (f .gains) k 0 ≡ gainOf (f .ticks) (getD (v .lines) k blankLine)
-  pub lost : (k : ℕ) → k < p .reach → getD (f .losses) k 0 ≡ lossOf (f .ticks) (getD (v .lines) k blankLine)
+  pub needed : (k : ℕ) → k < p .leaders → getD (f .needs) k 0 ≡ needOf (f .ticks) (getD (v .lines) k blankLine)
+  pub gained : (k : ℕ) → k < p .leaders → getD (f .gains) k 0 ≡ gainOf (f .ticks) (getD (v .lines) k blankLine)
+  pub lost : (k : ℕ) → k < p .leaders → getD (f .losses) k 0 ≡ lossOf (f .ticks) (getD (v .lines) k blankLine)
 
 -- what a line needs, gains and loses, and what the first lines do
 pub record AskedLead (ticks : List Bool) (l : Line) (need gain loss : ℕ) : Type 0 where
@@ -50,17 +50,17 @@ pub record AskedLead (ticks : List Bool) (l : Line) (need gain loss : ℕ) : Typ
   pub gained : gain ≡ gainOf ticks l
   pub lost : loss ≡ lossOf ticks l
 
-pub record AskedLeads (lines : List ℕ) (reach : ℕ) (ticks : List Bool) (needs gains losses : List ℕ) : Type 0 where
-  pub needed : (k : ℕ) → k < reach → getD needs k 0 ≡ needOf ticks (lineIn lines k)
-  pub gained : (k : ℕ) → k < reach → getD gains k 0 ≡ gainOf ticks (lineIn lines k)
-  pub lost : (k : ℕ) → k < reach → getD losses k 0 ≡ lossOf ticks (lineIn lines k)
+pub record LeadChangesOf (lines : List ℕ) (leaders : ℕ) (ticks : List Bool) (needs gains losses : List ℕ) : Type 0 where
+  pub needed : (k : ℕ) → k < leaders → getD needs k 0 ≡ needOf ticks (planLine lines k)
+  pub gained : (k : ℕ) → k < leaders → getD gains k 0 ≡ gainOf ticks (planLine lines k)
+  pub lost : (k : ℕ) → k < leaders → getD losses k 0 ≡ lossOf ticks (planLine lines k)
 
 -- what was gathered of a filling, in every sheet that the plan is of
 pub record Gathered (lines : List ℕ) (p : Plan) (ticks : List Bool) (tags : List ℤ) (f : Filling) : Type 0 where
   pub ticked : f .ticks ≡ ticks
   pub tagged : f .tags ≡ tags
   pub few : f .count ≤ 16
-  pub asked : (v : SheetValue) → Planned v p lines → Asked v p f
+  pub asked : (v : SheetValue) → Planned v p lines → GatheredFor v p f
 
 -- ---- a row that goes on, in every sheet that the plan and the filling are of
 
@@ -68,17 +68,17 @@ pub record Gathered (lines : List ℕ) (p : Plan) (ticks : List Bool) (tags : Li
 abbrev pub nextOf : SheetValue → Next → List ℕ → ℕ → Advanced
 nextOf v Fails rows to = fails
 nextOf v Over rows to = over
-nextOf v Onto rows to = onto (cut v (rowOf rows to))
+nextOf v Onto rows to = onto (usedPart v (rowOf rows to))
 
 -- row i, and another to build in
 pub record Advancing (rows : List ℕ) (i to : ℕ) (p : Plan) (f : Filling) : Type 0 where
   pub between : Between rows i to
   pub few : rowCount rows i ≤ 8
-  pub plan : Fitting p
+  pub plan : PlanFits p
   pub begun : f .count ≤ 16
 
 -- the row that it becomes; the other rows stay
 pub record AdvancedRow (p : Plan) (f : Filling) (i to : ℕ) (r : Next) (a b : List ℕ) : Type 0 where
   pub stays : Stays to 0 width a b
   pub few : r ≡ Onto → rowCount b to ≤ 8
-  pub row : (v : SheetValue) → Asked v p f → T (smallLeads (cut v (rowOf a i))) → nextOf v r b to ≡ advanced v (instantOf f) (begunIn f) (cut v (rowOf a i))
+  pub row : (v : SheetValue) → GatheredFor v p f → T (smallLeads (usedPart v (rowOf a i))) → nextOf v r b to ≡ advanced v (filledInstant f) (begunIn f) (usedPart v (rowOf a i))

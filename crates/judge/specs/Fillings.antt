@@ -13,7 +13,7 @@ use Rattle.tesl.specs.Lists.{flatMap}
 use Rattle.tesl.specs.Fits.{owedFrom}
 use Rattle.tesl.specs.Remainder.{Remainder}
 use Rattle.judge.specs.View.{filledOf}
-use Rattle.judge.specs.Work.{settledAll}
+use Rattle.judge.specs.Work.{allAdvanced}
 
 -- the fillings of the clocks from k on, idle before tick
 abbrev pub fillingsFrom : ℕ → List Tick → List Bool → List (List Bool)
@@ -43,5 +43,5 @@ takenBy g [] r = r
 takenBy g (ticks ∷ more) r = takenBy g more (g r ticks)
 
 -- each of rs goes on by a filling that the rules allow
-abbrev pub settling : ℕ → SheetValue → List ℤ → List Remainder → Option (List Remainder) → List Bool → Option (List Remainder)
-settling room v tags rs found ticks = settledAll room v (filledOf ticks tags) (flatMap (owedFrom (filledOf ticks tags)) (v .lines)) rs found
+abbrev pub byFilling : ℕ → SheetValue → List ℤ → List Remainder → Option (List Remainder) → List Bool → Option (List Remainder)
+byFilling room v tags rs found ticks = allAdvanced room v (filledOf ticks tags) (flatMap (owedFrom (filledOf ticks tags)) (v .lines)) rs found

@@ -5,7 +5,7 @@
 pub mod View
 -- an answer and a reply as document 01's
 pub mod Answer
--- the limits of a monitor: `within`, the promise of `within_limits`
+-- the limits of a monitor: `monitorWithin`, the promise of `within_limits`
 pub mod Limits
 -- unused places: `KeepsNothing`
 pub mod Unused
@@ -35,18 +35,18 @@ pub mod Fillings
 -- what is kept in arrays: words, remainders in rows, the ticks asked about, a line's words, a sheet's lines
 pub mod Word
 pub mod Rows
-pub mod Heed
+pub mod Relevant
 pub mod LineWords
 pub mod Plan
 -- an instant: what depends on a filling alone, the rows by a filling and by all of them, the fillings listed; the remainder of no instant; remainders stored in rows and read back; words that no remainder uses, and how they are cleared; and a monitor kept in rows
 pub mod Filling
-pub mod Settle
+pub mod Apply
 pub mod Fill
 pub mod Start
 pub mod Stored
 pub mod UnusedWords
 pub mod Cleared
-pub mod Kept
+pub mod Progress
 -- the records of a log
 pub mod Records
 -- a whole monitor in one array of words, and the limits of its remainders

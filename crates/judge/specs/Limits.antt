@@ -13,8 +13,8 @@ use Rattle.records.specs.Types.{IsSheet}
 use Rattle.tesl.specs.Lists.{all}
 use Rattle.tesl.specs.Fits.{Obligation}
 use Rattle.judge.specs.declared.remainder.Remainder as arrays
-use Rattle.judge.specs.declared.held.Count.{Count}
-use Rattle.judge.specs.declared.held.Count.the-variants.{Exhausted, Live}
+use Rattle.judge.specs.declared.held.Status.{Status}
+use Rattle.judge.specs.declared.held.Status.the-variants.{Exhausted, Live}
 use Rattle.judge.specs.declared.monitor.Monitor.{Monitor}
 use Rattle.judge.specs.View.{owedOf, viewOf}
 
@@ -36,17 +36,17 @@ remainderWithin v instants r =
     leb (r .owed) 8 && (all (obligationWithin (v .clocks)) (owedOf r) && all (λ (n : ℕ). leb n instants) (viewOf v r .leads))
 
 -- live 0 to 32; none is held once exhausted
-unfoldable pub heldWithin : SheetValue → ℕ → Count → List arrays.Remainder → Bool
+unfoldable pub heldWithin : SheetValue → ℕ → Status → List arrays.Remainder → Bool
 heldWithin v instants Exhausted rs = true
 heldWithin v instants (Live n) rs = leb n 32 && all (remainderWithin v instants) (take n rs)
 
 -- instants 0 to 4,000
-unfoldable pub within : Monitor → Bool
-within m =
+unfoldable pub monitorWithin : Monitor → Bool
+monitorWithin m =
     let v = sheetValue (m .sheet) in
     sheetWithin v && (leb (m .instants) 4000 && heldWithin v (m .instants) (m .held .count) (m .held .remainders))
 
 -- what testing the limits tells: whether they are kept; and where they are, the types of the code bound the sheet's numbers
 pub record Limited (m : Monitor) (r : Bool) : Type 0 where
-  pub answer : r ≡ within m
+  pub answer : r ≡ monitorWithin m
   pub value : r ≡ true → IsSheet (sheetValue (m .sheet))

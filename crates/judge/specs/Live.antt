@@ -16,11 +16,11 @@ use Rattle.theory.specs.Seen.{SeenJudged}
 use Rattle.judge.specs.declared.answer.Reply.{Reply}
 use Rattle.judge.specs.declared.answer.Reply.the-variants.{Refused}
 use Rattle.judge.specs.declared.live.Replied.{Replied}
-use Rattle.judge.specs.declared.monitor.Given.{Given}
+use Rattle.judge.specs.declared.monitor.CallResult.{CallResult}
 use Rattle.judge.specs.Answer.{replyOf, saidBy}
-use Rattle.judge.specs.Limits.{within}
+use Rattle.judge.specs.Limits.{monitorWithin}
 use Rattle.judge.specs.Monitor.{heldBy, noMonitor, refusal}
-use Rattle.judge.specs.Kept.{given}
+use Rattle.judge.specs.Progress.{given}
 use Rattle.judge.specs.Promises.{Follows, observes, Accepted}
 use Rattle.judge.specs.State.{isState, stateMonitor}
 use Rattle.judge.specs.UnusedState.{KeepsNothingIn}
@@ -29,7 +29,7 @@ use Rattle.judge.specs.UnusedState.{KeepsNothingIn}
 
 -- a monitor within its limits; any other words get 11
 unfoldable pub stateWithin : List ℕ → Bool
-stateWithin w = isState w && within (stateMonitor w)
+stateWithin w = isState w && monitorWithin (stateMonitor w)
 
 -- the instants held; none where there is no monitor
 unfoldable pub instantsIn : List ℕ → ℕ
@@ -72,9 +72,9 @@ pub record SaidIn (r : Replied) (w : List ℕ) : Type 0 where
 -- ---- the monitor as a struct
 
 -- 11 and no monitor; or the last answer, and a struct within its limits that holds what the words hold, and follows whatever they follow
-pub record GivenIn (r : Given) (w : List ℕ) : Type 0 where
+pub record GivenIn (r : CallResult) (w : List ℕ) : Type 0 where
   pub outside : stateWithin w ≡ false → r ≡ refusal 11 noMonitor
-  pub inside : stateWithin w ≡ true → (replyOf (r .reply) ≡ taken (saidBy (heldBy (stateMonitor w)))) × (within (r .monitor) ≡ true)
+  pub inside : stateWithin w ≡ true → (replyOf (r .reply) ≡ taken (saidBy (heldBy (stateMonitor w)))) × (monitorWithin (r .monitor) ≡ true)
   pub held : stateWithin w ≡ true → heldBy (r .monitor) ≡ heldBy (stateMonitor w)
   pub instants : stateWithin w ≡ true → r .monitor .instants ≡ stateMonitor w .instants
   pub follows : (s : SheetValue) (run : List Instant) → FollowsIn s run w → Follows s run (r .monitor)
@@ -82,12 +82,12 @@ pub record GivenIn (r : Given) (w : List ℕ) : Type 0 where
 -- ---- demands 2 and 3: each hypothesis is what a call ensures
 
 -- refused, there is no monitor to call
-abbrev pub openedAs : Outcome Answer → List ℕ → Outcome (machine.Opened (List ℕ))
+abbrev pub openedAs : Outcome Answer → List ℕ → Outcome (machine.OpenedMonitor (List ℕ))
 openedAs (taken a) w = taken (record { said = a; monitor = w })
 openedAs (refused n) w = refused n
 
 -- from any words
-abbrev pub OpensIn : Reader → List ℕ → Outcome (machine.Opened (List ℕ)) → Type 0
+abbrev pub OpensIn : Reader → List ℕ → Outcome (machine.OpenedMonitor (List ℕ)) → Type 0
 OpensIn read sheet outcome = (r : Reply) × (a : List ℕ) × (b : List ℕ) × OpenedIn read sheet r a b × (openedAs (replyOf r) b ≡ outcome)
 
 abbrev pub ObservesIn : List ℕ → List ℕ → Outcome Answer → List ℕ → Type 0

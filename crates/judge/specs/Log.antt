@@ -9,7 +9,7 @@ use Rattle.records.specs.Outcome.{taken, refused}
 use Rattle.records.specs.Sheet.{SheetValue, readSheet}
 use Rattle.tesl.specs.Lists.{flatMap}
 use Rattle.tesl.specs.Answer.{Answer}
-use Rattle.tesl.specs.Machine.{held, session, LogResult, callsOf, judgeLog}
+use Rattle.tesl.specs.Machine.{listAfterCalls, session, LogResult, callsOf, judgeLog}
 use Rattle.judge.specs.declared.log.Judged.{Judged}
 use Rattle.judge.specs.declared.log.LastMonitor.{LastMonitor}
 use Rattle.judge.specs.Answer.{replyOf}
@@ -24,7 +24,7 @@ judgedOf r = record { outcome = replyOf (r .reply); instants = r .instants }
 -- what the log is judged to; after an answer the monitor follows the machine's list
 pub record FollowsLog (sheet log : List ℕ) (r : LastMonitor) : Type 0 where
   pub judged : record { outcome = replyOf (r .reply); instants = r .instants } ≡ judgeLog sheet log
-  pub follows : (s : SheetValue) → readSheet sheet ≡ taken s → (a : Answer) → replyOf (r .reply) ≡ taken a → Follows s (held s [] (callsOf log)) (r .monitor)
+  pub follows : (s : SheetValue) → readSheet sheet ≡ taken s → (a : Answer) → replyOf (r .reply) ≡ taken a → Follows s (listAfterCalls s [] (callsOf log)) (r .monitor)
 
 -- ---- with every answer
 

@@ -13,10 +13,10 @@ use Rattle.records.specs.Outcome.{taken}
 use Rattle.records.specs.Sheet.{SheetValue, sheetValue, sheetOf}
 use Rattle.tesl.specs.Lists.{all}
 use Rattle.tesl.specs.Remainder.{Remainder}
-use Rattle.judge.specs.declared.held.Count.the-variants.{Live}
+use Rattle.judge.specs.declared.held.Status.the-variants.{Live}
 use Rattle.judge.specs.declared.answer.Reply.the-variants as reply
 use Rattle.judge.specs.declared.monitor.Monitor.{Monitor}
-use Rattle.judge.specs.declared.monitor.Given.{Given}
+use Rattle.judge.specs.declared.monitor.CallResult.{CallResult}
 use Rattle.judge.specs.View.{blankRemainder, heldOf, liveOf, seenOf, tagsBefore, sized}
 use Rattle.judge.specs.Lines.{smallLeads}
 use Rattle.judge.specs.Work.{worked}
@@ -43,7 +43,7 @@ unfoldable pub noMonitor : Monitor
 noMonitor = blankMonitor (sheetOf (record { clocks = 0; lines = [] }))
 
 -- the number, and the monitor as it came
-abbrev pub refusal : ℕ → Monitor → Given
+abbrev pub refusal : ℕ → Monitor → CallResult
 refusal n m = record { reply = reply.Refused n; monitor = m }
 
 -- what work asks of a monitor
@@ -55,7 +55,7 @@ pub record Workable (m : Monitor) : Type 0 where
   pub fits : T (sized (m .held))
 
 -- a monitor after an accepted instant, with room for so many remainders, and its answer
-pub record Accepts (room : ℕ) (m : Monitor) (i : Instant) (r : Given) : Type 0 where
+pub record Accepts (room : ℕ) (m : Monitor) (i : Instant) (r : CallResult) : Type 0 where
   pub sheet : r .monitor .sheet ≡ m .sheet
   pub instants : r .monitor .instants ≡ suc (m .instants)
   pub tags : r .monitor .tags ≡ i .tags

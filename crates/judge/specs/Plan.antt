@@ -14,7 +14,7 @@ use Rattle.records.specs.Sheet.{SheetValue, sheetValue}
 use Rattle.tesl.specs.Lists.{filter, flatMap}
 use Rattle.judge.specs.declared.plan.Plan.{Plan}
 use Rattle.judge.specs.LineWords.{wordsAt, lineOfWords}
-use Rattle.judge.specs.Heed.{namedBy, flagged}
+use Rattle.judge.specs.Relevant.{namedBy, flagged}
 
 -- ---- the parts of a sheet
 
@@ -61,23 +61,23 @@ abbrev pub delaysFrom : ℕ
 delaysFrom = 48
 
 -- the line of row j
-abbrev pub lineIn : List ℕ → ℕ → Line
-lineIn lines j = lineOfWords (wordsAt lines (lineWidth * j))
+abbrev pub planLine : List ℕ → ℕ → Line
+planLine lines j = lineOfWords (wordsAt lines (lineWidth * j))
 
 -- the lines of n rows from row `from` on
-abbrev pub linesIn : List ℕ → ℕ → ℕ → List Line
-linesIn lines from n = listed (λ j. lineIn lines (from + j)) n
+abbrev pub planLines : List ℕ → ℕ → ℕ → List Line
+planLines lines from n = listed (λ j. planLine lines (from + j)) n
 
 -- ---- the plan
 
--- the precedes lines of a sheet stand before place `reach`, where `precede` has a flag
+-- the precedes lines of a sheet stand before place `leaders`, where `precede` has a flag
 abbrev pub Leading : SheetValue → ℕ → List Bool → Type 0
-Leading v reach precede = (reach ≤ 16) × ((i : ℕ) → isPrecedes (getD (v .lines) i blankLine) ≡ (ltb i reach && getD precede i false))
+Leading v leaders precede = (leaders ≤ 16) × ((i : ℕ) → isPrecedes (getD (v .lines) i blankLine) ≡ (ltb i leaders && getD precede i false))
 
 -- what the code asks of a plan, whatever the sheet
-pub record Fitting (p : Plan) : Type 0 where
+pub record PlanFits (p : Plan) : Type 0 where
   pub clocks : p .clocks ≤ 8
-  pub reach : p .reach ≤ 16
+  pub leaders : p .leaders ≤ 16
   pub few-relations : p .relations ≤ 16
   pub few-rules : p .rules ≤ 16
   pub few-delays : p .delays ≤ 16
@@ -86,11 +86,11 @@ pub record Fitting (p : Plan) : Type 0 where
 pub record Planned (v : SheetValue) (p : Plan) (lines : List ℕ) : Type 0 where
   pub as-many : p .clocks ≡ v .clocks
   pub few-clocks : v .clocks ≤ 8
-  pub all : (k : ℕ) → k < p .reach → lineIn lines k ≡ getD (v .lines) k blankLine
-  pub relations : linesIn lines relationsFrom (p .relations) ≡ filter isRelation (v .lines)
-  pub rules : linesIn lines rulesFrom (p .rules) ≡ filter isRule (v .lines)
-  pub delays : linesIn lines delaysFrom (p .delays) ≡ filter isDelay (v .lines)
-  pub leading : Leading v (p .reach) (p .precede)
+  pub all : (k : ℕ) → k < p .leaders → planLine lines k ≡ getD (v .lines) k blankLine
+  pub relations : planLines lines relationsFrom (p .relations) ≡ filter isRelation (v .lines)
+  pub rules : planLines lines rulesFrom (p .rules) ≡ filter isRule (v .lines)
+  pub delays : planLines lines delaysFrom (p .delays) ≡ filter isDelay (v .lines)
+  pub leading : Leading v (p .leaders) (p .precede)
   pub named : p .named ≡ flagged (flatMap namedBy (v .lines)) (replicate 8 false)
 
 -- ---- found out about a sheet
@@ -103,18 +103,18 @@ pub record LineRow (lines : List ℕ) (j : ℕ) : Type 0 where
 -- b is a but for row j
 pub record LinesStay (j : ℕ) (a b : List ℕ) : Type 0 where
   pub size : length b ≡ numbers
-  pub same : (h : ℕ) → (h ≡ j → ⊥) → lineIn b h ≡ lineIn a h
+  pub same : (h : ℕ) → (h ≡ j → ⊥) → planLine b h ≡ planLine a h
 
 -- a line in row j
-pub record PutLine (j : ℕ) (l : Line) (a b : List ℕ) : Type 0 where
+pub record PutPlanLine (j : ℕ) (l : Line) (a b : List ℕ) : Type 0 where
   pub stays : LinesStay j a b
-  pub there : lineIn b j ≡ l
+  pub there : planLine b j ≡ l
 
 -- a part's r lines from row `from` on: the `count` before, and l if it belongs there
 pub record PutPart (from count : ℕ) (belongs : Bool) (l : Line) (r : ℕ) (a b : List ℕ) : Type 0 where
   pub stays : LinesStay (from + count) a b
   pub few : r ≤ count + 1
-  pub rows : linesIn b from r ≡ linesIn a from count ++ cond belongs (l ∷ []) []
+  pub rows : planLines b from r ≡ planLines a from count ++ cond belongs (l ∷ []) []
 
 -- a sheet within its limits, and room for its lines
 pub record Preparing (s : Sheet) (lines : List ℕ) : Type 0 where
@@ -125,5 +125,5 @@ pub record Preparing (s : Sheet) (lines : List ℕ) : Type 0 where
 -- a plan of the sheet
 pub record PlanOf (s : Sheet) (p : Plan) (lines : List ℕ) : Type 0 where
   pub size : length lines ≡ numbers
-  pub fits : Fitting p
+  pub fits : PlanFits p
   pub planned : Planned (sheetValue s) p lines

@@ -17,10 +17,10 @@ use Rattle.tesl.specs.Answer.{exhausted, remainders, answer}
 use Rattle.tesl.specs.Machine.{unlessFull, Reader}
 use Rattle.theory.specs.Sets.{apart, EachOnce}
 use Rattle.judge.specs.declared.monitor.Monitor.{Monitor}
-use Rattle.judge.specs.declared.monitor.Given.{Given}
-use Rattle.judge.specs.View.{live}
+use Rattle.judge.specs.declared.monitor.CallResult.{CallResult}
+use Rattle.judge.specs.View.{heldList}
 use Rattle.judge.specs.Answer.{replyOf, saidBy}
-use Rattle.judge.specs.Limits.{within}
+use Rattle.judge.specs.Limits.{monitorWithin}
 use Rattle.judge.specs.Unused.{KeepsNothing}
 use Rattle.judge.specs.Monitor.{sheetBy, heldBy, lastBy, noMonitor, refusal}
 
@@ -31,14 +31,14 @@ pub record Follows (s : SheetValue) (run : List Instant) (m : Monitor) : Type 0 
   pub instants : m .instants ≡ length run
   pub last : lastBy m ≡ lastOf (map tagsOf run)
   pub said : saidBy (heldBy m) ≡ answer s run
-  pub held : saidBy (heldBy m) ≢ exhausted → EachOnce sameRemainder (live (heldBy m)) (remainders s run)
-  pub owed : All (λ (r : Remainder). T (apart sameObligation (r .owed))) (live (heldBy m))
-  pub limits : within m ≡ true
+  pub held : saidBy (heldBy m) ≢ exhausted → EachOnce sameRemainder (heldList (heldBy m)) (remainders s run)
+  pub owed : All (λ (r : Remainder). T (apart sameObligation (r .owed))) (heldList (heldBy m))
+  pub limits : monitorWithin m ≡ true
 
 -- ---- opening
 
 -- by what the sheet's bytes are read as: refused, the number and no monitor; else the answer for no instant, and a monitor that follows the sheet and keeps nothing in unused places
-pub record Opened (read : Reader) (bytes : List ℕ) (r : Given) : Type 0 where
+pub record Opened (read : Reader) (bytes : List ℕ) (r : CallResult) : Type 0 where
   pub refuses : (n : ℕ) → read bytes ≡ refused n → r ≡ refusal n noMonitor
   pub opens : (s : SheetValue) → read bytes ≡ taken s → (replyOf (r .reply) ≡ taken (answer s [])) × Follows s [] (r .monitor)
   pub unused : (s : SheetValue) → read bytes ≡ taken s → KeepsNothing (r .monitor)
@@ -47,22 +47,22 @@ pub record Opened (read : Reader) (bytes : List ℕ) (r : Given) : Type 0 where
 
 -- what a call is taken for: 11: monitor outside its limits; 12 to 15 as reading gives them; then 16
 unfoldable pub observes : Monitor → List ℕ → Outcome Instant
-observes m bytes = cond (within m) (unlessFull (m .instants) (readInstant (m .sheet .clocks) bytes)) (refused 11)
+observes m bytes = cond (monitorWithin m) (unlessFull (m .instants) (readInstant (m .sheet .clocks) bytes)) (refused 11)
 
 -- an accepted instant: the answer is what those then held say, and the monitor is within its limits; for every run that the monitor followed, it is the machine's answer, and the monitor follows the longer run
 -- free is what is then held by a monitor that follows no run
-pub record Accepted (m : Monitor) (i : Instant) (r : Given) : Type 0 where
+pub record Accepted (m : Monitor) (i : Instant) (r : CallResult) : Type 0 where
   pub answers : replyOf (r .reply) ≡ taken (saidBy (heldBy (r .monitor)))
-  pub limits : within (r .monitor) ≡ true
+  pub limits : monitorWithin (r .monitor) ≡ true
   pub follows : (s : SheetValue) (run : List Instant) → Follows s run m
       → (replyOf (r .reply) ≡ taken (answer s (run ++ (i ∷ [])))) × Follows s (run ++ (i ∷ [])) (r .monitor)
 
 -- refused: the number, and the monitor as it came
-pub record Called (m : Monitor) (bytes : List ℕ) (r : Given) : Type 0 where
+pub record Called (m : Monitor) (bytes : List ℕ) (r : CallResult) : Type 0 where
   pub refuses : (n : ℕ) → observes m bytes ≡ refused n → r ≡ refusal n m
   pub accepts : (i : Instant) → observes m bytes ≡ taken i → Accepted m i r
 
 -- and whatever the monitor was, after an accepted instant it keeps nothing in unused places
-pub record Observed (m : Monitor) (bytes : List ℕ) (r : Given) : Type 0 where
+pub record Observed (m : Monitor) (bytes : List ℕ) (r : CallResult) : Type 0 where
   pub called : Called m bytes r
   pub unused : (i : Instant) → observes m bytes ≡ taken i → KeepsNothing (r .monitor)

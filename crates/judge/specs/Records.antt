@@ -11,19 +11,19 @@ use Rattle.records.specs.Store.{puts}
 use Rattle.tesl.specs.Lists.{flatMap}
 use Rattle.tesl.specs.Run.{Instant}
 use Rattle.tesl.specs.Answer.{Answer}
-use Rattle.tesl.specs.Machine.{machine, held, LogResult, concluded, callsOf, judgeLog}
+use Rattle.tesl.specs.Machine.{machine, listAfterCalls, LogResult, concluded, callsOf, judgeLog}
 use Rattle.judge.specs.declared.answer.Reply.{Reply}
-use Rattle.judge.specs.declared.kept.Kept.{Kept}
+use Rattle.judge.specs.declared.progress.Progress.{Progress}
 use Rattle.judge.specs.declared.plan.Plan.{Plan}
 use Rattle.judge.specs.declared.monitor.Monitor.{Monitor}
-use Rattle.judge.specs.declared.monitor.Given.{Given}
+use Rattle.judge.specs.declared.monitor.CallResult.{CallResult}
 use Rattle.judge.specs.declared.log.LastMonitor.{LastMonitor}
 use Rattle.judge.specs.declared.log.LastRows.{LastRows}
 use Rattle.judge.specs.Answer.{replyOf}
 use Rattle.judge.specs.Entry.{entry, answersFrom}
 use Rattle.judge.specs.Promises.{Follows}
 use Rattle.judge.specs.Fill.{Working}
-use Rattle.judge.specs.Kept.{keptMonitor, given, Ready}
+use Rattle.judge.specs.Progress.{rowsMonitor, given, Ready}
 use Rattle.judge.specs.Log.{entries, FollowsLog}
 
 -- what a log came to, apart from the monitor
@@ -33,19 +33,19 @@ judgedRows r = record { outcome = replyOf (r .reply); instants = r .instants }
 -- ---- after an opening, for every run that its monitor follows
 
 -- what the machine's replies come to; where none is refused m follows the machine's list; and the answers' bytes stand at the buffer's front, where all have room
-pub record FollowsRecords (opened : Given) (log : List ℕ) (r : LogResult) (m : Monitor) (before after : List ℕ) : Type 0 where
+pub record FollowsRecords (opened : CallResult) (log : List ℕ) (r : LogResult) (m : Monitor) (before after : List ℕ) : Type 0 where
   pub concludes : (s : SheetValue) (run : List Instant) → Follows s run (opened .monitor) → r ≡ concluded (replyOf (opened .reply)) 0 (machine s run (callsOf log))
-  pub follows : (s : SheetValue) (run : List Instant) → Follows s run (opened .monitor) → (a : Answer) → r .outcome ≡ taken a → Follows s (held s run (callsOf log)) m
+  pub follows : (s : SheetValue) (run : List Instant) → Follows s run (opened .monitor) → (a : Answer) → r .outcome ≡ taken a → Follows s (listAfterCalls s run (callsOf log)) m
   pub buffer : (s : SheetValue) (run : List Instant) → Follows s run (opened .monitor) → 3 * length (answersFrom s run log) ≤ length before
       → after ≡ puts before 0 (flatMap entry (answersFrom s run log))
 
 -- by a monitor in rows, whatever the sheet; room to work in and a monitor as ready are left
-pub record ObservedRecords (log : List ℕ) (opening : Reply) (k : Kept) (p : Plan) (lines : List ℕ) (r : LastRows) (a b : List ℕ) (list : List Bool) (before after : List ℕ)
+pub record ObservedRecords (log : List ℕ) (opening : Reply) (k : Progress) (p : Plan) (lines : List ℕ) (r : LastRows) (a b : List ℕ) (list : List Bool) (before after : List ℕ)
     : Type 0 where
-  pub room : Working b (r .kept .from) (r .kept .count) p list
+  pub room : Working b (r .progress .from) (r .progress .count) p list
   pub size : length after ≡ length before
-  pub follows : (s : Sheet) → Ready s k p lines a → FollowsRecords (given opening (keptMonitor s k a)) log (judgedRows r) (keptMonitor s (r .kept) b) before after
-  pub ready : (s : Sheet) → Ready s k p lines a → Ready s (r .kept) p lines b
+  pub follows : (s : Sheet) → Ready s k p lines a → FollowsRecords (given opening (rowsMonitor s k a)) log (judgedRows r) (rowsMonitor s (r .progress) b) before after
+  pub ready : (s : Sheet) → Ready s k p lines a → Ready s (r .progress) p lines b
 
 -- ---- with the opening
 

@@ -12,9 +12,9 @@ use Rattle.tesl.specs.Fits.{Obligation}
 use Rattle.tesl.specs.Remainder.{Remainder}
 use Rattle.judge.specs.declared.obligation.Obligation as code
 use Rattle.judge.specs.Word.{dueOf, flagOf}
-use Rattle.judge.specs.View.{firstOf, blankObligation, cut}
+use Rattle.judge.specs.View.{firstOf, blankObligation, usedPart}
 use Rattle.judge.specs.Unused.{BlankFrom}
-use Rattle.judge.specs.Owed.{added, kept}
+use Rattle.judge.specs.Owed.{added, stillOwed}
 use Rattle.judge.specs.Carried.{either}
 use Rattle.judge.specs.Work.{addedAll}
 
@@ -83,11 +83,11 @@ rowOf rows i = record { owed = rowOwed rows i; leads = rowLeads rows i; stopped 
 
 -- n rows from `first` on, as remainders of a sheet
 abbrev pub rowsOf : SheetValue → List ℕ → ℕ → ℕ → List Remainder
-rowsOf v rows first n = listed (λ k. cut v (rowOf rows (first + k))) n
+rowsOf v rows first n = listed (λ k. usedPart v (rowOf rows (first + k))) n
 
 -- each of n rows from `first` on has at most eight obligations
-abbrev pub Small : List ℕ → ℕ → ℕ → Type 0
-Small rows first n = (k : ℕ) → k < n → rowCount rows (first + k) ≤ 8
+abbrev pub FewOwed : List ℕ → ℕ → ℕ → Type 0
+FewOwed rows first n = (k : ℕ) → k < n → rowCount rows (first + k) ≤ 8
 
 -- x, if there is one
 abbrev pub provided : {A : Type 0} → Bool → A → Option A
@@ -140,9 +140,9 @@ pub record ObligationsAt (i n : ℕ) (os : List code.Obligation) (rows : List �
   pub rest : BlankFrom n blankObligation os
 
 -- row `to` owes what an instant leaves of what row i owes, unless one of it is late
-pub record KeptRow (f : Filled) (i to : ℕ) (r : Bool) (a b : List ℕ) : Type 0 where
+pub record StillOwedRow (f : Filled) (i to : ℕ) (r : Bool) (a b : List ℕ) : Type 0 where
   pub stays : Stays to 0 leadsPart a b
-  pub owed : provided r (rowOwed b to) ≡ kept f (rowOwed a i)
+  pub owed : provided r (rowOwed b to) ≡ stillOwed f (rowOwed a i)
   pub few : r ≡ true → rowCount b to ≤ 8
 
 -- row i with one obligation more, unless a ninth has no room
@@ -158,9 +158,9 @@ pub record BegunRow (i : ℕ) (os : List Obligation) (r : Bool) (a b : List ℕ)
   pub few : rowCount b i ≤ 8
 
 -- leads with what precedes lines gain and without what they lose, where they are small
-pub record LeadsOn (reach : ℕ) (gains losses : List ℕ) (i to : ℕ) (a b : List ℕ) : Type 0 where
+pub record LeadsOn (leaders : ℕ) (gains losses : List ℕ) (i to : ℕ) (a b : List ℕ) : Type 0 where
   pub stays : Stays to leadsPart stoppedPart a b
-  pub leads : (k : ℕ) → k < reach → rowLead a i k < 65536 → rowLead b to k ≡ rowLead a i k + getD gains k 0 - getD losses k 0
+  pub leads : (k : ℕ) → k < leaders → rowLead a i k < 65536 → rowLead b to k ≡ rowLead a i k + getD gains k 0 - getD losses k 0
 
 -- the stopped clocks of row i, with more
 pub record StoppedOn (stops : List Bool) (i to : ℕ) (a b : List ℕ) : Type 0 where

@@ -7,12 +7,12 @@ use lib.Dec.{leb}
 use lib.ListN.{getD}
 use Rattle.records.specs.Sheet.{SheetValue}
 use Rattle.tesl.specs.Lists.{below}
-use Rattle.judge.specs.declared.held.Count.{Count}
+use Rattle.judge.specs.declared.held.Status.{Status}
 use Rattle.judge.specs.declared.plan.Plan.{Plan}
 use Rattle.judge.specs.Limits.{obligationWithin, remainderWithin, heldWithin}
-use Rattle.judge.specs.Plan.{Fitting, Planned}
+use Rattle.judge.specs.Plan.{PlanFits, Planned}
 use Rattle.judge.specs.Rows.{secondSide, height, rowObligation, rowLead}
-use Rattle.judge.specs.Kept.{rowRemainder, rowsHeld}
+use Rattle.judge.specs.Progress.{rowRemainder, rowsHeld}
 
 -- obligation j of row i, and the lead of line k, which only precedes lines have
 abbrev pub owedFits : ℕ → List ℕ → ℕ → ℕ → Bool
@@ -24,12 +24,12 @@ leadFits precede instants rows i k = not (getD precede k false) || leb (rowLead 
 -- row i, for a plan
 pub record Testing (i : ℕ) (p : Plan) : Type 0 where
   pub row : i < height
-  pub plan : Fitting p
+  pub plan : PlanFits p
 
 -- rows from `from` on, of a side, for a plan
 pub record TestingAll (from : ℕ) (p : Plan) : Type 0 where
   pub side : from ≤ secondSide
-  pub plan : Fitting p
+  pub plan : PlanFits p
 
 -- whether row i is within its limits, for every sheet that the plan is of
 abbrev pub RowWithin : Plan → ℕ → List ℕ → ℕ → Bool → Type 0
@@ -40,5 +40,5 @@ abbrev pub EachRowWithin : Plan → ℕ → List ℕ → ℕ → ℕ → Bool �
 EachRowWithin p instants rows from n r = (v : SheetValue) (lines : List ℕ) → Planned v p lines → r ≡ below n (λ k. remainderWithin v instants (rowRemainder rows (from + k)))
 
 -- those held
-abbrev pub RowsWithin : Plan → ℕ → List ℕ → ℕ → Count → Bool → Type 0
+abbrev pub RowsWithin : Plan → ℕ → List ℕ → ℕ → Status → Bool → Type 0
 RowsWithin p instants rows from count r = (v : SheetValue) (lines : List ℕ) → Planned v p lines → r ≡ heldWithin v instants count (rowsHeld count rows from .remainders)

@@ -24,5 +24,5 @@ isSettled k (Weakly A B) = false
 isSettled k (Strictly A B) = false
 
 -- a rule whose clocks are below k forbids these ticks
-abbrev pub cuts : ℕ → List Bool → Line → Bool
-cuts k ticks l = isSettled k l && not (ticksHold ticks l)
+abbrev pub forbids : ℕ → List Bool → Line → Bool
+forbids k ticks l = isSettled k l && not (ticksHold ticks l)

@@ -8,11 +8,11 @@ use Rattle.records.specs.Sheet.{SheetValue}
 use Rattle.tesl.specs.Lists.{flatMap}
 use Rattle.tesl.specs.Fits.{Obligation, owedAtStart}
 use Rattle.tesl.specs.Remainder.{remainder}
-use Rattle.judge.specs.declared.held.Count.the-variants.{Live}
+use Rattle.judge.specs.declared.held.Status.the-variants.{Live}
 use Rattle.judge.specs.Owed.{owing}
 use Rattle.judge.specs.Work.{addedAll}
 use Rattle.judge.specs.Rows.{leadsPart, width, words, headRows, word, rowsOf, Stays}
-use Rattle.judge.specs.Settle.{SmallIn}
+use Rattle.judge.specs.Apply.{FewOwedIn}
 
 -- row i, all words of it 0
 pub record BlankRow (rows : List ℕ) (i : ℕ) : Type 0 where
@@ -22,5 +22,5 @@ pub record BlankRow (rows : List ℕ) (i : ℕ) : Type 0 where
 -- one remainder is held, and every other row stays; where a ninth obligation has no room, nothing is said of what it owes
 pub record BegunRows (v : SheetValue) (a b : List ℕ) : Type 0 where
   pub stays : Stays headRows 0 leadsPart a b
-  pub small : SmallIn (Live 1) b headRows
+  pub small : FewOwedIn (Live 1) b headRows
   pub first : v .clocks ≤ 8 → (os : List Obligation) → addedAll (flatMap owedAtStart (v .lines)) [] ≡ some os → rowsOf v b headRows 1 ≡ owing os (remainder v []) ∷ []

@@ -16,15 +16,15 @@ use Rattle.records.specs.Line.{blankLine}
 use Rattle.records.specs.Sheet.{slotOf, lineAt, sheetValue}
 use Rattle.records.specs.Word.{tagOf, rawOf}
 use Rattle.tesl.specs.Lists.{below}
-use Rattle.judge.specs.declared.held.Count.{Count}
-use Rattle.judge.specs.declared.held.Count.the-variants.{Exhausted, Live}
-use Rattle.judge.specs.declared.kept.Kept.{Kept}
+use Rattle.judge.specs.declared.held.Status.{Status}
+use Rattle.judge.specs.declared.held.Status.the-variants.{Exhausted, Live}
+use Rattle.judge.specs.declared.progress.Progress.{Progress}
 use Rattle.judge.specs.declared.line_words.LineWords.{LineWords}
 use Rattle.judge.specs.declared.monitor.Monitor.{Monitor}
 use Rattle.judge.specs.LineWords.{lineOfWords, wordsOf}
 use Rattle.judge.specs.View.{liveCount}
 use Rattle.judge.specs.Rows.{headRows, secondSide, width, words, word, Stays}
-use Rattle.judge.specs.Kept.{keptMonitor}
+use Rattle.judge.specs.Progress.{rowsMonitor}
 
 -- what word 0 of row 0 is in a state: the format and its version, 0x4C460001
 abbrev pub format : ℕ
@@ -61,10 +61,10 @@ stateSheet w = record { clocks = clocksBy (word w 0 1); count = word w 0 2; line
 -- ---- the monitor
 
 -- case 1: exhausted, when none is held; any other: how many are held
-abbrev pub countBy : ℕ → ℕ → Count
+abbrev pub countBy : ℕ → ℕ → Status
 countBy case live = cond (eqb case 1) Exhausted (Live live)
 
-abbrev pub stateCount : List ℕ → Count
+abbrev pub stateCount : List ℕ → Status
 stateCount w = countBy (word w 0 5) (word w 0 6)
 
 -- the last tag of clock k: 16 bits of its word
@@ -72,12 +72,12 @@ abbrev pub stateTag : List ℕ → ℕ → ℤ
 stateTag w k = tagOf (word w 0 (8 + k) % 65536)
 
 -- beside the sheet and the rows
-abbrev pub stateKept : List ℕ → Kept
-stateKept w = record { instants = word w 0 3; tags = listed (stateTag w) 8; count = stateCount w; from = word w 0 4 }
+abbrev pub stateProgress : List ℕ → Progress
+stateProgress w = record { instants = word w 0 3; tags = listed (stateTag w) 8; count = stateCount w; from = word w 0 4 }
 
 -- the whole, its remainders from the rows of the side in use
 abbrev pub stateMonitor : List ℕ → Monitor
-stateMonitor w = keptMonitor (stateSheet w) (stateKept w) w
+stateMonitor w = rowsMonitor (stateSheet w) (stateProgress w) w
 
 -- ---- which arrays are states
 
@@ -114,12 +114,12 @@ pub record PutFormat (a b : List ℕ) : Type 0 where
 -- ---- contracts: the monitor stored
 
 -- live within its limit
-abbrev pub FewIn : Count → Type 0
+abbrev pub FewIn : Status → Type 0
 FewIn Exhausted = Unit
 FewIn (Live n) = n ≤ 32
 
 -- how many are held, in the words 5 and 6
-pub record PutCount (c : Count) (a b : List ℕ) : Type 0 where
+pub record PutCount (c : Status) (a b : List ℕ) : Type 0 where
   pub stays : Stays 0 5 7 a b
   pub count : stateCount b ≡ c
   -- 0 once exhausted
@@ -127,22 +127,22 @@ pub record PutCount (c : Count) (a b : List ℕ) : Type 0 where
   pub answer : isCase (word b 0 5) ≡ true
 
 -- the last tags, in the words 8 to 15
-pub record PutTags (ts : List ℤ) (a b : List ℕ) : Type 0 where
+pub record PutLastTags (ts : List ℤ) (a b : List ℕ) : Type 0 where
   pub stays : Stays 0 8 16 a b
   pub tags : listed (stateTag b) 8 ≡ ts
   pub raw : (j : ℕ) → j < 8 → word b 0 (8 + j) ≡ rawOf (getD ts j (pos 0))
 
 -- what a monitor in rows within its limits has beside its sheet
-pub record PuttingKept (rows : List ℕ) (k : Kept) : Type 0 where
+pub record PuttingProgress (rows : List ℕ) (k : Progress) : Type 0 where
   pub size : length rows ≡ words
   pub instants : k .instants ≤ 4000
   pub few : FewIn (k .count)
   pub side : T (isSide (k .from))
 
 -- it is stored, in words 3 to 15 of row 0; the array is a state if format and kinds were right
-pub record PutKept (k : Kept) (a b : List ℕ) : Type 0 where
+pub record PutProgress (k : Progress) (a b : List ℕ) : Type 0 where
   pub stays : Stays 0 3 16 a b
-  pub kept : stateKept b ≡ k
+  pub progress : stateProgress b ≡ k
   -- and nothing else: live is 0 once exhausted, and a tag takes 16 bits of its word
   pub live : word b 0 6 ≡ liveCount (k .count)
   pub raw : (j : ℕ) → j < 8 → word b 0 (8 + j) ≡ rawOf (getD (k .tags) j (pos 0))

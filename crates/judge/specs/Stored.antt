@@ -10,13 +10,13 @@ use Rattle.tesl.specs.Lists.{all}
 use Rattle.tesl.specs.Fits.{Obligation}
 use Rattle.judge.specs.declared.plan.Plan.{Plan}
 use Rattle.judge.specs.declared.remainder.Remainder as arrays
-use Rattle.judge.specs.declared.held.Count.{Count}
-use Rattle.judge.specs.View.{remainderOf, blankRemainder, cut, viewOf, liveCount, heldIn, live, sizedIn}
+use Rattle.judge.specs.declared.held.Status.{Status}
+use Rattle.judge.specs.View.{remainderOf, blankRemainder, usedPart, viewOf, liveCount, heldIn, heldList, sizedIn}
 use Rattle.judge.specs.Unused.{BlankFrom, NothingUnused}
 use Rattle.judge.specs.Lines.{smallLeads}
-use Rattle.judge.specs.Plan.{Fitting, Planned}
-use Rattle.judge.specs.Rows.{leadsPart, stoppedPart, partsEnd, secondSide, headRows, height, words, rowCount, rowOwed, rowLead, rowLeads, rowStop, rowStopped, rowOf, rowsOf, Small, Stays, HeadStays}
-use Rattle.judge.specs.Settle.{foundIn, SmallIn}
+use Rattle.judge.specs.Plan.{PlanFits, Planned}
+use Rattle.judge.specs.Rows.{leadsPart, stoppedPart, partsEnd, secondSide, headRows, height, words, rowCount, rowOwed, rowLead, rowLeads, rowStop, rowStopped, rowOf, rowsOf, FewOwed, Stays, HeadStays}
+use Rattle.judge.specs.Apply.{foundIn, FewOwedIn}
 
 -- ---- stored
 
@@ -48,9 +48,9 @@ pub record PutRemainder (i : ℕ) (r : arrays.Remainder) (a b : List ℕ) : Type
 -- ---- read back
 
 -- 16 bits of the leads of precedes lines, and nothing else
-pub record LeadsAt (reach : ℕ) (precede : List Bool) (i : ℕ) (xs : List ℕ) (rows : List ℕ) : Type 0 where
-  pub first : (k : ℕ) → k < reach → getD xs k 0 ≡ cond (getD precede k false) (rowLead rows i k % 65536) 0
-  pub rest : BlankFrom reach 0 xs
+pub record LeadsAt (leaders : ℕ) (precede : List Bool) (i : ℕ) (xs : List ℕ) (rows : List ℕ) : Type 0 where
+  pub first : (k : ℕ) → k < leaders → getD xs k 0 ≡ cond (getD precede k false) (rowLead rows i k % 65536) 0
+  pub rest : BlankFrom leaders 0 xs
 
 -- the stopped ones of the sheet's clocks, and no other
 pub record StoppedAt (clocks i : ℕ) (xs : List Bool) (rows : List ℕ) : Type 0 where
@@ -62,12 +62,12 @@ pub record StoppedAt (clocks i : ℕ) (xs : List Bool) (rows : List ℕ) : Type 
 pub record Reading (rows : List ℕ) (i : ℕ) (p : Plan) : Type 0 where
   pub row : i < height
   pub few : rowCount rows i ≤ 8
-  pub plan : Fitting p
+  pub plan : PlanFits p
 
 -- the struct reads as the row does, for every sheet that the plan is of, and keeps nothing else
 pub record RemainderAt (p : Plan) (i : ℕ) (r : arrays.Remainder) (rows : List ℕ) : Type 0 where
   pub few : r .owed ≤ 8
-  pub view : (v : SheetValue) (lines : List ℕ) → Planned v p lines → T (smallLeads (cut v (rowOf rows i))) → viewOf v r ≡ cut v (rowOf rows i)
+  pub view : (v : SheetValue) (lines : List ℕ) → Planned v p lines → T (smallLeads (usedPart v (rowOf rows i))) → viewOf v r ≡ usedPart v (rowOf rows i)
   pub unused : (v : SheetValue) (lines : List ℕ) → Planned v p lines → NothingUnused v r
 
 -- ---- those held, on the first side
@@ -82,19 +82,19 @@ pub record Storing (rows : List ℕ) (n : ℕ) (rs : List arrays.Remainder) : Ty
 pub record ToRows (n : ℕ) (rs : List arrays.Remainder) (a b : List ℕ) : Type 0 where
   pub size : length b ≡ words
   pub head : HeadStays a b
-  pub small : Small b headRows n
+  pub small : FewOwed b headRows n
   pub rows : (v : SheetValue) → rowsOf v b headRows n ≡ map (viewOf v) (take n rs)
 
 -- a count that the arrays have room for
-pub record KeepingHeld (rows : List ℕ) (count : Count) (rs : List arrays.Remainder) : Type 0 where
+pub record StoringHeld (rows : List ℕ) (count : Status) (rs : List arrays.Remainder) : Type 0 where
   pub size : length rows ≡ words
   pub fits : T (sizedIn count rs)
 
 -- those held, in rows; the head stays
-pub record KeptHeld (count : Count) (rs : List arrays.Remainder) (a b : List ℕ) : Type 0 where
+pub record StoredHeld (count : Status) (rs : List arrays.Remainder) (a b : List ℕ) : Type 0 where
   pub size : length b ≡ words
   pub head : HeadStays a b
-  pub small : SmallIn count b headRows
+  pub small : FewOwedIn count b headRows
   pub held : (v : SheetValue) → foundIn v count b headRows ≡ heldIn v count rs
 
 -- ---- those found, as structs
@@ -103,8 +103,8 @@ pub record KeptHeld (count : Count) (rs : List arrays.Remainder) (a b : List ℕ
 pub record Copying (rows : List ℕ) (from n : ℕ) (p : Plan) : Type 0 where
   pub side : from ≤ secondSide
   pub held : n ≤ 32
-  pub small : Small rows from n
-  pub plan : Fitting p
+  pub small : FewOwed rows from n
+  pub plan : PlanFits p
 
 -- each of n rows, and blank remainders past them
 pub record CopiedRows (p : Plan) (from n : ℕ) (rs : List arrays.Remainder) (rows : List ℕ) : Type 0 where
@@ -113,14 +113,14 @@ pub record CopiedRows (p : Plan) (from n : ℕ) (rs : List arrays.Remainder) (ro
   pub rest : BlankFrom n blankRemainder rs
 
 -- a count of rows of a side, for a plan
-pub record FindingRows (rows : List ℕ) (count : Count) (from : ℕ) (p : Plan) : Type 0 where
+pub record FindingRows (rows : List ℕ) (count : Status) (from : ℕ) (p : Plan) : Type 0 where
   pub side : from ≤ secondSide
-  pub small : SmallIn count rows from
-  pub plan : Fitting p
+  pub small : FewOwedIn count rows from
+  pub plan : PlanFits p
 
 -- those found, for every sheet that the plan is of, and blank remainders past them
-pub record FromRows (p : Plan) (count : Count) (from : ℕ) (rs : List arrays.Remainder) (rows : List ℕ) : Type 0 where
+pub record FromRows (p : Plan) (count : Status) (from : ℕ) (rs : List arrays.Remainder) (rows : List ℕ) : Type 0 where
   pub fits : T (sizedIn count rs)
-  pub held : (v : SheetValue) (lines : List ℕ) → Planned v p lines → T (all smallLeads (live (foundIn v count rows from))) → heldIn v count rs ≡ foundIn v count rows from
+  pub held : (v : SheetValue) (lines : List ℕ) → Planned v p lines → T (all smallLeads (heldList (foundIn v count rows from))) → heldIn v count rs ≡ foundIn v count rows from
   pub unused : (v : SheetValue) (lines : List ℕ) → Planned v p lines → (k : ℕ) → NothingUnused v (getD rs k blankRemainder)
   pub rest : BlankFrom (liveCount count) blankRemainder rs

@@ -9,7 +9,7 @@ use Rattle.records.specs.Sheet.{SheetValue, sheetValue}
 use Rattle.judge.specs.View.{liveCount}
 use Rattle.judge.specs.Plan.{isPrecedes}
 use Rattle.judge.specs.Rows.{width, height, headRows, word, rowCount, rowLead}
-use Rattle.judge.specs.State.{stateWords, stateSheet, stateKept, noWords}
+use Rattle.judge.specs.State.{stateWords, stateSheet, stateProgress, noWords}
 
 -- the words of row i that a remainder of the sheet doesn't use
 pub record UnusedInRow (v : SheetValue) (rows : List ℕ) (i : ℕ) : Type 0 where
@@ -25,11 +25,11 @@ pub record UnusedInRow (v : SheetValue) (rows : List ℕ) (i : ℕ) : Type 0 whe
 -- a state keeps nothing in words that nothing uses
 pub record KeepsNothingIn (w : List ℕ) : Type 0 where
   -- rows that hold no remainder: all of them once exhausted or broken
-  pub others : (h q : ℕ) → headRows ≤ h → h < height → q < width → (stateKept w .from ≤ h → h < stateKept w .from + liveCount (stateKept w .count) → ⊥) → word w h q ≡ 0
+  pub others : (h q : ℕ) → headRows ≤ h → h < height → q < width → (stateProgress w .from ≤ h → h < stateProgress w .from + liveCount (stateProgress w .count) → ⊥) → word w h q ≡ 0
   -- and in each row held
-  pub each : (k : ℕ) → k < liveCount (stateKept w .count) → UnusedInRow (sheetValue (stateSheet w)) w (stateKept w .from + k)
+  pub each : (k : ℕ) → k < liveCount (stateProgress w .count) → UnusedInRow (sheetValue (stateSheet w)) w (stateProgress w .from + k)
   -- live once exhausted
-  pub live : word w 0 6 ≡ liveCount (stateKept w .count)
+  pub live : word w 0 6 ≡ liveCount (stateProgress w .count)
   -- last tags of clocks from C on
   pub tags : (k : ℕ) → stateSheet w .clocks ≤ k → k < 8 → word w 0 (8 + k) ≡ 0
   -- places without a line

@@ -6,13 +6,13 @@ use Prim.Native.Nat.{ℕ, _+_, _≤_, _<_}
 use lib.Dec.{ltb}
 use lib.ListN.{getD}
 use Rattle.judge.specs.declared.plan.Plan.{Plan}
-use Rattle.judge.specs.declared.held.Count.{Count}
+use Rattle.judge.specs.declared.held.Status.{Status}
 use Rattle.judge.specs.View.{liveCount}
 use Rattle.judge.specs.Rows.{width, height, headRows, word, rowCount, rowLead}
 
--- line k is a precedes line: before `reach`, where there is a flag
+-- line k is a precedes line: before `leaders`, where there is a flag
 abbrev pub leadUsed : ℕ → List Bool → ℕ → Bool
-leadUsed reach precede k = ltb k reach && getD precede k false
+leadUsed leaders precede k = ltb k leaders && getD precede k false
 
 -- the words of row i that its remainder doesn't use are zero
 pub record NothingInRow (p : Plan) (rows : List ℕ) (i : ℕ) : Type 0 where
@@ -21,12 +21,12 @@ pub record NothingInRow (p : Plan) (rows : List ℕ) (i : ℕ) : Type 0 where
   pub on-clocks : (j : ℕ) → rowCount rows i ≤ j → j < 8 → word rows i (9 + j) ≡ 0
   pub dues : (j : ℕ) → rowCount rows i ≤ j → j < 8 → word rows i (17 + j) ≡ 0
   -- leads of lines that are no precedes lines
-  pub leads : (k : ℕ) → k < 16 → leadUsed (p .reach) (p .precede) k ≡ false → rowLead rows i k ≡ 0
+  pub leads : (k : ℕ) → k < 16 → leadUsed (p .leaders) (p .precede) k ≡ false → rowLead rows i k ≡ 0
   -- stopped clocks from C on, and the words behind them
   pub rest : (q : ℕ) → 41 + p .clocks ≤ q → q < width → word rows i q ≡ 0
 
 -- where `count` remainders are held from row `from` on: every word of the two sides that none of them uses is zero
-pub record NothingBeside (p : Plan) (count : Count) (from : ℕ) (rows : List ℕ) : Type 0 where
+pub record NothingBeside (p : Plan) (count : Status) (from : ℕ) (rows : List ℕ) : Type 0 where
   -- rows that hold no remainder: all of them once exhausted or broken
   pub others : (h q : ℕ) → headRows ≤ h → h < height → q < width → (from ≤ h → h < from + liveCount count → ⊥) → word rows h q ≡ 0
   -- and in each row held

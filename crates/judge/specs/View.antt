@@ -17,20 +17,20 @@ use Rattle.tesl.specs.Fits.{Obligation}
 use Rattle.tesl.specs.Remainder.{Remainder}
 use Rattle.theory.specs.Step.{nextLeads}
 use Rattle.judge.specs.declared.obligation.Obligation as code
-use Rattle.judge.specs.declared.line.Begun.{Begun}
-use Rattle.judge.specs.declared.line.Begun.the-variants.{Nothing, Owed}
+use Rattle.judge.specs.declared.line.NewObligation.{NewObligation}
+use Rattle.judge.specs.declared.line.NewObligation.the-variants.{Nothing, Owed}
 use Rattle.judge.specs.declared.remainder.Remainder as arrays
-use Rattle.judge.specs.declared.held.Count.{Count}
-use Rattle.judge.specs.declared.held.Count.the-variants.{Exhausted, Live}
+use Rattle.judge.specs.declared.held.Status.{Status}
+use Rattle.judge.specs.declared.held.Status.the-variants.{Exhausted, Live}
 use Rattle.judge.specs.declared.held.Held.{Held}
 
 abbrev pub obligationOf : code.Obligation → Obligation
 obligationOf o = record { clock = o .clock; due = o .due; on = o .on }
 
 -- what a line begins, as the list of it
-abbrev pub begunOf : Begun → List Obligation
-begunOf Nothing = []
-begunOf (Owed o) = obligationOf o ∷ []
+abbrev pub newObligation : NewObligation → List Obligation
+newObligation Nothing = []
+newObligation (Owed o) = obligationOf o ∷ []
 
 -- a filled instant: ticks and tags of all eight clocks, those from C on idle at tag 0
 abbrev pub filledOf : List Bool → List ℤ → Filled
@@ -63,34 +63,34 @@ abbrev pub inUse : Line → ℕ → ℕ
 inUse l lead = ofPrecedes 0 (λ A B. lead) l
 
 -- of the sheet's lines the leads in use, and its clocks
-abbrev pub cut : SheetValue → Remainder → Remainder
-cut v r = record { owed = r .owed; leads = nextLeads inUse (v .lines) (r .leads); stopped = take (v .clocks) (r .stopped) }
+abbrev pub usedPart : SheetValue → Remainder → Remainder
+usedPart v r = record { owed = r .owed; leads = nextLeads inUse (v .lines) (r .leads); stopped = take (v .clocks) (r .stopped) }
 
 -- a remainder of a sheet; unused places are no part of it
 abbrev pub viewOf : SheetValue → arrays.Remainder → Remainder
-viewOf v r = cut v (remainderOf r)
+viewOf v r = usedPart v (remainderOf r)
 
 -- ---- what is worked on
 
 -- how many are held; none once exhausted, nor when broken
-abbrev pub liveCount : Count → ℕ
+abbrev pub liveCount : Status → ℕ
 liveCount Exhausted = 0
 liveCount (Live n) = n
 
 -- those held; `none` once exhausted, when none is held
-abbrev pub heldIn : SheetValue → Count → List arrays.Remainder → Option (List Remainder)
+abbrev pub heldIn : SheetValue → Status → List arrays.Remainder → Option (List Remainder)
 heldIn v Exhausted rs = none
 heldIn v (Live n) rs = some (map (viewOf v) (take n rs))
 
 abbrev pub heldOf : SheetValue → Held → Option (List Remainder)
 heldOf v h = heldIn v (h .count) (h .remainders)
 
-abbrev pub live : Option (List Remainder) → List Remainder
-live none = []
-live (some rs) = rs
+abbrev pub heldList : Option (List Remainder) → List Remainder
+heldList none = []
+heldList (some rs) = rs
 
 abbrev pub liveOf : SheetValue → Held → List Remainder
-liveOf v h = live (heldOf v h)
+liveOf v h = heldList (heldOf v h)
 
 abbrev pub isNone : {A : Type 0} → Option A → Bool
 isNone none = true
@@ -106,7 +106,7 @@ tagsBefore first was = cond first none (some was)
 
 -- ---- counts that their arrays have room for
 
-abbrev pub sizedIn : Count → List arrays.Remainder → Bool
+abbrev pub sizedIn : Status → List arrays.Remainder → Bool
 sizedIn Exhausted rs = true
 sizedIn (Live n) rs = leb n 32 && all (λ (r : arrays.Remainder). leb (r .owed) 8) (take n rs)
 

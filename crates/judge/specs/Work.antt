@@ -19,7 +19,7 @@ use Rattle.judge.specs.Advanced.{Advanced, fails, over, onto}
 use Rattle.judge.specs.View.{filledOf}
 use Rattle.judge.specs.Questions.{tagsHold, ticksHold, carriedHolds, leadAfter}
 use Rattle.judge.specs.Lines.{allStopped}
-use Rattle.judge.specs.Owed.{owing, kept}
+use Rattle.judge.specs.Owed.{owing, stillOwed}
 
 -- ---- one remainder
 
@@ -36,14 +36,14 @@ abbrev pub withBegun : SheetValue → List Bool → Remainder → Option (List O
 withBegun v ticks r none = over
 withBegun v ticks r (some os) = onto (carried v ticks (owing os r))
 
-abbrev pub withKept : SheetValue → List Bool → List Obligation → Remainder → Option (List Obligation) → Advanced
-withKept v ticks begun r none = fails
-withKept v ticks begun r (some os) = withBegun v ticks r (addedAll begun os)
+abbrev pub withStillOwed : SheetValue → List Bool → List Obligation → Remainder → Option (List Obligation) → Advanced
+withStillOwed v ticks begun r none = fails
+withStillOwed v ticks begun r (some os) = withBegun v ticks r (addedAll begun os)
 
 -- by the stopped clocks, the leads, what is met or late, and what is begun
 unfoldable pub advanced : SheetValue → Filled → List Obligation → Remainder → Advanced
 advanced v f begun r =
-    cond (not (overlap (f .ticks) (r .stopped)) && linesOk (carriedHolds (f .ticks)) (v .lines) (r .leads)) (withKept v (f .ticks) begun r (kept f (r .owed))) fails
+    cond (not (overlap (f .ticks) (r .stopped)) && linesOk (carriedHolds (f .ticks)) (v .lines) (r .leads)) (withStillOwed v (f .ticks) begun r (stillOwed f (r .owed))) fails
 
 -- ---- those held
 
@@ -62,15 +62,15 @@ took room found over = none
 took room found (onto x) = inserted room found x
 
 -- each of rs goes on by a filled instant that begins these obligations
-unfoldable pub settledAll : ℕ → SheetValue → Filled → List Obligation → List Remainder → Option (List Remainder) → Option (List Remainder)
-settledAll room v f begun [] found = found
-settledAll room v f begun (r ∷ rs) found = settledAll room v f begun rs (took room found (advanced v f begun r))
+unfoldable pub allAdvanced : ℕ → SheetValue → Filled → List Obligation → List Remainder → Option (List Remainder) → Option (List Remainder)
+allAdvanced room v f begun [] found = found
+allAdvanced room v f begun (r ∷ rs) found = allAdvanced room v f begun rs (took room found (advanced v f begun r))
 
 -- a filling, unless a line forbids its ticks
 unfoldable pub filling : ℕ → SheetValue → List ℤ → List Remainder → Option (List Remainder) → List Bool → Option (List Remainder)
 filling room v tags rs found ticks =
     let f = filledOf ticks tags in
-    cond (all (ticksHold ticks) (v .lines)) (settledAll room v f (flatMap (owedFrom f) (v .lines)) rs found) found
+    cond (all (ticksHold ticks) (v .lines)) (allAdvanced room v f (flatMap (owedFrom f) (v .lines)) rs found) found
 
 -- the fillings of the clocks from k on, idle before tick; g takes each
 abbrev pub fillFrom : {R : Type 0} → (R → List Bool → R) → ℕ → List Tick → List Bool → R → R

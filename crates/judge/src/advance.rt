@@ -26,7 +26,7 @@ ghost use Rattle.tesl.specs.Lists.{any, below};
 ghost use Rattle.tesl.specs.Remainder.{sameObligation};
 ghost use Rattle.theory.specs.Step.{overlap};
 ghost use Rattle.judge.specs.View.{obligationOf, firstOf, filledOf};
-ghost use Rattle.judge.specs.Rows.{height, rowCount, rowOwed, rowLead, rowStop, Row, Between, KeptRow, AddedRow, BegunRow, LeadsOn, StoppedOn};
+ghost use Rattle.judge.specs.Rows.{height, rowCount, rowOwed, rowLead, rowStop, Row, Between, StillOwedRow, AddedRow, BegunRow, LeadsOn, StoppedOn};
 ghost use Rattle.judge.specs.Filling.{Advancing, AdvancedRow};
 
 // What becomes of a row: it doesn't fit, it would owe more than eight, or it goes on.
@@ -60,11 +60,11 @@ fn is_enough(lead: u32, need: u16) -> bool
 }
 
 // Each lead of row i is what is needed, or more.
-fn leads_hold(rows: &[u32; SIZE], i: usize, reach: usize, needs: [u16; 16]) -> bool
-    requires { ⌜ (i < height) × (reach ≤ 16) ⌝ }
-    ensures { λ r. ⌜ r ≡ below reach (λ (k : ℕ). leb (getD needs k 0) (rowLead (now (rows .entry)) i k)) ⌝ }
+fn leads_hold(rows: &[u32; SIZE], i: usize, leaders: usize, needs: [u16; 16]) -> bool
+    requires { ⌜ (i < height) × (leaders ≤ 16) ⌝ }
+    ensures { λ r. ⌜ r ≡ below leaders (λ (k : ℕ). leb (getD needs k 0) (rowLead (now (rows .entry)) i k)) ⌝ }
 {
-    let mut k = reach;
+    let mut k = leaders;
     while 0 < k {
         k -= 1;
         if !is_enough(word_at(rows, i, LEADS + k), needs[k]) {
@@ -75,9 +75,15 @@ fn leads_hold(rows: &[u32; SIZE], i: usize, reach: usize, needs: [u16; 16]) -> b
 }
 
 // Stores in row `to` what row i owes that a filled instant doesn't meet. False: one of the rest is late.
-fn keep_row(rows: &mut [u32; SIZE], i: usize, to: usize, ticks: [bool; 8], tags: [i16; 8]) -> bool
+fn put_still_owed(
+    rows: &mut [u32; SIZE],
+    i: usize,
+    to: usize,
+    ticks: [bool; 8],
+    tags: [i16; 8],
+) -> bool
     requires { ⌜ Between (now rows) i to × (rowCount (now rows) i ≤ 8) ⌝ }
-    ensures { λ r. ⌜ KeptRow (filledOf ticks tags) i to r (now (rows .entry)) (now (rows .exit)) ⌝ }
+    ensures { λ r. ⌜ StillOwedRow (filledOf ticks tags) i to r (now (rows .entry)) (now (rows .exit)) ⌝ }
 {
     let n = row_count(rows, i);
     let mut count = 0;
@@ -164,15 +170,15 @@ fn leads_on(
     rows: &mut [u32; SIZE],
     i: usize,
     to: usize,
-    reach: usize,
+    leaders: usize,
     gains: [u16; 16],
     losses: [u16; 16],
 )
-    requires { ⌜ Between (now rows) i to × (reach ≤ 16) ⌝ }
-    ensures { λ _. ⌜ LeadsOn reach gains losses i to (now (rows .entry)) (now (rows .exit)) ⌝ }
+    requires { ⌜ Between (now rows) i to × (leaders ≤ 16) ⌝ }
+    ensures { λ _. ⌜ LeadsOn leaders gains losses i to (now (rows .entry)) (now (rows .exit)) ⌝ }
 {
     let mut k = 0;
-    while k < reach {
+    while k < leaders {
         let lead = word_at(rows, i, LEADS + k);
         put_word(rows, to, LEADS + k, moved(lead, gains[k], losses[k]));
         k += 1;
@@ -206,9 +212,9 @@ pub(crate) fn advance_row(
     requires { ⌜ Advancing (now rows) i to plan f ⌝ }
     ensures { λ r. ⌜ AdvancedRow plan f i to r (now (rows .entry)) (now (rows .exit)) ⌝ }
 {
-    let reach = plan.reach;
+    let leaders = plan.leaders;
     let needs = f.needs;
-    if !leads_hold(rows, i, reach, needs) {
+    if !leads_hold(rows, i, leaders, needs) {
         return Next::Fails;
     }
     let clocks = plan.clocks;
@@ -217,7 +223,7 @@ pub(crate) fn advance_row(
         return Next::Fails;
     }
     let tags = f.tags;
-    if !keep_row(rows, i, to, ticks, tags) {
+    if !put_still_owed(rows, i, to, ticks, tags) {
         return Next::Fails;
     }
     let count = f.count;
@@ -227,7 +233,7 @@ pub(crate) fn advance_row(
     }
     let gains = f.gains;
     let losses = f.losses;
-    leads_on(rows, i, to, reach, gains, losses);
+    leads_on(rows, i, to, leaders, gains, losses);
     let stops = f.stops;
     stopped_on(rows, i, to, stops);
     Next::Onto

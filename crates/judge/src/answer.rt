@@ -1,5 +1,5 @@
 // What the monitor answers.
-use crate::held::Count;
+use crate::held::Status;
 use crate::rows::SIZE;
 use crate::rows::row_count;
 ghost use mathlib.Core.Path.{_≡_};
@@ -9,7 +9,7 @@ ghost use Rattle.tesl.specs.Lists.{any};
 ghost use Rattle.tesl.specs.Remainder.{isClear};
 ghost use Rattle.judge.specs.Answer.{answerOf, saidBy};
 ghost use Rattle.judge.specs.Rows.{secondSide, height, rowsOf};
-ghost use Rattle.judge.specs.Settle.{foundIn, SmallIn};
+ghost use Rattle.judge.specs.Apply.{foundIn, FewOwedIn};
 
 // live: how many distinct remainders; clear: one of them has no obligation.
 pub enum Answer {
@@ -40,13 +40,13 @@ fn is_clear_in(rows: &[u32; SIZE], from: usize, n: usize) -> bool
 }
 
 // What those in rows from row `from` on say.
-pub(crate) fn say_rows(rows: &[u32; SIZE], from: usize, count: Count) -> Answer
-    requires { ⌜ (from ≤ secondSide) × SmallIn count (now rows) from ⌝ }
+pub(crate) fn say_rows(rows: &[u32; SIZE], from: usize, count: Status) -> Answer
+    requires { ⌜ (from ≤ secondSide) × FewOwedIn count (now rows) from ⌝ }
     ensures { λ r. ⌜ ((v : SheetValue) → answerOf r ≡ saidBy (foundIn v count (now (rows .entry)) from)) ⌝ }
 {
     match count {
-        Count::Exhausted => Answer::Exhausted,
-        Count::Live(n) => {
+        Status::Exhausted => Answer::Exhausted,
+        Status::Live(n) => {
             if n == 0 {
                 return Answer::Broken;
             }

@@ -1,7 +1,7 @@
 // How many instants of a log are taken, by reading alone.
 use records::instant::read_instant;
 use records::number;
-use records::record::Answer;
+use records::record::Decision;
 use records::record::record_bytes;
 use records::sheet::read_sheet;
 ghost use Rattle.judge.specs.Records.{Counted, CountedLog};
@@ -20,10 +20,10 @@ fn count_instants(log: &[u8], clocks: u8) -> usize
         let read = read_instant(record, clocks);
         let answer = read.answer;
         match answer {
-            Answer::Refused(_) => {
+            Decision::Refused(_) => {
                 return count;
             }
-            Answer::Done => {
+            Decision::Done => {
                 count += 1;
                 at += record.len();
             }
@@ -39,8 +39,8 @@ pub(crate) fn count_log(sheet: &[u8], log: &[u8]) -> usize
     let read = read_sheet(sheet);
     let answer = read.answer;
     match answer {
-        Answer::Refused(_) => 0,
-        Answer::Done => {
+        Decision::Refused(_) => 0,
+        Decision::Done => {
             let value = read.sheet;
             let clocks = value.clocks;
             count_instants(log, clocks)

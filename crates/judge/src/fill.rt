@@ -1,16 +1,16 @@
 // The fillings of an instant, and what the rows held become by them.
-use crate::heed::flag_rows;
-use crate::held::Count;
+use crate::apply_all::apply_all;
+use crate::held::Status;
 use crate::lines::all_tags_hold;
 use crate::lines::none_falls;
 use crate::list::LIST;
 use crate::list::put_flags;
 use crate::plan::NUMBERS;
 use crate::plan::Plan;
+use crate::relevant::flag_rows;
 use crate::rows::SIZE;
 use crate::rules::all_hold;
-use crate::rules::is_cut;
-use crate::settle_all::settle_all;
+use crate::rules::is_forbidden;
 use records::instant::Instant;
 use records::instant::Tick;
 use records::instant::TickSlot;
@@ -24,7 +24,7 @@ ghost use Rattle.tesl.specs.Fits.{noneFalls};
 ghost use Rattle.judge.specs.View.{tagsBefore};
 ghost use Rattle.judge.specs.Questions.{tagsHold};
 ghost use Rattle.judge.specs.Rules.{allowed};
-ghost use Rattle.judge.specs.Plan.{linesIn, relationsFrom, rulesFrom};
+ghost use Rattle.judge.specs.Plan.{planLines, relationsFrom, rulesFrom};
 ghost use Rattle.judge.specs.Fill.{fillingsLeft, Listing, Listed, Working, Worked};
 
 // What went before an instant: nothing, or the last tags.
@@ -69,7 +69,7 @@ fn fill(
     n: usize,
 ) -> usize
     requires { ⌜ Listing (now list) extent flags k seen ticks n ⌝ }
-    ensures { λ r. ⌜ Listed (allowed (linesIn (now (lines .entry)) rulesFrom (extent .rules))) (fillingsLeft flags seen (extent .clocks) k ticks) n r (now (list .entry)) (now (list .exit)) ⌝ }
+    ensures { λ r. ⌜ Listed (allowed (planLines (now (lines .entry)) rulesFrom (extent .rules))) (fillingsLeft flags seen (extent .clocks) k ticks) n r (now (list .entry)) (now (list .exit)) ⌝ }
 {
     let clocks = extent.clocks as usize;
     let rules = extent.rules as usize;
@@ -87,7 +87,7 @@ fn fill(
             fill(lines, extent, flags, k + 1, seen, set, list, n)
         }
         Tick::Unseen => {
-            if is_cut(lines, rules, k, ticks) {
+            if is_forbidden(lines, rules, k, ticks) {
                 return n;
             }
             if !flags[k] {
@@ -111,7 +111,7 @@ fn tags_fit(
     tags: [i16; 8],
 ) -> bool
     requires { ⌜ (clocks ≤ 8) × (n ≤ 16) ⌝ }
-    ensures { λ r. ⌜ r ≡ (noneFalls clocks (tagsBefore first was) tags && all (tagsHold tags) (linesIn (now (lines .entry)) relationsFrom n)) ⌝ }
+    ensures { λ r. ⌜ r ≡ (noneFalls clocks (tagsBefore first was) tags && all (tagsHold tags) (planLines (now (lines .entry)) relationsFrom n)) ⌝ }
 {
     if first {
         return all_tags_hold(lines, n, tags);
@@ -127,26 +127,26 @@ fn tags_fit(
 pub(crate) fn work_rows(
     rows: &mut [u32; SIZE],
     from: usize,
-    count: Count,
+    count: Status,
     plan: Plan,
     lines: &[u32; NUMBERS],
     before: Before,
     instant: Instant,
     list: &mut [bool; LIST],
-) -> Count
+) -> Status
     requires { ⌜ Working (now rows) from count plan (now list) ⌝ }
     ensures { λ r. ⌜ Worked (now (lines .entry)) plan before instant from count r (now (rows .entry)) (now (rows .exit)) (now (list .exit)) ⌝ }
 {
     match count {
-        Count::Exhausted => Count::Exhausted,
-        Count::Live(n) => {
+        Status::Exhausted => Status::Exhausted,
+        Status::Live(n) => {
             if n == 0 {
-                return Count::Live(0);
+                return Status::Live(0);
             }
             let tags = instant.tags;
             let was = before.tags;
             if !tags_fit(plan.clocks, lines, plan.relations, before.first, was, tags) {
-                return Count::Live(0);
+                return Status::Live(0);
             }
             let clocks = plan.clocks as u8;
             let rules = plan.rules as u8;
@@ -156,7 +156,7 @@ pub(crate) fn work_rows(
             let flags = flag_rows(rows, from, n, named);
             let ticks = [false; 8];
             let m = fill(lines, extent, flags, 0, seen, ticks, list, 0);
-            settle_all(rows, from, n, plan, lines, tags, m, list)
+            apply_all(rows, from, n, plan, lines, tags, m, list)
         }
     }
 }

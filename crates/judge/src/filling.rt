@@ -1,11 +1,11 @@
 // What depends on a filling alone, gathered once for all rows.
-use crate::begun::begin_all;
-use crate::leads::ask_leads;
+use crate::delays::begin_delays;
+use crate::leads::lead_changes;
 use crate::obligation::Obligation;
 use crate::plan::NUMBERS;
 use crate::plan::Plan;
 use crate::rules::all_stops;
-ghost use Rattle.judge.specs.Plan.{Fitting};
+ghost use Rattle.judge.specs.Plan.{PlanFits};
 ghost use Rattle.judge.specs.Filling.{Gathered};
 
 // The instant; the clocks that lines stop; what precedes lines need, gain and lose; what delay lines begin.
@@ -27,18 +27,18 @@ pub(crate) fn gather(
     ticks: [bool; 8],
     tags: [i16; 8],
 ) -> Filling
-    requires { ⌜ Fitting plan ⌝ }
+    requires { ⌜ PlanFits plan ⌝ }
     ensures { λ f. ⌜ Gathered (now (lines .entry)) plan ticks tags f ⌝ }
 {
-    let reach = plan.reach;
+    let leaders = plan.leaders;
     let rules = plan.rules;
     let delays = plan.delays;
     let stops = all_stops(lines, rules, ticks);
-    let asks = ask_leads(lines, reach, ticks);
-    let begins = begin_all(lines, delays, ticks, tags);
-    let needs = asks.needs;
-    let gains = asks.gains;
-    let losses = asks.losses;
+    let changes = lead_changes(lines, leaders, ticks);
+    let begins = begin_delays(lines, delays, ticks, tags);
+    let needs = changes.needs;
+    let gains = changes.gains;
+    let losses = changes.losses;
     let count = begins.count;
     let begun = begins.begun;
     Filling {

@@ -5,13 +5,13 @@ ghost use mathlib.Core.Path.{_≡_};
 ghost use Rattle.judge.specs.View.{liveCount};
 
 // Exhausted, when none is held; or how many are: none when broken.
-pub enum Count {
+pub enum Status {
     Exhausted,
     Live(usize),
 }
 
 pub struct Held {
-    pub count: Count,
+    pub count: Status,
     pub remainders: [Remainder; 32],
 }
 
@@ -23,11 +23,11 @@ pub(crate) fn clocks_of(s: Sheet) -> usize
 }
 
 // How many are held; none once exhausted, nor when broken.
-pub(crate) fn live_in(count: Count) -> usize
+pub(crate) fn live_in(count: Status) -> usize
     ensures { λ n. ⌜ n ≡ liveCount count ⌝ }
 {
     match count {
-        Count::Exhausted => 0,
-        Count::Live(n) => n,
+        Status::Exhausted => 0,
+        Status::Live(n) => n,
     }
 }

@@ -1,13 +1,13 @@
 // Which lines have leads, and what a filling asks of the leads and makes of them: once per filling.
 use crate::clock::ticks_at;
 use crate::plan::NUMBERS;
-use crate::plan::line_in;
+use crate::plan::plan_line;
 use records::line::Line;
 ghost use mathlib.Core.Path.{_≡_};
 ghost use Prim.Native.Nat.{_-_, _≤_};
 ghost use Rattle.theory.specs.Step.{bit};
 ghost use Rattle.judge.specs.Plan.{isPrecedes};
-ghost use Rattle.judge.specs.Filling.{AskedLead, AskedLeads};
+ghost use Rattle.judge.specs.Filling.{AskedLead, LeadChangesOf};
 
 pub(crate) fn precedes(l: Line) -> bool
     ensures { λ r. ⌜ r ≡ isPrecedes l ⌝ }
@@ -86,30 +86,30 @@ fn ask_lead(l: Line, ticks: [bool; 8]) -> Ask
 }
 
 // Of each of the first lines the lead that it needs, its ticks of A and its ticks of B.
-pub(crate) struct Asks {
+pub(crate) struct LeadChanges {
     pub needs: [u16; 16],
     pub gains: [u16; 16],
     pub losses: [u16; 16],
 }
 
-// For each of the first `reach` lines.
-pub(crate) fn ask_leads(lines: &[u32; NUMBERS], reach: usize, ticks: [bool; 8]) -> Asks
-    requires { ⌜ reach ≤ 16 ⌝ }
-    ensures { λ r. ⌜ AskedLeads (now (lines .entry)) reach ticks (r .needs) (r .gains) (r .losses) ⌝ }
+// For each of the first `leaders` lines.
+pub(crate) fn lead_changes(lines: &[u32; NUMBERS], leaders: usize, ticks: [bool; 8]) -> LeadChanges
+    requires { ⌜ leaders ≤ 16 ⌝ }
+    ensures { λ r. ⌜ LeadChangesOf (now (lines .entry)) leaders ticks (r .needs) (r .gains) (r .losses) ⌝ }
 {
     let mut needs = [0u16; 16];
     let mut gains = [0u16; 16];
     let mut losses = [0u16; 16];
     let mut i = 0;
-    while i < reach {
-        let l = line_in(lines, i);
+    while i < leaders {
+        let l = plan_line(lines, i);
         let ask = ask_lead(l, ticks);
         needs[i] = ask.need;
         gains[i] = ask.gain;
         losses[i] = ask.loss;
         i += 1;
     }
-    Asks {
+    LeadChanges {
         needs,
         gains,
         losses,

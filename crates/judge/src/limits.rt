@@ -1,12 +1,12 @@
 // The limits of a monitor, refusal 11.
-use crate::held::Count;
 use crate::held::Held;
+use crate::held::Status;
 use crate::monitor::Monitor;
 use crate::obligation::Obligation;
 use crate::remainder::Remainder;
 use records::line::Line;
 use records::number;
-use records::record::Answer;
+use records::record::Decision;
 use records::sheet::Sheet;
 use records::sheet::check_sheet;
 ghost use mathlib.Core.Path.{_≡_};
@@ -118,8 +118,8 @@ fn held_within(s: Sheet, instants: usize, h: Held) -> bool
 {
     let count = h.count;
     match count {
-        Count::Exhausted => true,
-        Count::Live(n) => {
+        Status::Exhausted => true,
+        Status::Live(n) => {
             if number::MAX_LIVE < n {
                 return false;
             }
@@ -151,8 +151,8 @@ pub(crate) fn is_within(m: Monitor) -> bool
 {
     let sheet = m.sheet;
     match check_sheet(sheet) {
-        Answer::Refused(_) => false,
-        Answer::Done => {
+        Decision::Refused(_) => false,
+        Decision::Done => {
             let instants = m.instants;
             if number::MAX_INSTANTS < instants {
                 return false;

@@ -10,11 +10,11 @@ ghost use mathlib.Core.Path.{_≡_};
 ghost use mathlib.Core.Bool.{not, _&&_, _||_};
 ghost use lib.IntN.{_+ℤ_, _*ℤ_};
 ghost use Rattle.tesl.specs.Fits.{eqZ, owedFrom};
-ghost use Rattle.judge.specs.View.{filledOf, begunOf};
+ghost use Rattle.judge.specs.View.{filledOf, newObligation};
 ghost use Rattle.judge.specs.Questions.{tagsHold, ticksHold, stoppedAfter};
 
 // What a line begins at an instant.
-pub(crate) enum Begun {
+pub(crate) enum NewObligation {
     Nothing,
     Owed(Obligation),
 }
@@ -93,27 +93,27 @@ pub(crate) fn stopped_after(l: Line, ticks: [bool; 8], stopped: [bool; 8]) -> [b
 }
 
 // The obligation that a line begins at an instant.
-pub(crate) fn begins(l: Line, ticks: [bool; 8], tags: [i16; 8]) -> Begun
-    ensures { λ r. ⌜ begunOf r ≡ owedFrom (filledOf ticks tags) l ⌝ }
+pub(crate) fn begins(l: Line, ticks: [bool; 8], tags: [i16; 8]) -> NewObligation
+    ensures { λ r. ⌜ newObligation r ≡ owedFrom (filledOf ticks tags) l ⌝ }
 {
     match l {
         Line::Delayed { a, b, d, by } => {
             if ticks_at(ticks, a) {
-                Begun::Owed(Obligation {
+                NewObligation::Owed(Obligation {
                     clock: d,
                     on: b,
                     due: due_of(tag_at(tags, b), by),
                 })
             } else {
-                Begun::Nothing
+                NewObligation::Nothing
             }
         }
-        Line::Sporadic { .. } => Begun::Nothing,
-        Line::Relation { .. } => Begun::Nothing,
-        Line::Implies { .. } => Begun::Nothing,
-        Line::Excludes { .. } => Begun::Nothing,
-        Line::Weakly { .. } => Begun::Nothing,
-        Line::Strictly { .. } => Begun::Nothing,
-        Line::Kills { .. } => Begun::Nothing,
+        Line::Sporadic { .. } => NewObligation::Nothing,
+        Line::Relation { .. } => NewObligation::Nothing,
+        Line::Implies { .. } => NewObligation::Nothing,
+        Line::Excludes { .. } => NewObligation::Nothing,
+        Line::Weakly { .. } => NewObligation::Nothing,
+        Line::Strictly { .. } => NewObligation::Nothing,
+        Line::Kills { .. } => NewObligation::Nothing,
     }
 }

@@ -2,23 +2,23 @@
 use crate::line::tags_hold;
 use crate::plan::NUMBERS;
 use crate::plan::RELATIONS;
-use crate::plan::line_in;
+use crate::plan::plan_line;
 ghost use mathlib.Core.Path.{_≡_};
 ghost use Prim.Native.Nat.{ℕ, _≤_};
 ghost use lib.Signed.{leZ};
 ghost use Rattle.tesl.specs.Lists.{all, below};
 ghost use Rattle.tesl.specs.Run.{tagIn};
 ghost use Rattle.judge.specs.Questions.{tagsHold};
-ghost use Rattle.judge.specs.Plan.{linesIn, relationsFrom};
+ghost use Rattle.judge.specs.Plan.{planLines, relationsFrom};
 
 // What n relations ask of the tags.
 pub(crate) fn all_tags_hold(lines: &[u32; NUMBERS], n: usize, tags: [i16; 8]) -> bool
     requires { ⌜ n ≤ 16 ⌝ }
-    ensures { λ r. ⌜ r ≡ all (tagsHold tags) (linesIn (now (lines .entry)) relationsFrom n) ⌝ }
+    ensures { λ r. ⌜ r ≡ all (tagsHold tags) (planLines (now (lines .entry)) relationsFrom n) ⌝ }
 {
     let mut i = 0;
     while i < n {
-        let l = line_in(lines, RELATIONS + i);
+        let l = plan_line(lines, RELATIONS + i);
         if !tags_hold(l, tags) {
             return false;
         }

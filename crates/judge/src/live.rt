@@ -1,25 +1,25 @@
 // The monitor in a state of words that the caller lends: opened with a sheet, called instant by instant; between calls the words are all there is.
 use crate::answer::Reply;
 use crate::answer::say_rows;
-use crate::held::Count;
-use crate::kept::Kept;
-use crate::kept::first_kept;
-use crate::kept::observe_rows;
+use crate::held::Status;
 use crate::list::LIST;
-use crate::monitor::Given;
+use crate::monitor::CallResult;
 use crate::monitor::blank_monitor;
 use crate::monitor::refuse;
 use crate::plan::NUMBERS;
 use crate::plan::Plan;
 use crate::plan::plan_of;
+use crate::progress::Progress;
+use crate::progress::first_progress;
+use crate::progress::observe_rows;
 use crate::rows::HEAD;
 use crate::rows::SIZE;
 use crate::rows_limits::rows_within;
 use crate::start::begin_rows;
 use crate::state::is_state;
-use crate::state::kept_in;
+use crate::state::progress_in;
 use crate::state::put_format;
-use crate::state::put_kept;
+use crate::state::put_progress;
 use crate::state::put_sheet;
 use crate::state::sheet_in;
 use crate::stored::read_back;
@@ -29,7 +29,7 @@ use crate::unused::tidy;
 use records::line::Line;
 use records::line::Slot;
 use records::number;
-use records::record::Answer;
+use records::record::Decision;
 use records::sheet::Sheet;
 use records::sheet::check_sheet;
 use records::sheet::read_sheet;
@@ -37,7 +37,7 @@ ghost use mathlib.Core.Path.{_≡_};
 ghost use mathlib.Core.List.{[]};
 ghost use lib.ListN.{length};
 ghost use Rattle.records.specs.Sheet.{sheetOf, readSheet};
-ghost use Rattle.judge.specs.Plan.{numbers, Fitting};
+ghost use Rattle.judge.specs.Plan.{numbers, PlanFits};
 ghost use Rattle.judge.specs.Live.{OpenedIn, ObservedIn, SaidIn, GivenIn};
 ghost use Rattle.judge.specs.Found.{NothingFound, FoundIn, KeepingNext, KeptNext};
 
@@ -53,7 +53,7 @@ pub struct Replied {
 // ok: the words are a monitor within its limits; then what it keeps beside its sheet and its rows, and its plan.
 pub struct Found {
     pub ok: bool,
-    pub kept: Kept,
+    pub progress: Progress,
     pub plan: Plan,
 }
 
@@ -66,7 +66,7 @@ fn lent_words(state: &[u32]) -> usize
 
 // The plan of no line, where there is no monitor.
 fn no_plan() -> Plan
-    ensures { λ p. ⌜ Fitting p ⌝ }
+    ensures { λ p. ⌜ PlanFits p ⌝ }
 {
     let precede = [false; 16];
     let named = [false; 8];
@@ -75,20 +75,20 @@ fn no_plan() -> Plan
         relations: 0,
         rules: 0,
         delays: 0,
-        reach: 0,
+        leaders: 0,
         precede,
         named,
     }
 }
 
 // No monitor within its limits.
-fn nothing_found(kept: Kept) -> Found
-    ensures { λ r. ⌜ NothingFound kept r ⌝ }
+fn nothing_found(progress: Progress) -> Found
+    ensures { λ r. ⌜ NothingFound progress r ⌝ }
 {
     let plan = no_plan();
     Found {
         ok: false,
-        kept,
+        progress,
         plan,
     }
 }
@@ -99,37 +99,37 @@ fn find_state(state: &[u32; SIZE], lines: &mut [u32; NUMBERS]) -> Found
     ensures { λ r. ⌜ FoundIn (now (state .entry)) r (now (lines .exit)) ⌝ }
 {
     let _all = lent_words(state);
-    let kept = kept_in(state);
+    let progress = progress_in(state);
     if !is_state(state) {
-        return nothing_found(kept);
+        return nothing_found(progress);
     }
     let sheet = sheet_in(state);
     match check_sheet(sheet) {
-        Answer::Refused(_) => nothing_found(kept),
-        Answer::Done => {
-            let instants = kept.instants;
+        Decision::Refused(_) => nothing_found(progress),
+        Decision::Done => {
+            let instants = progress.instants;
             if number::MAX_INSTANTS < instants {
-                return nothing_found(kept);
+                return nothing_found(progress);
             }
             let plan = plan_of(sheet, lines);
-            let from = kept.from;
-            let count = kept.count;
+            let from = progress.from;
+            let count = progress.count;
             let ok = rows_within(state, from, count, plan, instants);
-            Found { ok, kept, plan }
+            Found { ok, progress, plan }
         }
     }
 }
 
 // Stores the monitor after an accepted instant, once the words that no remainder uses are cleared.
-fn keep_next(state: &mut [u32; SIZE], kept: Kept, next: Kept, plan: Plan)
-    requires { ⌜ KeepingNext (now state) kept next plan ⌝ }
-    ensures { λ _. ⌜ KeptNext plan kept next (now (state .entry)) (now (state .exit)) ⌝ }
+fn keep_next(state: &mut [u32; SIZE], progress: Progress, next: Progress, plan: Plan)
+    requires { ⌜ KeepingNext (now state) progress next plan ⌝ }
+    ensures { λ _. ⌜ KeptNext plan progress next (now (state .entry)) (now (state .exit)) ⌝ }
 {
-    let from = kept.from;
-    let was = kept.count;
+    let from = progress.from;
+    let was = progress.count;
     let count = next.count;
     tidy(state, from, was, count, plan);
-    put_kept(state, next);
+    put_progress(state, next);
 }
 
 // Opens a sheet: refused, the number, and no word changes; else the answer for no instant, and the words are the monitor, whatever they were.
@@ -140,18 +140,18 @@ pub fn open_state(bytes: &[u8], state: &mut [u32; SIZE]) -> Reply
     let sheet = read.sheet;
     let answer = read.answer;
     match answer {
-        Answer::Refused(n) => Reply::Refused(n),
-        Answer::Done => {
+        Decision::Refused(n) => Reply::Refused(n),
+        Decision::Done => {
             let _all = lent_words(state);
             let mut lines = [0u32; NUMBERS];
             let plan = plan_of(sheet, &mut lines);
             clear_rows(state, 0, HEAD + 1);
             begin_rows(state, sheet);
-            let count = Count::Live(1);
+            let count = Status::Live(1);
             clear_beside(state, HEAD, count, plan);
             put_format(state);
             put_sheet(state, sheet);
-            put_kept(state, first_kept());
+            put_progress(state, first_progress());
             Reply::Answered(say_rows(state, HEAD, count))
         }
     }
@@ -169,17 +169,17 @@ pub fn observe_state(state: &mut [u32; SIZE], bytes: &[u8]) -> Replied
             instants: 0,
         };
     }
-    let kept = found.kept;
+    let progress = found.progress;
     let plan = found.plan;
     let mut list = [false; LIST];
-    let told = observe_rows(kept, plan, &lines, bytes, state, &mut list);
+    let told = observe_rows(progress, plan, &lines, bytes, state, &mut list);
     let reply = told.reply;
-    let next = told.kept;
+    let next = told.progress;
     let instants = next.instants;
     match reply {
         Reply::Refused(_) => Replied { reply, instants },
         Reply::Answered(_) => {
-            keep_next(state, kept, next, plan);
+            keep_next(state, progress, next, plan);
             Replied { reply, instants }
         }
     }
@@ -197,10 +197,10 @@ pub fn last_reply(state: &[u32; SIZE]) -> Replied
             instants: 0,
         };
     }
-    let kept = found.kept;
-    let from = kept.from;
-    let count = kept.count;
-    let instants = kept.instants;
+    let progress = found.progress;
+    let from = progress.from;
+    let count = progress.count;
+    let instants = progress.instants;
     Replied {
         reply: Reply::Answered(say_rows(state, from, count)),
         instants,
@@ -221,7 +221,7 @@ fn no_sheet() -> Sheet
 }
 
 // The monitor as a struct, and the last answer; 11, and no monitor, where the words are none within its limits.
-pub fn monitor_in(state: &[u32; SIZE]) -> Given
+pub fn monitor_in(state: &[u32; SIZE]) -> CallResult
     ensures { λ r. ⌜ GivenIn r (now (state .entry)) ⌝ }
 {
     let mut lines = [0u32; NUMBERS];
@@ -229,14 +229,14 @@ pub fn monitor_in(state: &[u32; SIZE]) -> Given
     if !found.ok {
         return refuse(number::MONITOR_LIMITS, blank_monitor(no_sheet()));
     }
-    let kept = found.kept;
+    let progress = found.progress;
     let plan = found.plan;
-    let from = kept.from;
-    let count = kept.count;
+    let from = progress.from;
+    let count = progress.count;
     let said = say_rows(state, from, count);
     let sheet = sheet_in(state);
-    let monitor = read_back(sheet, kept, plan, state);
-    Given {
+    let monitor = read_back(sheet, progress, plan, state);
+    CallResult {
         reply: Reply::Answered(said),
         monitor,
     }

@@ -4,21 +4,21 @@ use crate::answer::say_rows;
 use crate::count::count_log;
 use crate::entry::ENTRY_LENGTH;
 use crate::entry::put_entry;
-use crate::kept::Kept;
-use crate::kept::first_kept;
-use crate::kept::observe_rows;
 use crate::list::LIST;
 use crate::monitor::Monitor;
 use crate::monitor::blank_monitor;
 use crate::plan::NUMBERS;
 use crate::plan::Plan;
 use crate::plan::plan_of;
+use crate::progress::Progress;
+use crate::progress::first_progress;
+use crate::progress::observe_rows;
 use crate::rows::HEAD;
 use crate::rows::SIZE;
 use crate::start::begin_rows;
 use crate::stored::read_back;
 use records::number;
-use records::record::Answer;
+use records::record::Decision;
 use records::record::record_bytes;
 use records::sheet::read_sheet;
 ghost use mathlib.Core.Path.{_≡_};
@@ -44,14 +44,14 @@ pub struct LastMonitor {
 struct LastRows {
     reply: Reply,
     instants: usize,
-    kept: Kept,
+    progress: Progress,
 }
 
 // Observes the records of a log one by one, up to the first that is refused, with a monitor in rows, where it changes sides at each instant. Each answer goes into the buffer, where there is room.
 fn observe_records(
     log: &[u8],
     opening: Reply,
-    first: Kept,
+    first: Progress,
     plan: Plan,
     lines: &[u32; NUMBERS],
     rows: &mut [u32; SIZE],
@@ -61,26 +61,26 @@ fn observe_records(
     requires { ⌜ Working (now rows) (first .from) (first .count) plan (now list) ⌝ }
     ensures { λ r. ⌜ ObservedRecords (now (log .entry)) opening first plan (now (lines .entry)) r (now (rows .entry)) (now (rows .exit)) (now (list .exit)) (now (out .entry)) (now (out .exit)) ⌝ }
 {
-    let mut kept = first;
+    let mut progress = first;
     let mut reply = opening;
     let mut instants = 0;
     let mut end = 0;
     let mut at = 0;
     while at < log.len() {
         let record = record_bytes(log, at);
-        let told = observe_rows(kept, plan, lines, record, rows, list);
+        let told = observe_rows(progress, plan, lines, record, rows, list);
         let said = told.reply;
-        let next = told.kept;
+        let next = told.progress;
         match said {
             Reply::Refused(_) => {
                 return LastRows {
                     reply: said,
                     instants,
-                    kept: next,
+                    progress: next,
                 };
             }
             Reply::Answered(a) => {
-                kept = next;
+                progress = next;
                 reply = said;
                 end = put_entry(out, end, a);
                 instants += 1;
@@ -91,7 +91,7 @@ fn observe_records(
     LastRows {
         reply,
         instants,
-        kept,
+        progress,
     }
 }
 
@@ -103,17 +103,17 @@ fn observe_log(sheet: &[u8], log: &[u8], out: &mut [u8]) -> LastMonitor
     let value = read.sheet;
     let answer = read.answer;
     match answer {
-        Answer::Refused(n) => LastMonitor {
+        Decision::Refused(n) => LastMonitor {
             reply: Reply::Refused(n),
             instants: 0,
             monitor: blank_monitor(value),
         },
-        Answer::Done => {
+        Decision::Done => {
             let mut lines = [0u32; NUMBERS];
             let plan = plan_of(value, &mut lines);
             let mut rows = [0u32; SIZE];
             begin_rows(&mut rows, value);
-            let first = first_kept();
+            let first = first_progress();
             let count = first.count;
             let said = say_rows(&rows, HEAD, count);
             let opening = Reply::Answered(said);
@@ -128,8 +128,8 @@ fn observe_log(sheet: &[u8], log: &[u8], out: &mut [u8]) -> LastMonitor
                 &mut list,
                 out,
             );
-            let kept = last.kept;
-            let monitor = read_back(value, kept, plan, &rows);
+            let progress = last.progress;
+            let monitor = read_back(value, progress, plan, &rows);
             let reply = last.reply;
             LastMonitor {
                 reply,

@@ -1,28 +1,28 @@
 // The monitor: opened with a sheet, called instant by instant.
 use crate::answer::Reply;
 use crate::answer::say_rows;
-use crate::held::Count;
 use crate::held::Held;
-use crate::kept::first_kept;
-use crate::kept::kept_of;
-use crate::kept::observe_rows;
+use crate::held::Status;
 use crate::limits::is_within;
 use crate::list::LIST;
 use crate::plan::NUMBERS;
 use crate::plan::plan_of;
+use crate::progress::first_progress;
+use crate::progress::observe_rows;
+use crate::progress::progress_of;
 use crate::remainder::blank_remainder;
 use crate::rows::HEAD;
 use crate::rows::SIZE;
 use crate::start::begin_rows;
-use crate::stored::keep_held;
 use crate::stored::read_back;
+use crate::stored::store_held;
 use records::number;
-use records::record::Answer;
+use records::record::Decision;
 use records::sheet::Sheet;
 use records::sheet::read_sheet;
 ghost use mathlib.Core.Path.{_≡_};
 ghost use Rattle.records.specs.Sheet.{readSheet};
-ghost use Rattle.judge.specs.Limits.{within};
+ghost use Rattle.judge.specs.Limits.{monitorWithin};
 ghost use Rattle.judge.specs.Monitor.{blankMonitor, refusal};
 ghost use Rattle.judge.specs.Promises.{Opened, Observed};
 
@@ -35,7 +35,7 @@ pub struct Monitor {
 }
 
 // What a call gives: its reply, and the monitor to call next.
-pub struct Given {
+pub struct CallResult {
     pub reply: Reply,
     pub monitor: Monitor,
 }
@@ -47,7 +47,7 @@ pub(crate) fn blank_monitor(sheet: Sheet) -> Monitor
     let blank = blank_remainder();
     let remainders = [blank; 32];
     let held = Held {
-        count: Count::Live(0),
+        count: Status::Live(0),
         remainders,
     };
     let tags = [0i16; 8];
@@ -60,24 +60,24 @@ pub(crate) fn blank_monitor(sheet: Sheet) -> Monitor
 }
 
 // Opens a sheet: its number and no monitor, or the answer for no instant and the monitor.
-pub fn open(bytes: &[u8]) -> Given
+pub fn open(bytes: &[u8]) -> CallResult
     ensures { λ r. ⌜ Opened readSheet (now (bytes .entry)) r ⌝ }
 {
     let read = read_sheet(bytes);
     let sheet = read.sheet;
     let answer = read.answer;
     match answer {
-        Answer::Refused(n) => refuse(n, blank_monitor(sheet)),
-        Answer::Done => {
+        Decision::Refused(n) => refuse(n, blank_monitor(sheet)),
+        Decision::Done => {
             let mut lines = [0u32; NUMBERS];
             let plan = plan_of(sheet, &mut lines);
             let mut rows = [0u32; SIZE];
             begin_rows(&mut rows, sheet);
-            let first = first_kept();
+            let first = first_progress();
             let count = first.count;
             let opening = say_rows(&rows, HEAD, count);
             let monitor = read_back(sheet, first, plan, &rows);
-            Given {
+            CallResult {
                 reply: Reply::Answered(opening),
                 monitor,
             }
@@ -86,15 +86,15 @@ pub fn open(bytes: &[u8]) -> Given
 }
 
 // The number, and the monitor as it came.
-pub(crate) fn refuse(n: u8, monitor: Monitor) -> Given
+pub(crate) fn refuse(n: u8, monitor: Monitor) -> CallResult
     ensures { λ r. ⌜ r ≡ refusal n monitor ⌝ }
 {
     let reply = Reply::Refused(n);
-    Given { reply, monitor }
+    CallResult { reply, monitor }
 }
 
 // Takes an instant: refused, the number and the monitor as it came; accepted, the answer and the monitor after it.
-pub fn observe(monitor: Monitor, bytes: &[u8]) -> Given
+pub fn observe(monitor: Monitor, bytes: &[u8]) -> CallResult
     ensures { λ r. ⌜ Observed monitor (now (bytes .entry)) r ⌝ }
 {
     if !is_within(monitor) {
@@ -107,24 +107,24 @@ pub fn observe(monitor: Monitor, bytes: &[u8]) -> Given
     let count = held.count;
     let remainders = held.remainders;
     let mut rows = [0u32; SIZE];
-    keep_held(&mut rows, count, remainders);
+    store_held(&mut rows, count, remainders);
     let mut list = [false; LIST];
-    let kept = kept_of(monitor);
-    let told = observe_rows(kept, plan, &lines, bytes, &mut rows, &mut list);
+    let progress = progress_of(monitor);
+    let told = observe_rows(progress, plan, &lines, bytes, &mut rows, &mut list);
     let reply = told.reply;
     match reply {
         Reply::Refused(n) => refuse(n, monitor),
         Reply::Answered(_) => {
-            let next = told.kept;
+            let next = told.progress;
             let monitor = read_back(sheet, next, plan, &rows);
-            Given { reply, monitor }
+            CallResult { reply, monitor }
         }
     }
 }
 
 // Whether a monitor is within its limits, for those who are handed one.
 pub fn within_limits(monitor: Monitor) -> bool
-    ensures { λ r. ⌜ r ≡ within monitor ⌝ }
+    ensures { λ r. ⌜ r ≡ monitorWithin monitor ⌝ }
 {
     is_within(monitor)
 }

@@ -1,17 +1,17 @@
 // A sheet's lines in a lent array of words, a row to each, and what is found out about the sheet once. All lines stand in the sheet's order from row 0 on; its relations, its rules and its delay lines once more, from rows 16, 32 and 48 on.
-use crate::heed::flag_line;
 use crate::held::clocks_of;
 use crate::leads::precedes;
 use crate::line_words::LineWords;
 use crate::line_words::line_of_words;
 use crate::line_words::words_of_line;
+use crate::relevant::flag_line;
 use records::line::Line;
 use records::sheet::Sheet;
 ghost use mathlib.Core.Bool.{cond};
 ghost use mathlib.Core.Path.{_≡_};
 ghost use Prim.Native.Nat.{_+_, _<_};
 ghost use Rattle.judge.specs.LineWords.{lineOfWords};
-ghost use Rattle.judge.specs.Plan.{isRelation, isRule, isDelay, planRows, lineIn, LineRow, PutLine, PutPart, Preparing, PlanOf};
+ghost use Rattle.judge.specs.Plan.{isRelation, isRule, isDelay, planRows, planLine, LineRow, PutPlanLine, PutPart, Preparing, PlanOf};
 
 // Words of a row, six of them used; rows; words in all.
 const LINE_WIDTH: usize = 8;
@@ -33,7 +33,7 @@ pub struct Plan {
     pub relations: usize,
     pub rules: usize,
     pub delays: usize,
-    pub reach: usize,
+    pub leaders: usize,
     pub precede: [bool; 16],
     pub named: [bool; 8],
 }
@@ -85,9 +85,9 @@ fn is_delay(l: Line) -> bool
 }
 
 // The line of row j.
-pub(crate) fn line_in(lines: &[u32; NUMBERS], j: usize) -> Line
+pub(crate) fn plan_line(lines: &[u32; NUMBERS], j: usize) -> Line
     requires { ⌜ j < planRows ⌝ }
-    ensures { λ r. ⌜ r ≡ lineIn (now (lines .entry)) j ⌝ }
+    ensures { λ r. ⌜ r ≡ planLine (now (lines .entry)) j ⌝ }
 {
     let at = LINE_WIDTH * j;
     line_of_words(LineWords {
@@ -103,7 +103,7 @@ pub(crate) fn line_in(lines: &[u32; NUMBERS], j: usize) -> Line
 // Stores six words in row j; the other rows stay.
 fn put_words(lines: &mut [u32; NUMBERS], j: usize, w: LineWords)
     requires { ⌜ LineRow (now lines) j ⌝ }
-    ensures { λ _. ⌜ PutLine j (lineOfWords w) (now (lines .entry)) (now (lines .exit)) ⌝ }
+    ensures { λ _. ⌜ PutPlanLine j (lineOfWords w) (now (lines .entry)) (now (lines .exit)) ⌝ }
 {
     let at = LINE_WIDTH * j;
     lines[at] = w.kind;
@@ -133,11 +133,11 @@ fn put_part(
 }
 
 // Where the last precedes line stands, from 1, with line i besides.
-fn reach_with(reach: usize, i: usize, leads: bool) -> usize
+fn leaders_with(leaders: usize, i: usize, leads: bool) -> usize
     requires { ⌜ i < 16 ⌝ }
-    ensures { λ r. ⌜ r ≡ cond leads (i + 1) reach ⌝ }
+    ensures { λ r. ⌜ r ≡ cond leads (i + 1) leaders ⌝ }
 {
-    if leads { i + 1 } else { reach }
+    if leads { i + 1 } else { leaders }
 }
 
 // What is found out about a sheet once, in one pass over its lines.
@@ -150,7 +150,7 @@ pub(crate) fn plan_of(s: Sheet, lines: &mut [u32; NUMBERS]) -> Plan
     let mut relations = 0;
     let mut rules = 0;
     let mut delays = 0;
-    let mut reach = 0;
+    let mut leaders = 0;
     let mut precede = [false; 16];
     let mut named = [false; 8];
     let mut i = 0;
@@ -164,7 +164,7 @@ pub(crate) fn plan_of(s: Sheet, lines: &mut [u32; NUMBERS]) -> Plan
         delays = put_part(lines, DELAYS, delays, is_delay(l), w);
         let leads = precedes(l);
         precede[i] = leads;
-        reach = reach_with(reach, i, leads);
+        leaders = leaders_with(leaders, i, leads);
         let flags = flag_line(l, named);
         named = flags;
         i += 1;
@@ -174,7 +174,7 @@ pub(crate) fn plan_of(s: Sheet, lines: &mut [u32; NUMBERS]) -> Plan
         relations,
         rules,
         delays,
-        reach,
+        leaders,
         precede,
         named,
     }

@@ -1,5 +1,5 @@
 // The limits of remainders in rows, refusal 11, tested where they stand.
-use crate::held::Count;
+use crate::held::Status;
 use crate::limits::obligation_within;
 use crate::plan::Plan;
 use crate::rows::LEADS;
@@ -45,19 +45,19 @@ fn lead_fits(used: bool, lead: u32, instants: usize) -> bool
     }
 }
 
-// The leads of row i that precedes lines have: before `reach`, where there is a flag.
+// The leads of row i that precedes lines have: before `leaders`, where there is a flag.
 fn row_leads_within(
     rows: &[u32; SIZE],
     i: usize,
-    reach: usize,
+    leaders: usize,
     precede: [bool; 16],
     instants: usize,
 ) -> bool
-    requires { ⌜ (i < height) × (reach ≤ 16) ⌝ }
-    ensures { λ r. ⌜ r ≡ below reach (leadFits precede instants (now (rows .entry)) i) ⌝ }
+    requires { ⌜ (i < height) × (leaders ≤ 16) ⌝ }
+    ensures { λ r. ⌜ r ≡ below leaders (leadFits precede instants (now (rows .entry)) i) ⌝ }
 {
     let mut k = 0;
-    while k < reach {
+    while k < leaders {
         let used = precede[k];
         if lead_fits(used, word_at(rows, i, LEADS + k), instants) {
             k += 1;
@@ -79,9 +79,9 @@ fn row_within(rows: &[u32; SIZE], i: usize, plan: Plan, instants: usize) -> bool
     }
     let clocks = plan.clocks as u8;
     if row_owed_within(rows, i, n, clocks) {
-        let reach = plan.reach;
+        let leaders = plan.leaders;
         let precede = plan.precede;
-        row_leads_within(rows, i, reach, precede, instants)
+        row_leads_within(rows, i, leaders, precede, instants)
     } else {
         false
     }
@@ -107,7 +107,7 @@ fn each_row_within(rows: &[u32; SIZE], from: usize, n: usize, plan: Plan, instan
 pub(crate) fn rows_within(
     rows: &[u32; SIZE],
     from: usize,
-    count: Count,
+    count: Status,
     plan: Plan,
     instants: usize,
 ) -> bool
@@ -115,8 +115,8 @@ pub(crate) fn rows_within(
     ensures { λ r. ⌜ RowsWithin plan instants (now (rows .entry)) from count r ⌝ }
 {
     match count {
-        Count::Exhausted => true,
-        Count::Live(n) => {
+        Status::Exhausted => true,
+        Status::Live(n) => {
             if number::MAX_LIVE < n {
                 return false;
             }

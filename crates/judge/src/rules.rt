@@ -3,7 +3,7 @@ use crate::line::stopped_after;
 use crate::line::ticks_hold;
 use crate::plan::NUMBERS;
 use crate::plan::RULES;
-use crate::plan::line_in;
+use crate::plan::plan_line;
 use records::line::Line;
 ghost use mathlib.Core.Path.{_≡_};
 ghost use mathlib.Core.Bool.{false, _&&_};
@@ -12,17 +12,17 @@ ghost use lib.Dec.{ltb};
 ghost use lib.ListN.{replicate};
 ghost use Rattle.tesl.specs.Lists.{any};
 ghost use Rattle.judge.specs.Lines.{allStopped};
-ghost use Rattle.judge.specs.Plan.{linesIn, rulesFrom};
-ghost use Rattle.judge.specs.Rules.{allowed, isSettled, cuts};
+ghost use Rattle.judge.specs.Plan.{planLines, rulesFrom};
+ghost use Rattle.judge.specs.Rules.{allowed, isSettled, forbids};
 
 // What the rules ask of the ticks.
 pub(crate) fn all_hold(lines: &[u32; NUMBERS], n: usize, ticks: [bool; 8]) -> bool
     requires { ⌜ n ≤ 16 ⌝ }
-    ensures { λ b. ⌜ b ≡ allowed (linesIn (now (lines .entry)) rulesFrom n) ticks ⌝ }
+    ensures { λ b. ⌜ b ≡ allowed (planLines (now (lines .entry)) rulesFrom n) ticks ⌝ }
 {
     let mut i = 0;
     while i < n {
-        let l = line_in(lines, RULES + i);
+        let l = plan_line(lines, RULES + i);
         if !ticks_hold(l, ticks) {
             return false;
         }
@@ -58,13 +58,13 @@ fn is_settled(l: Line, k: usize) -> bool
 }
 
 // A rule whose clocks are below k forbids these ticks.
-pub(crate) fn is_cut(lines: &[u32; NUMBERS], n: usize, k: usize, ticks: [bool; 8]) -> bool
+pub(crate) fn is_forbidden(lines: &[u32; NUMBERS], n: usize, k: usize, ticks: [bool; 8]) -> bool
     requires { ⌜ n ≤ 16 ⌝ }
-    ensures { λ b. ⌜ b ≡ any (cuts k ticks) (linesIn (now (lines .entry)) rulesFrom n) ⌝ }
+    ensures { λ b. ⌜ b ≡ any (forbids k ticks) (planLines (now (lines .entry)) rulesFrom n) ⌝ }
 {
     let mut i = 0;
     while i < n {
-        let l = line_in(lines, RULES + i);
+        let l = plan_line(lines, RULES + i);
         i += 1;
         if !is_settled(l, k) {
             continue;
@@ -79,12 +79,12 @@ pub(crate) fn is_cut(lines: &[u32; NUMBERS], n: usize, k: usize, ticks: [bool; 8
 // The clocks that the kills lines stop.
 pub(crate) fn all_stops(lines: &[u32; NUMBERS], n: usize, ticks: [bool; 8]) -> [bool; 8]
     requires { ⌜ n ≤ 16 ⌝ }
-    ensures { λ b. ⌜ b ≡ allStopped ticks (linesIn (now (lines .entry)) rulesFrom n) (replicate 8 false) ⌝ }
+    ensures { λ b. ⌜ b ≡ allStopped ticks (planLines (now (lines .entry)) rulesFrom n) (replicate 8 false) ⌝ }
 {
     let mut stops = [false; 8];
     let mut i = 0;
     while i < n {
-        let l = line_in(lines, RULES + i);
+        let l = plan_line(lines, RULES + i);
         let next = stopped_after(l, ticks, stops);
         stops = next;
         i += 1;

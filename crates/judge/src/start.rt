@@ -1,6 +1,6 @@
 // What a sheet owes before the first instant: the remainder that a monitor begins with, in a row.
 use crate::advance::add_row;
-use crate::line::Begun;
+use crate::line::NewObligation;
 use crate::obligation::Obligation;
 use crate::obligation::as_due;
 use crate::rows::HEAD;
@@ -12,27 +12,27 @@ ghost use mathlib.Core.Path.{_≡_};
 ghost use Rattle.records.specs.Sheet.{sheetValue};
 ghost use Rattle.tesl.specs.Lists.{flatMap};
 ghost use Rattle.tesl.specs.Fits.{owedAtStart};
-ghost use Rattle.judge.specs.View.{begunOf};
+ghost use Rattle.judge.specs.View.{newObligation};
 ghost use Rattle.judge.specs.Rows.{headRows, Row, BegunRow};
 ghost use Rattle.judge.specs.Start.{BlankRow, BegunRows};
 
 // The obligation that a line is from the start.
-fn owed_at_start(l: Line) -> Begun
-    ensures { λ r. ⌜ begunOf r ≡ owedAtStart l ⌝ }
+fn owed_at_start(l: Line) -> NewObligation
+    ensures { λ r. ⌜ newObligation r ≡ owedAtStart l ⌝ }
 {
     match l {
-        Line::Sporadic { a, b, t } => Begun::Owed(Obligation {
+        Line::Sporadic { a, b, t } => NewObligation::Owed(Obligation {
             clock: a,
             on: b,
             due: as_due(t),
         }),
-        Line::Relation { .. } => Begun::Nothing,
-        Line::Implies { .. } => Begun::Nothing,
-        Line::Excludes { .. } => Begun::Nothing,
-        Line::Delayed { .. } => Begun::Nothing,
-        Line::Weakly { .. } => Begun::Nothing,
-        Line::Strictly { .. } => Begun::Nothing,
-        Line::Kills { .. } => Begun::Nothing,
+        Line::Relation { .. } => NewObligation::Nothing,
+        Line::Implies { .. } => NewObligation::Nothing,
+        Line::Excludes { .. } => NewObligation::Nothing,
+        Line::Delayed { .. } => NewObligation::Nothing,
+        Line::Weakly { .. } => NewObligation::Nothing,
+        Line::Strictly { .. } => NewObligation::Nothing,
+        Line::Kills { .. } => NewObligation::Nothing,
     }
 }
 
@@ -47,10 +47,10 @@ fn start_row(rows: &mut [u32; SIZE], i: usize, s: Sheet) -> bool
         let l = line_at(s, j);
         j += 1;
         match owed_at_start(l) {
-            Begun::Nothing => {
+            NewObligation::Nothing => {
                 continue;
             }
-            Begun::Owed(o) => {
+            NewObligation::Owed(o) => {
                 if !add_row(rows, i, o) {
                     return false;
                 }

@@ -1,9 +1,9 @@
 // A whole monitor in a lent array of words: the words of its head, in rows 0 to 2, read and stored. Its remainders stand behind the head, a row each.
-use crate::held::Count;
-use crate::kept::Kept;
+use crate::held::Status;
 use crate::line_words::LineWords;
 use crate::line_words::line_of_words;
 use crate::line_words::words_of_line;
+use crate::progress::Progress;
 use crate::rows::HEAD;
 use crate::rows::SIDES;
 use crate::rows::SIZE;
@@ -25,7 +25,7 @@ ghost use Rattle.records.specs.Lists.{listed};
 ghost use Rattle.records.specs.Line.{blankLine};
 ghost use Rattle.records.specs.Word.{tagOf, rawOf};
 ghost use Rattle.judge.specs.Rows.{words};
-ghost use Rattle.judge.specs.State.{stateWords, clocksBy, stateSlot, stateSheet, countBy, stateTag, stateKept, hasFormat, isKind, kindsBelow, hasKinds, isSide, isCase, isState, PutFormat, FewIn, PutCount, PutTags, PuttingKept, PutKept, PutWords, noWords, SlotWords, PutLines, PutSheet};
+ghost use Rattle.judge.specs.State.{stateWords, clocksBy, stateSlot, stateSheet, countBy, stateTag, stateProgress, hasFormat, isKind, kindsBelow, hasKinds, isSide, isCase, isState, PutFormat, FewIn, PutCount, PutLastTags, PuttingProgress, PutProgress, PutWords, noWords, SlotWords, PutLines, PutSheet};
 
 // The format and its version.
 pub(crate) const FORMAT: u32 = 1279655937;
@@ -87,13 +87,13 @@ fn tag_word(t: i16) -> u32
     raw_of(t) as u32
 }
 
-fn count_by(case: u32, live: u32) -> Count
+fn count_by(case: u32, live: u32) -> Status
     ensures { λ r. ⌜ r ≡ countBy case live ⌝ }
 {
     if case == EXHAUSTED {
-        Count::Exhausted
+        Status::Exhausted
     } else {
-        Count::Live(count_in(live))
+        Status::Live(count_in(live))
     }
 }
 
@@ -266,8 +266,8 @@ fn tags_in(state: &[u32; SIZE]) -> [i16; 8]
 }
 
 // The monitor of a state, beside its sheet and its rows.
-pub(crate) fn kept_in(state: &[u32; SIZE]) -> Kept
-    ensures { λ r. ⌜ r ≡ stateKept (now (state .entry)) ⌝ }
+pub(crate) fn progress_in(state: &[u32; SIZE]) -> Progress
+    ensures { λ r. ⌜ r ≡ stateProgress (now (state .entry)) ⌝ }
 {
     let instants = count_in(word_at(state, TOP, INSTANTS_AT));
     let tags = tags_in(state);
@@ -275,7 +275,7 @@ pub(crate) fn kept_in(state: &[u32; SIZE]) -> Kept
     let live = word_at(state, TOP, LIVE_AT);
     let count = count_by(case, live);
     let from = count_in(word_at(state, TOP, SIDE_AT));
-    Kept {
+    Progress {
         instants,
         tags,
         count,
@@ -292,16 +292,16 @@ pub(crate) fn put_format(state: &mut [u32; SIZE])
     put_word(state, TOP, FORMAT_AT, FORMAT);
 }
 
-fn put_count(state: &mut [u32; SIZE], count: Count)
+fn put_count(state: &mut [u32; SIZE], count: Status)
     requires { ⌜ (length (now state) ≡ words) × FewIn count ⌝ }
     ensures { λ _. ⌜ PutCount count (now (state .entry)) (now (state .exit)) ⌝ }
 {
     match count {
-        Count::Exhausted => {
+        Status::Exhausted => {
             put_word(state, TOP, CASE_AT, EXHAUSTED);
             put_word(state, TOP, LIVE_AT, 0);
         }
-        Count::Live(n) => {
+        Status::Live(n) => {
             put_word(state, TOP, CASE_AT, LIVE);
             put_word(state, TOP, LIVE_AT, small_word(n));
         }
@@ -310,7 +310,7 @@ fn put_count(state: &mut [u32; SIZE], count: Count)
 
 fn put_tags(state: &mut [u32; SIZE], tags: [i16; 8])
     requires { ⌜ length (now state) ≡ words ⌝ }
-    ensures { λ _. ⌜ PutTags tags (now (state .entry)) (now (state .exit)) ⌝ }
+    ensures { λ _. ⌜ PutLastTags tags (now (state .entry)) (now (state .exit)) ⌝ }
 {
     let mut k = 0;
     while k < 8 {
@@ -320,17 +320,17 @@ fn put_tags(state: &mut [u32; SIZE], tags: [i16; 8])
 }
 
 // Stores a monitor beside its sheet and its rows.
-pub(crate) fn put_kept(state: &mut [u32; SIZE], kept: Kept)
-    requires { ⌜ PuttingKept (now state) kept ⌝ }
-    ensures { λ _. ⌜ PutKept kept (now (state .entry)) (now (state .exit)) ⌝ }
+pub(crate) fn put_progress(state: &mut [u32; SIZE], progress: Progress)
+    requires { ⌜ PuttingProgress (now state) progress ⌝ }
+    ensures { λ _. ⌜ PutProgress progress (now (state .entry)) (now (state .exit)) ⌝ }
 {
-    let instants = kept.instants;
-    let from = kept.from;
+    let instants = progress.instants;
+    let from = progress.from;
     put_word(state, TOP, INSTANTS_AT, small_word(instants));
     put_word(state, TOP, SIDE_AT, small_word(from));
-    let count = kept.count;
+    let count = progress.count;
     put_count(state, count);
-    let tags = kept.tags;
+    let tags = progress.tags;
     put_tags(state, tags);
 }
 

@@ -1,10 +1,10 @@
 // A monitor's remainders, structs, stored in rows, and read back from them; and the monitor with them.
-use crate::held::Count;
 use crate::held::Held;
-use crate::kept::Kept;
+use crate::held::Status;
 use crate::monitor::Monitor;
 use crate::obligation::Obligation;
 use crate::plan::Plan;
+use crate::progress::Progress;
 use crate::remainder::Remainder;
 use crate::remainder::blank_remainder;
 use crate::rows::COUNT;
@@ -27,9 +27,9 @@ ghost use mathlib.Core.Path.{_≡_};
 ghost use mathlib.Core.Bool.{cond};
 ghost use Prim.Native.Nat.{_%_, _<_, _≤_};
 ghost use Rattle.judge.specs.View.{firstOf};
-ghost use Rattle.judge.specs.Stored.{Place, PutObligations, PutLeads, PutStopped, PutRemainder, LeadsAt, StoppedAt, Reading, RemainderAt, Storing, ToRows, KeepingHeld, KeptHeld, Copying, CopiedRows, FindingRows, FromRows};
+ghost use Rattle.judge.specs.Stored.{Place, PutObligations, PutLeads, PutStopped, PutRemainder, LeadsAt, StoppedAt, Reading, RemainderAt, Storing, ToRows, StoringHeld, StoredHeld, Copying, CopiedRows, FindingRows, FromRows};
 ghost use Rattle.judge.specs.Rows.{height};
-ghost use Rattle.judge.specs.Kept.{ReadBack};
+ghost use Rattle.judge.specs.Progress.{ReadBack};
 
 // Stores the first n obligations in row i.
 fn put_obligations(rows: &mut [u32; SIZE], i: usize, n: usize, obligations: [Obligation; 8])
@@ -88,14 +88,14 @@ fn lead_used(used: bool, w: u32) -> u16
     if used { lead_in(w) } else { 0 }
 }
 
-// The leads of row i that precedes lines have: before `reach`, where there is a flag.
-fn leads_at(rows: &[u32; SIZE], i: usize, reach: usize, precede: [bool; 16]) -> [u16; 16]
-    requires { ⌜ (i < height) × (reach ≤ 16) ⌝ }
-    ensures { λ r. ⌜ LeadsAt reach precede i r (now (rows .entry)) ⌝ }
+// The leads of row i that precedes lines have: before `leaders`, where there is a flag.
+fn leads_at(rows: &[u32; SIZE], i: usize, leaders: usize, precede: [bool; 16]) -> [u16; 16]
+    requires { ⌜ (i < height) × (leaders ≤ 16) ⌝ }
+    ensures { λ r. ⌜ LeadsAt leaders precede i r (now (rows .entry)) ⌝ }
 {
     let mut all = [0u16; 16];
     let mut k = 0;
-    while k < reach {
+    while k < leaders {
         let lead = lead_used(precede[k], word_at(rows, i, LEADS + k));
         all[k] = lead;
         k += 1;
@@ -125,9 +125,9 @@ fn remainder_at(rows: &[u32; SIZE], i: usize, plan: Plan) -> Remainder
 {
     let owed = row_count(rows, i);
     let obligations = obligations_at(rows, i, owed);
-    let reach = plan.reach;
+    let leaders = plan.leaders;
     let precede = plan.precede;
-    let leads = leads_at(rows, i, reach, precede);
+    let leads = leads_at(rows, i, leaders, precede);
     let clocks = plan.clocks;
     let stopped = stopped_at(rows, i, clocks);
     Remainder {
@@ -152,13 +152,13 @@ fn to_rows(rows: &mut [u32; SIZE], n: usize, remainders: [Remainder; 32])
 }
 
 // Stores those held in the first side.
-pub(crate) fn keep_held(rows: &mut [u32; SIZE], count: Count, remainders: [Remainder; 32])
-    requires { ⌜ KeepingHeld (now rows) count remainders ⌝ }
-    ensures { λ _. ⌜ KeptHeld count remainders (now (rows .entry)) (now (rows .exit)) ⌝ }
+pub(crate) fn store_held(rows: &mut [u32; SIZE], count: Status, remainders: [Remainder; 32])
+    requires { ⌜ StoringHeld (now rows) count remainders ⌝ }
+    ensures { λ _. ⌜ StoredHeld count remainders (now (rows .entry)) (now (rows .exit)) ⌝ }
 {
     match count {
-        Count::Exhausted => {}
-        Count::Live(n) => {
+        Status::Exhausted => {}
+        Status::Live(n) => {
             to_rows(rows, n, remainders);
         }
     }
@@ -184,28 +184,28 @@ fn copy_rows(rows: &[u32; SIZE], from: usize, n: usize, plan: Plan) -> [Remainde
 pub(crate) fn from_rows(
     rows: &[u32; SIZE],
     from: usize,
-    count: Count,
+    count: Status,
     plan: Plan,
 ) -> [Remainder; 32]
     requires { ⌜ FindingRows (now rows) count from plan ⌝ }
     ensures { λ r. ⌜ FromRows plan count from r (now (rows .entry)) ⌝ }
 {
     match count {
-        Count::Exhausted => copy_rows(rows, from, 0, plan),
-        Count::Live(n) => copy_rows(rows, from, n, plan),
+        Status::Exhausted => copy_rows(rows, from, 0, plan),
+        Status::Live(n) => copy_rows(rows, from, n, plan),
     }
 }
 
 // The monitor that is kept in rows, its remainders read back from them.
-pub(crate) fn read_back(sheet: Sheet, kept: Kept, plan: Plan, rows: &[u32; SIZE]) -> Monitor
-    requires { ⌜ FindingRows (now rows) (kept .count) (kept .from) plan ⌝ }
-    ensures { λ m. ⌜ ReadBack sheet kept plan m (now (rows .entry)) ⌝ }
+pub(crate) fn read_back(sheet: Sheet, progress: Progress, plan: Plan, rows: &[u32; SIZE]) -> Monitor
+    requires { ⌜ FindingRows (now rows) (progress .count) (progress .from) plan ⌝ }
+    ensures { λ m. ⌜ ReadBack sheet progress plan m (now (rows .entry)) ⌝ }
 {
-    let count = kept.count;
-    let remainders = from_rows(rows, kept.from, count, plan);
+    let count = progress.count;
+    let remainders = from_rows(rows, progress.from, count, plan);
     let held = Held { count, remainders };
-    let instants = kept.instants;
-    let tags = kept.tags;
+    let instants = progress.instants;
+    let tags = progress.tags;
     Monitor {
         sheet,
         instants,

@@ -1,5 +1,5 @@
 // Words that no remainder uses are zero: what an instant leaves behind in them is cleared.
-use crate::held::Count;
+use crate::held::Status;
 use crate::held::live_in;
 use crate::plan::Plan;
 use crate::rows::CLOCKS;
@@ -45,13 +45,13 @@ fn clear_owed(rows: &mut [u32; SIZE], i: usize, n: usize)
     clear_part(rows, i, DUES + n, LEADS);
 }
 
-// Clears the leads of row i but those of precedes lines: before `reach`, where there is a flag.
-fn clear_leads(rows: &mut [u32; SIZE], i: usize, reach: usize, precede: [bool; 16])
-    requires { ⌜ (i < height) × (reach ≤ 16) ⌝ }
-    ensures { λ _. ⌜ ClearedLeads reach precede i (now (rows .entry)) (now (rows .exit)) ⌝ }
+// Clears the leads of row i but those of precedes lines: before `leaders`, where there is a flag.
+fn clear_leads(rows: &mut [u32; SIZE], i: usize, leaders: usize, precede: [bool; 16])
+    requires { ⌜ (i < height) × (leaders ≤ 16) ⌝ }
+    ensures { λ _. ⌜ ClearedLeads leaders precede i (now (rows .entry)) (now (rows .exit)) ⌝ }
 {
     let mut k = 0;
-    while k < reach {
+    while k < leaders {
         let j = k;
         k += 1;
         if precede[j] {
@@ -59,7 +59,7 @@ fn clear_leads(rows: &mut [u32; SIZE], i: usize, reach: usize, precede: [bool; 1
         }
         put_word(rows, i, LEADS + j, 0);
     }
-    clear_part(rows, i, LEADS + reach, STOPPED);
+    clear_part(rows, i, LEADS + leaders, STOPPED);
 }
 
 // Clears the words of row i that its remainder doesn't use.
@@ -69,9 +69,9 @@ fn clear_unused(rows: &mut [u32; SIZE], i: usize, plan: Plan)
 {
     let n = row_count(rows, i);
     clear_owed(rows, i, n);
-    let reach = plan.reach;
+    let leaders = plan.leaders;
     let precede = plan.precede;
-    clear_leads(rows, i, reach, precede);
+    clear_leads(rows, i, leaders, precede);
     let clocks = plan.clocks;
     clear_part(rows, i, STOPPED + clocks, WIDTH);
 }
@@ -89,7 +89,7 @@ fn clear_each(rows: &mut [u32; SIZE], from: usize, n: usize, plan: Plan)
 }
 
 // Clears every word of the two sides that no remainder held from row `from` on uses, whatever stands there.
-pub(crate) fn clear_beside(rows: &mut [u32; SIZE], from: usize, count: Count, plan: Plan)
+pub(crate) fn clear_beside(rows: &mut [u32; SIZE], from: usize, count: Status, plan: Plan)
     requires { ⌜ Holding (now rows) from count plan ⌝ }
     ensures { λ _. ⌜ ClearedBeside plan from count (now (rows .entry)) (now (rows .exit)) ⌝ }
 {
@@ -100,15 +100,15 @@ pub(crate) fn clear_beside(rows: &mut [u32; SIZE], from: usize, count: Count, pl
 }
 
 // Clears what was built from row `to` on and is used by no remainder found there.
-fn clear_found(rows: &mut [u32; SIZE], to: usize, count: Count, plan: Plan)
+fn clear_found(rows: &mut [u32; SIZE], to: usize, count: Status, plan: Plan)
     requires { ⌜ FindingRows (now rows) count to plan ⌝ }
     ensures { λ _. ⌜ ClearedFound plan to count (now (rows .entry)) (now (rows .exit)) ⌝ }
 {
     match count {
-        Count::Exhausted => {
+        Status::Exhausted => {
             clear_rows(rows, to, SIDE);
         }
-        Count::Live(n) => {
+        Status::Live(n) => {
             clear_rows(rows, to + n, 1);
             clear_each(rows, to, n, plan);
         }
@@ -116,7 +116,7 @@ fn clear_found(rows: &mut [u32; SIZE], to: usize, count: Count, plan: Plan)
 }
 
 // After an instant on those that were held from row `from` on: clears their rows, and on the other side what was built there and is used by none of those found. Where none was held, nothing was worked, and there is nothing to clear.
-pub(crate) fn tidy(rows: &mut [u32; SIZE], from: usize, was: Count, count: Count, plan: Plan)
+pub(crate) fn tidy(rows: &mut [u32; SIZE], from: usize, was: Status, count: Status, plan: Plan)
     requires { ⌜ Tidying (now rows) from was count plan ⌝ }
     ensures { λ _. ⌜ Tidied plan from was count (now (rows .entry)) (now (rows .exit)) ⌝ }
 {

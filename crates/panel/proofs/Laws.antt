@@ -14,10 +14,10 @@ use Rattle.records.proofs.Lists.{both}
 use Rattle.tesl.proofs.Tests.{≡→T}
 use Rattle.theory.specs.Step.{bit}
 use Rattle.judge.specs.declared.remainder.Remainder.{Remainder}
-use Rattle.judge.specs.declared.held.Count.{Count}
-use Rattle.judge.specs.declared.held.Count.the-variants.{Exhausted, Live}
+use Rattle.judge.specs.declared.held.Status.{Status}
+use Rattle.judge.specs.declared.held.Status.the-variants.{Exhausted, Live}
 use Rattle.judge.specs.declared.monitor.Monitor.{Monitor}
-use Rattle.judge.specs.Limits.{sheetWithin, heldWithin, within}
+use Rattle.judge.specs.Limits.{sheetWithin, heldWithin, monitorWithin}
 use Rattle.judge.specs.Monitor.{sheetBy}
 use Rattle.panel.specs.Panel.{entryOwes, owingCount, panelCount}
 
@@ -57,17 +57,17 @@ is-none false h = refl
 
 -- ---- a monitor
 
-pub within-held : (m : Monitor) → within m ≡ true → heldWithin (sheetBy m) (m .instants) (m .held .count) (m .held .remainders) ≡ true
-unfolding within
+pub within-held : (m : Monitor) → monitorWithin m ≡ true → heldWithin (sheetBy m) (m .instants) (m .held .count) (m .held .remainders) ≡ true
+unfolding monitorWithin
 within-held m e = both (leb (m .instants) 4000) (both (sheetWithin (sheetBy m)) e .1) .1
 
-module _ (m : Monitor) {b : Bool} (e : b ≡ within m) where
+module _ (m : Monitor) {b : Bool} (e : b ≡ monitorWithin m) where
   pub shows-refused : (clock : ℕ) → not b ≡ true → refused 11 ≡ panelCount clock m
   unfolding panelCount
-  shows-refused clock t = let w : within m ≡ false = sym e ∙ not-true b t in rw w
+  shows-refused clock t = let w : monitorWithin m ≡ false = sym e ∙ not-true b t in rw w
 
   module _ (t : not b ≡ false) where
-    inside : within m ≡ true
+    inside : monitorWithin m ≡ true
     inside = sym e ∙ not-false b t
 
     -- no more are live than the array has
@@ -75,7 +75,7 @@ module _ (m : Monitor) {b : Bool} (e : b ≡ within m) where
     unfolding heldWithin
     live-few n f =
         let rs = m .held .remainders in
-        let h = subst (λ (c : Count). heldWithin (sheetBy m) (m .instants) c rs ≡ true) f (within-held m inside) in
+        let h = subst (λ (c : Status). heldWithin (sheetBy m) (m .instants) c rs ≡ true) f (within-held m inside) in
         leb→le n 32 (≡→T (both (leb n 32) h .0))
 
     pub shows-none : (clock : ℕ) → m .held .count ≡ Exhausted → taken 0 ≡ panelCount clock m

@@ -20,12 +20,12 @@ use Rattle.theory.specs.Sets.{apart, EachOnce}
 use Rattle.theory.proofs.Sets.{distinct-apart, length-same, filter-once}
 use Rattle.theory.proofs.Respect.{alike, any-owed, remainder-equivalence}
 use Rattle.judge.specs.declared.remainder.Remainder as arrays
-use Rattle.judge.specs.declared.held.Count.{Count}
-use Rattle.judge.specs.declared.held.Count.the-variants.{Exhausted, Live}
+use Rattle.judge.specs.declared.held.Status.{Status}
+use Rattle.judge.specs.declared.held.Status.the-variants.{Exhausted, Live}
 use Rattle.judge.specs.declared.monitor.Monitor.{Monitor}
-use Rattle.judge.specs.View.{viewOf, heldIn, live, sizedIn}
+use Rattle.judge.specs.View.{viewOf, heldIn, heldList, sizedIn}
 use Rattle.judge.specs.Answer.{saidBy}
-use Rattle.judge.specs.Limits.{within}
+use Rattle.judge.specs.Limits.{monitorWithin}
 use Rattle.judge.specs.Monitor.{sheetBy, heldBy}
 use Rattle.judge.proofs.monitor.Limits.{held-limits}
 use Rattle.panel.specs.Panel.{owesClock, entryOwes, owingCount, liveEntries, panelCount}
@@ -66,12 +66,12 @@ entries-count clock v (r ∷ rs) t =
     let few : arrays.Remainder → Bool = λ r. leb (r .owed) 8 in
     rw (T→≡ (few r) (and-l (few r) (all few rs) t), entries-count clock v rs (and-r (few r) (all few rs) t))
 
-held-count : (clock : ℕ) (v : SheetValue) (c : Count) (rs : List arrays.Remainder) → T (sizedIn c rs) → owingCount clock (liveEntries c rs) ≡ count (owesClock clock) (live (heldIn v c rs))
+held-count : (clock : ℕ) (v : SheetValue) (c : Status) (rs : List arrays.Remainder) → T (sizedIn c rs) → owingCount clock (liveEntries c rs) ≡ count (owesClock clock) (heldList (heldIn v c rs))
 unfolding owingCount
 held-count clock v Exhausted rs t = refl
 held-count clock v (Live n) rs t = entries-count clock v (take n rs) (and-r (leb n 32) (all (λ (r : arrays.Remainder). leb (r .owed) 8) (take n rs)) t)
 
-pub within-count : (clock : ℕ) (m : Monitor) → within m ≡ true → panelCount clock m ≡ taken (count (owesClock clock) (live (heldBy m)))
+pub within-count : (clock : ℕ) (m : Monitor) → monitorWithin m ≡ true → panelCount clock m ≡ taken (count (owesClock clock) (heldList (heldBy m)))
 unfolding panelCount
 within-count clock m e =
     let c = m .held .count in
@@ -81,7 +81,7 @@ within-count clock m e =
 
 -- ---- the run
 
-exhausted-none : (h : Option (List Remainder)) → saidBy h ≡ exhausted → live h ≡ []
+exhausted-none : (h : Option (List Remainder)) → saidBy h ≡ exhausted → heldList h ≡ []
 unfolding judged
 exhausted-none none e = refl
 exhausted-none (some []) e = refl

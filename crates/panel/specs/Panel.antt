@@ -9,11 +9,11 @@ use Rattle.tesl.specs.Lists.{any, count}
 use Rattle.tesl.specs.Fits.{Obligation}
 use Rattle.tesl.specs.Remainder.{Remainder}
 use Rattle.judge.specs.declared.remainder.Remainder as arrays
-use Rattle.judge.specs.declared.held.Count.{Count}
-use Rattle.judge.specs.declared.held.Count.the-variants.{Exhausted, Live}
+use Rattle.judge.specs.declared.held.Status.{Status}
+use Rattle.judge.specs.declared.held.Status.the-variants.{Exhausted, Live}
 use Rattle.judge.specs.declared.monitor.Monitor.{Monitor}
 use Rattle.judge.specs.View.{remainderOf}
-use Rattle.judge.specs.Limits.{within}
+use Rattle.judge.specs.Limits.{monitorWithin}
 use Rattle.panel.specs.declared.Panel.{Panel}
 use Rattle.panel.specs.declared.Panel.the-variants as shown
 
@@ -29,13 +29,13 @@ unfoldable pub owingCount : ℕ → List arrays.Remainder → ℕ
 owingCount clock list = count (entryOwes clock) list
 
 -- the entries held: none once exhausted; none where 0 are live, which is broken
-abbrev pub liveEntries : Count → List arrays.Remainder → List arrays.Remainder
+abbrev pub liveEntries : Status → List arrays.Remainder → List arrays.Remainder
 liveEntries Exhausted rs = []
 liveEntries (Live n) rs = take n rs
 
 -- 11: monitor outside its limits
 unfoldable pub panelCount : ℕ → Monitor → Outcome ℕ
-panelCount clock m = decide ((not (within m) ⇒ 11) ∷ []) (owingCount clock (liveEntries (m .held .count) (m .held .remainders)))
+panelCount clock m = decide ((not (monitorWithin m) ⇒ 11) ∷ []) (owingCount clock (liveEntries (m .held .count) (m .held .remainders)))
 
 abbrev pub panelOf : Panel → Outcome ℕ
 panelOf (shown.Count n) = taken n

@@ -1,5 +1,5 @@
 // The panel: how many of the live remainders owe a clock a tick.
-use judge::held::Count;
+use judge::held::Status;
 use judge::monitor::Monitor;
 use judge::monitor::within_limits;
 use judge::remainder::Remainder;
@@ -68,8 +68,8 @@ pub fn panel_count(monitor: Monitor, clock: u8) -> Panel
     let held = monitor.held;
     let count = held.count;
     match count {
-        Count::Exhausted => Panel::Count(0),
-        Count::Live(live) => {
+        Status::Exhausted => Panel::Count(0),
+        Status::Live(live) => {
             let all = held.remainders;
             Panel::Count(owing_lent(all, live, clock))
         }

@@ -4,8 +4,8 @@ mod text;
 
 use crate::row::row;
 use crate::text::say;
-use judge::held::Count;
 use judge::held::Held;
+use judge::held::Status;
 use judge::monitor::Monitor;
 use judge::monitor::observe;
 use judge::monitor::open;
@@ -70,7 +70,7 @@ fn holding(m: Monitor, held: Held) -> Monitor {
 }
 
 // The monitor with another count of those held, each like its first.
-fn counted(m: Monitor, count: Count) -> Monitor {
+fn counted(m: Monitor, count: Status) -> Monitor {
     let held = m.held;
     let all = held.remainders;
     let first = all[0];
@@ -96,10 +96,10 @@ fn sporadic() {
         b"\x01\x00\x01\x00\x02\x04\x00\x10\x00\x00\x01\x01\x00\x04\x00\x10\x00\x00\x01\x02\x00\x04\x00\x10\x00\x01\x00\x03\x00",
     );
     row(b"opened", m);
-    row(b"made broken", counted(m, Count::Live(0)));
-    row(b"made exhausted", counted(m, Count::Exhausted));
-    row(b"made 32 live", counted(m, Count::Live(32)));
-    row(b"made 33 live", counted(m, Count::Live(33)));
+    row(b"made broken", counted(m, Status::Live(0)));
+    row(b"made exhausted", counted(m, Status::Exhausted));
+    row(b"made 32 live", counted(m, Status::Live(32)));
+    row(b"made 33 live", counted(m, Status::Live(33)));
     row(b"made to owe two", owing(m, 2));
     row(b"made to owe nine", owing(m, 9));
     let mut late = m;

@@ -12,8 +12,8 @@ use Rattle.records.specs.declared.line.Line.{Line}
 use Rattle.records.specs.declared.line.Shape.{Shape}
 use Rattle.records.specs.declared.line.LineRead.{LineRead}
 use Rattle.records.specs.declared.line.LineRead.the-variants as line
-use Rattle.records.specs.declared.record.Answer.{Answer}
-use Rattle.records.specs.declared.record.Answer.the-variants.{Done, Refused}
+use Rattle.records.specs.declared.record.Decision.{Decision}
+use Rattle.records.specs.declared.record.Decision.the-variants.{Done, Refused}
 use Rattle.records.specs.Outcome.{Outcome, taken, refused, _⇒_, decide}
 use Rattle.records.specs.Record.{Piece}
 use Rattle.records.specs.Line.{isLine, isSporadic, lengthOf, clocksOf}
@@ -34,7 +34,7 @@ abbrev pub lineRead : Outcome Line → LineRead
 lineRead (taken l) = line.Read l
 lineRead (refused n) = line.Refused n
 
-abbrev pub answered : {A : Type 0} → Outcome A → Answer
+abbrev pub answered : {A : Type 0} → Outcome A → Decision
 answered (taken v) = Done
 answered (refused n) = Refused n
 
@@ -47,14 +47,14 @@ unfoldable pub linesFault : SheetValue → Outcome SheetValue
 linesFault v = decide (valueLinesChecks (v .clocks) [] (v .lines)) v
 
 -- what checking a sheet answers
-pub record Checked (s : Sheet) (r : Answer) : Type 0 where
+pub record Checked (s : Sheet) (r : Decision) : Type 0 where
   -- the first refusal that applies, or none
   pub answer : r ≡ answered (decide (sheetValueChecks (sheetValue s)) (sheetValue s))
   -- the types of the code bound the value's numbers
   pub value : r ≡ Done → IsSheet (sheetValue s)
 
 -- the same of its lines alone
-pub record LinesChecked (s : Sheet) (r : Answer) : Type 0 where
+pub record LinesChecked (s : Sheet) (r : Decision) : Type 0 where
   pub answer : r ≡ answered (linesFault (sheetValue s))
   pub values : r ≡ Done → All IsLineValue (sheetValue s .lines)
 

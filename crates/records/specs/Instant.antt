@@ -11,7 +11,7 @@ use Rattle.records.specs.declared.instant.Tick.the-variants.{Idle, Ticks
 use Rattle.records.specs.declared.instant.TickSlot.{TickSlot}
 use Rattle.records.specs.declared.instant.Instant.{Instant}
 use Rattle.records.specs.declared.instant.InstantRead.{InstantRead}
-use Rattle.records.specs.declared.record.Answer.the-variants as answer
+use Rattle.records.specs.declared.record.Decision.the-variants as answer
 use Rattle.records.specs.Outcome.{Outcome, taken, refused, Check, _⇒_, decide}
 use Rattle.records.specs.Lists.{listed, filled, joined}
 use Rattle.records.specs.Word.{wordOf, wordBytes, tagOf, rawOf}
@@ -90,11 +90,11 @@ tickSlot t = record { tick = t }
 abbrev pub tickAt : List TickSlot → ℕ → Tick
 tickAt ticks i = getD ticks i (tickSlot Idle) .tick
 
-abbrev pub tagAt : List ℤ → ℕ → ℤ
-tagAt tags i = getD tags i (pos 0)
+abbrev pub cellTag : List ℤ → ℕ → ℤ
+cellTag tags i = getD tags i (pos 0)
 
 abbrev pub cellAt : Instant → ℕ → Cell
-cellAt v i = record { tick = tickAt (v .ticks) i; tag = tagAt (v .tags) i }
+cellAt v i = record { tick = tickAt (v .ticks) i; tag = cellTag (v .tags) i }
 
 -- the value of a struct for c clocks: its first c ticks and tags; clocks from c on are no part of it
 abbrev pub instantValue : ℕ → Instant → List Cell

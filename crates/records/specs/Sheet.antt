@@ -9,7 +9,7 @@ use Rattle.records.specs.declared.line.Line.{Line}
 use Rattle.records.specs.declared.line.Slot.{Slot}
 use Rattle.records.specs.declared.sheet.Sheet.{Sheet}
 use Rattle.records.specs.declared.sheet.SheetRead.{SheetRead}
-use Rattle.records.specs.declared.record.Answer.the-variants as answer
+use Rattle.records.specs.declared.record.Decision.the-variants as answer
 use Rattle.records.specs.Outcome.{Outcome, taken, refused, Check, _⇒_, decide, inTurn}
 use Rattle.records.specs.Lists.{listed, filled, joined}
 use Rattle.records.specs.Word.{at}

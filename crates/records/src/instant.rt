@@ -1,6 +1,6 @@
 // An instant: for each clock a tick and a tag.
 use crate::number;
-use crate::record::Answer;
+use crate::record::Decision;
 use crate::record::Record;
 use crate::record::Written;
 use crate::record::put_head;
@@ -16,7 +16,7 @@ ghost use Prim.Native.Nat.{_+_, _*_, _≤_, _<_};
 ghost use lib.ListN.{length, set};
 ghost use Rattle.records.specs.Outcome.{refused};
 ghost use Rattle.records.specs.Store.{puts, wrote};
-ghost use Rattle.records.specs.Instant.{tickOf, tickByte, tickAt, tagAt, cellBytes, instantOf, instantRead, instantValue, readInstant, instantBytes, writeInstant};
+ghost use Rattle.records.specs.Instant.{tickOf, tickByte, tickAt, cellTag, cellBytes, instantOf, instantRead, instantValue, readInstant, instantBytes, writeInstant};
 ghost use Rattle.records.specs.Inner.{withCell, cellsRead};
 
 pub enum Tick {
@@ -37,7 +37,7 @@ pub struct Instant {
 
 // What reading an instant answers; the instant of a refusal is idle at tag 0 everywhere.
 pub struct InstantRead {
-    pub answer: Answer,
+    pub answer: Decision,
     pub instant: Instant,
 }
 
@@ -64,7 +64,7 @@ fn refused_instant(n: u8) -> InstantRead
     ensures { λ r. ⌜ r ≡ instantRead (refused n) ⌝ }
 {
     let instant = blank_instant();
-    let answer = Answer::Refused(n);
+    let answer = Decision::Refused(n);
     InstantRead { answer, instant }
 }
 
@@ -113,7 +113,7 @@ fn read_cells(body: &[u8], clocks: u8) -> InstantRead
         v = with_cell(v, i, tick_of(x), tag);
         i += 1;
     }
-    let answer = Answer::Done;
+    let answer = Decision::Done;
     InstantRead { answer, instant: v }
 }
 
@@ -162,7 +162,7 @@ fn tick_at(ticks: [TickSlot; 8], i: usize) -> Tick
 
 fn tag_at(tags: [i16; 8], i: usize) -> i16
     requires { ⌜ i < 8 ⌝ }
-    ensures { λ r. ⌜ r ≡ tagAt tags i ⌝ }
+    ensures { λ r. ⌜ r ≡ cellTag tags i ⌝ }
 {
     tags[i]
 }

@@ -1,6 +1,6 @@
 // The lines of a sheet: one of eight cases, each told by its kind, with its own length and fields.
 use crate::number;
-use crate::record::Answer;
+use crate::record::Decision;
 use crate::record::put_head;
 use crate::word::high_byte;
 use crate::word::low_byte;
@@ -222,19 +222,19 @@ fn body_of(l: Line) -> [u8; 6]
 }
 
 // A line of a value to write, `spent` sporadic lines standing before it: 7, 9.
-pub(crate) fn check_line(l: Line, clocks: u8, spent: usize) -> Answer
+pub(crate) fn check_line(l: Line, clocks: u8, spent: usize) -> Decision
     ensures { λ r. ⌜ (r ≡ answered (decide (valueLineChecks clocks spent (kindOf l) (bodyOf l)) l)) × IsLineValue l ⌝ }
 {
     let kind = kind_of(l);
     let shape = line_shape(kind);
     let body = body_of(l);
     if !clocks_below(&body, shape.clocks, clocks) {
-        return Answer::Refused(number::CLOCK_NUMBER);
+        return Decision::Refused(number::CLOCK_NUMBER);
     }
     if is_ninth(kind, spent) {
-        return Answer::Refused(number::NINTH_SPORADIC);
+        return Decision::Refused(number::NINTH_SPORADIC);
     }
-    Answer::Done
+    Decision::Done
 }
 
 // How many bytes a line's record takes.

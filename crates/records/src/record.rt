@@ -20,7 +20,7 @@ pub enum Record {
 }
 
 // What reading answers, beside the value: that it was taken, or the number of the refusal.
-pub enum Answer {
+pub enum Decision {
     Done,
     Refused(u8),
 }

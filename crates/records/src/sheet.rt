@@ -9,7 +9,7 @@ use crate::line::put_line;
 use crate::line::read_line;
 use crate::line::sporadic_of;
 use crate::number;
-use crate::record::Answer;
+use crate::record::Decision;
 use crate::record::Record;
 use crate::record::Written;
 use crate::record::put_head;
@@ -33,7 +33,7 @@ pub struct Sheet {
 
 // What reading a sheet answers; the sheet of a refusal has no clock and no line.
 pub struct SheetRead {
-    pub answer: Answer,
+    pub answer: Decision,
     pub sheet: Sheet,
 }
 
@@ -81,7 +81,7 @@ fn refused_sheet(n: u8) -> SheetRead
     ensures { λ r. ⌜ r ≡ sheetRead (refused n) ⌝ }
 {
     let sheet = blank_sheet(0);
-    let answer = Answer::Refused(n);
+    let answer = Decision::Refused(n);
     SheetRead { answer, sheet }
 }
 
@@ -115,7 +115,7 @@ fn read_lines(bytes: &[u8], clocks: u8) -> SheetRead
             }
         }
     }
-    let answer = Answer::Done;
+    let answer = Decision::Done;
     SheetRead { answer, sheet }
 }
 
@@ -155,7 +155,7 @@ pub fn line_at(s: Sheet, i: usize) -> Line
 }
 
 // 7 and 9, line by line.
-fn check_lines(s: Sheet) -> Answer
+fn check_lines(s: Sheet) -> Decision
     requires { ⌜ s .count ≤ 16 ⌝ }
     ensures { λ r. ⌜ LinesChecked s r ⌝ }
 {
@@ -166,29 +166,29 @@ fn check_lines(s: Sheet) -> Answer
     while i < n {
         let l = line_at(s, i);
         match check_line(l, clocks, spent) {
-            Answer::Refused(n) => {
-                return Answer::Refused(n);
+            Decision::Refused(n) => {
+                return Decision::Refused(n);
             }
-            Answer::Done => {
+            Decision::Done => {
                 spent += sporadic_of(kind_of(l));
                 i += 1;
             }
         }
     }
-    Answer::Done
+    Decision::Done
 }
 
 // Whether a sheet value is within its limits: 4; 8; then line by line 7, 9.
-pub fn check_sheet(sheet: Sheet) -> Answer
+pub fn check_sheet(sheet: Sheet) -> Decision
     ensures { λ r. ⌜ Checked sheet r ⌝ }
 {
     let clocks = sheet.clocks;
     if !clock_count(clocks) {
-        return Answer::Refused(number::CLOCK_COUNT);
+        return Decision::Refused(number::CLOCK_COUNT);
     }
     let count = sheet.count;
     if number::MAX_LINES < count {
-        return Answer::Refused(number::SEVENTEENTH_LINE);
+        return Decision::Refused(number::SEVENTEENTH_LINE);
     }
     check_lines(sheet)
 }
@@ -232,8 +232,8 @@ pub fn write_sheet(sheet: Sheet, buffer: &mut [u8]) -> Written
     ensures { λ r. ⌜ wrote r (now (buffer .exit)) ≡ writeSheet (sheetValue sheet) (now (buffer .entry)) ⌝ }
 {
     match check_sheet(sheet) {
-        Answer::Refused(n) => Written::Refused(n),
-        Answer::Done => {
+        Decision::Refused(n) => Written::Refused(n),
+        Decision::Done => {
             let size = sheet_size(sheet);
             if buffer.len() < size {
                 return Written::Refused(number::SHORT_BUFFER);

@@ -34,9 +34,9 @@ unfoldable pub machine : SheetValue → List Instant → List (List ℕ) → Lis
 machine s run [] = []
 machine s run (bytes ∷ calls) = reply s run (accepts s run bytes) ∷ machine s (listAfter run (accepts s run bytes)) calls
 
-unfoldable pub held : SheetValue → List Instant → List (List ℕ) → List Instant
-held s run [] = run
-held s run (bytes ∷ calls) = held s (listAfter run (accepts s run bytes)) calls
+unfoldable pub listAfterCalls : SheetValue → List Instant → List (List ℕ) → List Instant
+listAfterCalls s run [] = run
+listAfterCalls s run (bytes ∷ calls) = listAfterCalls s (listAfter run (accepts s run bytes)) calls
 
 -- what each of a list of calls is taken for
 unfoldable pub acceptsEach : SheetValue → List Instant → List (List ℕ) → List (Outcome Instant)

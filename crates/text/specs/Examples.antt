@@ -5,7 +5,7 @@ use Rattle.records.specs.Word.{unsigned}
 use Rattle.tesl.specs.Answer.{exhausted, broken, holding, clear, owed}
 use Rattle.text.specs.Text.{ascii, digits, line, answerLine, refusalLine, cents, hundredths, columnLine}
 
-pub record Examples : Type 0 where
+pub record TextExamples : Type 0 where
   -- the listing of *watch*, a number of several digits, and exhausted
   answers :
       (answerLine 1 (holding 1 owed) ≡ ascii "1 holding 1 owed\n")
@@ -24,9 +24,9 @@ pub record Examples : Type 0 where
       × (columnLine (pos 32767) ≡ ascii "32767 327.67\n")
       × (columnLine (negsuc 0) ≡ ascii "65535 -0.01\n")
 
-pub examples : Examples
+pub text-examples : TextExamples
 unfolding unsigned digits line cents hundredths
-examples = record {
+text-examples = record {
   answers = (refl, refl, refl, refl, refl, refl);
   refusal = refl;
   columns = (refl, refl, refl, refl, refl, refl);

@@ -4,12 +4,12 @@ use crate::line::refusal_line;
 use crate::put::put_line;
 use records::instant::read_instant;
 use records::number;
-use records::record::Answer;
+use records::record::Decision;
 use records::record::record_bytes;
 use records::sheet::read_sheet;
 ghost use mathlib.Core.Path.{_≡_};
 ghost use Prim.Native.Nat.{_<_};
-ghost use Rattle.records.specs.Instant.{tagAt};
+ghost use Rattle.records.specs.Instant.{cellTag};
 ghost use Rattle.text.specs.Output.{printed, printedAs, columnsText};
 ghost use Rattle.text.specs.Built.{TagsReady, PutTags, instantsText, InstantsReady};
 
@@ -22,7 +22,7 @@ pub const COLUMNS_ROOM: usize = number::MAX_INSTANTS * number::MAX_CLOCKS as usi
 
 fn tag_at(tags: [i16; 8], i: usize) -> i16
     requires { ⌜ i < 8 ⌝ }
-    ensures { λ r. ⌜ r ≡ tagAt tags i ⌝ }
+    ensures { λ r. ⌜ r ≡ cellTag tags i ⌝ }
 {
     tags[i]
 }
@@ -55,10 +55,10 @@ fn put_instants(clocks: u8, log: &[u8], out: &mut [u8]) -> usize
         let read = read_instant(record, clocks);
         let answer = read.answer;
         match answer {
-            Answer::Refused(n) => {
+            Decision::Refused(n) => {
                 return put_line(out, end, refusal_line(n));
             }
-            Answer::Done => {
+            Decision::Done => {
                 if number::MAX_INSTANTS <= taken {
                     return put_line(out, end, refusal_line(number::INSTANTS_HELD));
                 }
@@ -80,8 +80,8 @@ pub fn columns_text(sheet: &[u8], log: &[u8], out: &mut [u8; COLUMNS_ROOM]) -> u
     let read = read_sheet(sheet);
     let answer = read.answer;
     match answer {
-        Answer::Refused(n) => put_line(out, 0, refusal_line(n)),
-        Answer::Done => {
+        Decision::Refused(n) => put_line(out, 0, refusal_line(n)),
+        Decision::Done => {
             let value = read.sheet;
             let clocks = value.clocks;
             put_instants(clocks, log, out)

@@ -15,7 +15,7 @@ use Rattle.records.proofs.Lists.{refused-taken}
 use Rattle.records.proofs.instant.Front.{read-number}
 use Rattle.records.proofs.instant.RoundTrip.{read-writes}
 use Rattle.tesl.specs.Run.{Instant}
-use Rattle.tesl.specs.Machine.{unlessFull, accepts, listAfter, held}
+use Rattle.tesl.specs.Machine.{unlessFull, accepts, listAfter, listAfterCalls}
 use Rattle.theory.specs.Limits.{ListLimits}
 use Rattle.theory.proofs.Lists.{each-snoc}
 
@@ -69,10 +69,10 @@ list-after s run bytes b h = by-outcome (readInstant (s .clocks) bytes) refl
     by-outcome (refused n) e = h
     by-outcome (taken i) e = by-test i e (leb 4000 (length run)) refl
 
-pub list-held : (s : SheetValue) (calls : List (List ℕ)) → All IsBytes calls → ListLimits s (held s [] calls)
-unfolding held
+pub list-held : (s : SheetValue) (calls : List (List ℕ)) → All IsBytes calls → ListLimits s (listAfterCalls s [] calls)
+unfolding listAfterCalls
 list-held s calls b = from [] calls (record { instants-most = omega arith; sizes = tt; values = tt }) b
   where
-    from : (run : List Instant) (calls : List (List ℕ)) → ListLimits s run → All IsBytes calls → ListLimits s (held s run calls)
+    from : (run : List Instant) (calls : List (List ℕ)) → ListLimits s run → All IsBytes calls → ListLimits s (listAfterCalls s run calls)
     from run [] h b = h
     from run (bytes ∷ calls) h b = from (listAfter run (accepts s run bytes)) calls (list-after s run bytes (b .0) h) (b .1)

@@ -9,7 +9,7 @@ use Rattle.records.specs.Instant.{readInstant}
 use Rattle.records.proofs.record.Cut.{no-pieces}
 use Rattle.records.proofs.record.Inverse.{pieces-record}
 use Rattle.tesl.specs.Run.{Instant}
-use Rattle.tesl.specs.Machine.{accepts, listAfter, reply, machine, held, acceptsEach, callOf, callsOf}
+use Rattle.tesl.specs.Machine.{accepts, listAfter, reply, machine, listAfterCalls, acceptsEach, callOf, callsOf}
 
 -- ---- a call
 
@@ -32,8 +32,8 @@ module _ {log : List ℕ} {at : ℕ} {p : List ℕ} (h : TheRecord log at p) whe
   unfolding machine
   next-replies s run = rw (h .others, same-call s run p (front (drop at log)) (h .one))
 
-  pub next-held : (s : SheetValue) (run : List Instant) → held s run (callsOf (drop at log)) ≡ held s (listAfter run (accepts s run p)) (callsOf (drop (at + length p) log))
-  unfolding held
+  pub next-held : (s : SheetValue) (run : List Instant) → listAfterCalls s run (callsOf (drop at log)) ≡ listAfterCalls s (listAfter run (accepts s run p)) (callsOf (drop (at + length p) log))
+  unfolding listAfterCalls
   next-held s run = rw (h .others, same-call s run p (front (drop at log)) (h .one))
 
   -- what the record is taken for, and the rest

@@ -11,14 +11,14 @@ use Rattle.records.proofs.Lists.{refused-taken}
 use Rattle.tesl.specs.Run.{Instant}
 use Rattle.tesl.specs.Answer.{Answer, answer}
 use Rattle.tesl.specs.Machine as tesl
-use Rattle.tesl.specs.Machine.{accepts, listAfter, reply, machine, held, Session, Reader, session}
-use Rattle.theory.specs.Session.{Opened, Calls, no-call, call, Ran, not-opened, opened, Opening, refuses, opens, FollowsMachine, SameSession, lastAnswer, ReplyTo, EachReply, Answered, EachAnswer}
+use Rattle.tesl.specs.Machine.{accepts, listAfter, reply, machine, listAfterCalls, Session, Reader, session}
+use Rattle.theory.specs.Session.{OpenedMonitor, Calls, no-call, call, Ran, not-opened, opened, Opening, refuses, opens, FollowsMachine, SameSession, lastAnswer, ReplyTo, EachReply, Answered, EachAnswer}
 
-module _ {M : Type 0} (read : Reader) (Opens : List ℕ → Outcome (Opened M) → Type 0) (Observes : M → List ℕ → Outcome Answer → M → Type 0)
+module _ {M : Type 0} (read : Reader) (Opens : List ℕ → Outcome (OpenedMonitor M) → Type 0) (Observes : M → List ℕ → Outcome Answer → M → Type 0)
     (Follows : SheetValue → List Instant → M → Type 0) (laws : FollowsMachine read Opens Observes Follows) where
   same-replies : (s : SheetValue) (run : List Instant) {m last : M} {calls : List (List ℕ)} {replies : List (Outcome Answer)}
-      → Follows s run m → Calls Observes m calls replies last → (replies ≡ machine s run calls) × Follows s (held s run calls) last
-  unfolding machine held
+      → Follows s run m → Calls Observes m calls replies last → (replies ≡ machine s run calls) × Follows s (listAfterCalls s run calls) last
+  unfolding machine listAfterCalls
   same-replies s run f no-call = (refl, f)
   same-replies s run f (call {m = m} {m′ = m′} {bytes = bytes} {given = given} o cs) =
       let k = laws .observing s run m m′ bytes given f o in
@@ -41,17 +41,17 @@ module _ {M : Type 0} (read : Reader) (Opens : List ℕ → Outcome (Opened M) �
             same = rw (e, a, r .0);
             follows = λ t f.
                 let q : s ≡ t = cc in
-                (last, refl, subst (λ (v : SheetValue). Follows v (held v [] calls) last) q (r .1));
+                (last, refl, subst (λ (v : SheetValue). Follows v (listAfterCalls v [] calls) last) q (r .1));
           }
 
 -- the last answer of a list of calls is for the instants then held
-last-held : (s : SheetValue) (run : List Instant) (calls : List (List ℕ)) → lastAnswer (answer s run) (machine s run calls) ≡ answer s (held s run calls)
-unfolding machine held
+last-held : (s : SheetValue) (run : List Instant) (calls : List (List ℕ)) → lastAnswer (answer s run) (machine s run calls) ≡ answer s (listAfterCalls s run calls)
+unfolding machine listAfterCalls
 last-held s run [] = refl
 last-held s run (bytes ∷ calls) = by-outcome (accepts s run bytes) (last-held s (listAfter run (accepts s run bytes)) calls)
   where
-    by-outcome : (o : Outcome Instant) → lastAnswer (answer s (listAfter run o)) (machine s (listAfter run o) calls) ≡ answer s (held s (listAfter run o) calls)
-        → lastAnswer (answer s run) (reply s run o ∷ machine s (listAfter run o) calls) ≡ answer s (held s (listAfter run o) calls)
+    by-outcome : (o : Outcome Instant) → lastAnswer (answer s (listAfter run o)) (machine s (listAfter run o) calls) ≡ answer s (listAfterCalls s (listAfter run o) calls)
+        → lastAnswer (answer s run) (reply s run o ∷ machine s (listAfter run o) calls) ≡ answer s (listAfterCalls s (listAfter run o) calls)
     by-outcome (refused n) h = h
     by-outcome (taken i) h = h
 
@@ -79,6 +79,6 @@ module _ (P : SheetValue → List Instant → Answer → Type 0) (holds : (s : S
               first = answer s [];
               opening = (refl, holds s []);
               replies = each-reply s [] calls;
-              last = subst (P s (held s [] calls)) (sym (last-held s [] calls)) (holds s (held s [] calls));
+              last = subst (P s (listAfterCalls s [] calls)) (sym (last-held s [] calls)) (holds s (listAfterCalls s [] calls));
             });
       }

@@ -7,10 +7,10 @@ use Rattle.records.specs.Outcome.{Outcome, taken, refused}
 use Rattle.records.specs.Sheet.{SheetValue}
 use Rattle.tesl.specs.Run.{Instant}
 use Rattle.tesl.specs.Answer.{Answer, answer}
-use Rattle.tesl.specs.Machine.{Session, Reader, session, accepts, listAfter, reply, held}
+use Rattle.tesl.specs.Machine.{Session, Reader, session, accepts, listAfter, reply, listAfterCalls}
 
 -- what opening gives unless it refuses: an answer and a monitor
-pub record Opened (M : Type 0) : Type 0 where
+pub record OpenedMonitor (M : Type 0) : Type 0 where
   pub said : Answer
   pub monitor : M
 
@@ -23,10 +23,10 @@ pub data Calls {M : Type 0} (Observes : M → List ℕ → Outcome Answer → M 
       → Observes m bytes given m′ → Calls Observes m′ calls replies last → Calls Observes m (bytes ∷ calls) (given ∷ replies) last
 
 -- an opening and the calls after it, what was answered, and the last monitor; opening refused yields no monitor to call
-pub data Ran {M : Type 0} (Opens : List ℕ → Outcome (Opened M) → Type 0) (Observes : M → List ℕ → Outcome Answer → M → Type 0)
+pub data Ran {M : Type 0} (Opens : List ℕ → Outcome (OpenedMonitor M) → Type 0) (Observes : M → List ℕ → Outcome Answer → M → Type 0)
     : List ℕ → List (List ℕ) → Session → Option M → Type 0 where
   not-opened : {sheet : List ℕ} {calls : List (List ℕ)} {n : ℕ} → Opens sheet (refused n) → Ran Opens Observes sheet calls (record { opening = refused n; replies = [] }) none
-  opened : {sheet : List ℕ} {calls : List (List ℕ)} {o : Opened M} {replies : List (Outcome Answer)} {last : M}
+  opened : {sheet : List ℕ} {calls : List (List ℕ)} {o : OpenedMonitor M} {replies : List (Outcome Answer)} {last : M}
       → Opens sheet (taken o) → Calls Observes (o .monitor) calls replies last → Ran Opens Observes sheet calls (record { opening = taken (o .said); replies = replies }) (some last)
 
 -- ---- single calls and the whole run, whatever reads a sheet's bytes; `Follows s run m`: m is a monitor of the sheet s after the instants run
@@ -39,19 +39,19 @@ pub record Observing {M : Type 0} (Follows : SheetValue → List Instant → M �
 
 module _ {M : Type 0} (read : Reader) (Follows : SheetValue → List Instant → M → Type 0) where
   -- opening: the machine's number, or its answer and a monitor that follows the sheet with no instant
-  pub data Opening (sheet : List ℕ) : Outcome (Opened M) → Type 0 where
+  pub data Opening (sheet : List ℕ) : Outcome (OpenedMonitor M) → Type 0 where
     refuses : {n : ℕ} → read sheet ≡ refused n → Opening sheet (refused n)
-    opens : {s : SheetValue} {o : Opened M} → read sheet ≡ taken s → o .said ≡ answer s [] → Follows s [] (o .monitor) → Opening sheet (taken o)
+    opens : {s : SheetValue} {o : OpenedMonitor M} → read sheet ≡ taken s → o .said ≡ answer s [] → Follows s [] (o .monitor) → Opening sheet (taken o)
 
   -- the whole run: what was answered is the machine's session; where the sheet is read, there is a last monitor and it follows the machine's list
   pub record SameSession (sheet : List ℕ) (calls : List (List ℕ)) (answered : Session) (last : Option M) : Type 0 where
     pub same : answered ≡ session read sheet calls
-    pub follows : (s : SheetValue) → read sheet ≡ taken s → (m : M) × (last ≡ some m) × Follows s (held s [] calls) m
+    pub follows : (s : SheetValue) → read sheet ≡ taken s → (m : M) × (last ≡ some m) × Follows s (listAfterCalls s [] calls) m
 
 -- each single call follows the machine
-pub record FollowsMachine {M : Type 0} (read : Reader) (Opens : List ℕ → Outcome (Opened M) → Type 0) (Observes : M → List ℕ → Outcome Answer → M → Type 0)
+pub record FollowsMachine {M : Type 0} (read : Reader) (Opens : List ℕ → Outcome (OpenedMonitor M) → Type 0) (Observes : M → List ℕ → Outcome Answer → M → Type 0)
     (Follows : SheetValue → List Instant → M → Type 0) : Type 0 where
-  pub opening : (sheet : List ℕ) (outcome : Outcome (Opened M)) → Opens sheet outcome → Opening read Follows sheet outcome
+  pub opening : (sheet : List ℕ) (outcome : Outcome (OpenedMonitor M)) → Opens sheet outcome → Opening read Follows sheet outcome
   pub observing : (s : SheetValue) (run : List Instant) (m m′ : M) (bytes : List ℕ) (given : Outcome Answer)
       → Follows s run m → Observes m bytes given m′ → Observing Follows s run bytes given m′
 
@@ -82,7 +82,7 @@ module _ (P : SheetValue → List Instant → Answer → Type 0) where
     pub first : Answer
     pub opening : (answered .opening ≡ taken first) × P s [] first
     pub replies : EachReply s [] calls (answered .replies)
-    pub last : P s (held s [] calls) (lastAnswer first (answered .replies))
+    pub last : P s (listAfterCalls s [] calls) (lastAnswer first (answered .replies))
 
   -- the sheet is refused: its number, and nothing is called
   pub record EachAnswer (read : Reader) (sheet : List ℕ) (calls : List (List ℕ)) (answered : Session) : Type 0 where

@@ -12,8 +12,8 @@ use filler::verdict::Verdict;
 use filler::whole_run::judge as verdict_of;
 use judge::answer::Answer;
 use judge::answer::Reply;
-use judge::held::Count;
-use judge::monitor::Given;
+use judge::held::Status;
+use judge::monitor::CallResult;
 use judge::monitor::Monitor;
 use judge::monitor::observe;
 use judge::monitor::open;
@@ -100,8 +100,8 @@ fn is_full(m: Monitor) -> bool {
     let held = m.held;
     let n = held.count;
     match n {
-        Count::Exhausted => false,
-        Count::Live(live) => {
+        Status::Exhausted => false,
+        Status::Live(live) => {
             let r = held.remainders[0];
             if live == 0 {
                 return false;
@@ -122,7 +122,7 @@ fn tallied(t: [u64; 40], before: usize, a: Answer, m: Monitor) -> [u64; 40] {
 }
 
 // A trial with a reply that is due an answer.
-fn answered(t: Trial, run: Run, g: Given) -> Trial {
+fn answered(t: Trial, run: Run, g: CallResult) -> Trial {
     let sheet = t.sheet;
     let before = t.answer;
     let told = t.tally;

@@ -13,7 +13,7 @@ use records::instant::Instant;
 use records::instant::Tick;
 use records::instant::read_instant;
 use records::instant::write_instant;
-use records::record::Answer;
+use records::record::Decision;
 
 fn tick(t: Tick) {
     match t {
@@ -62,8 +62,8 @@ fn shown_case(name: &[u8], bytes: &[u8], clocks: u8, shown: usize) {
     let answer = r.answer;
     let instant = r.instant;
     match answer {
-        Answer::Refused(n) => refused(n),
-        Answer::Done => taken(instant, shown, bytes, clocks),
+        Decision::Refused(n) => refused(n),
+        Decision::Done => taken(instant, shown, bytes, clocks),
     }
     end();
 }

@@ -7,7 +7,7 @@ use crate::text::end;
 use crate::text::heading;
 use crate::text::say;
 use crate::text::wide;
-use records::record::Answer;
+use records::record::Decision;
 use records::sheet::SheetRead;
 use records::sheet::read_sheet;
 ghost use Prim.Native.Nat.{_≤_, _<_};
@@ -17,8 +17,8 @@ fn cell(r: SheetRead) {
     say(b" ");
     let answer = r.answer;
     match answer {
-        Answer::Refused(n) => byte(n),
-        Answer::Done => say(b"taken"),
+        Decision::Refused(n) => byte(n),
+        Decision::Done => say(b"taken"),
     }
 }
 

@@ -14,7 +14,7 @@ use crate::text::heading;
 use crate::text::refused;
 use crate::text::say;
 use crate::text::wide;
-use records::record::Answer;
+use records::record::Decision;
 use records::sheet::Sheet;
 use records::sheet::read_sheet;
 use records::sheet::write_sheet;
@@ -36,8 +36,8 @@ fn read(name: &[u8], bytes: &[u8]) -> Sheet {
     let answer = r.answer;
     let sheet = r.sheet;
     match answer {
-        Answer::Refused(n) => refused(n),
-        Answer::Done => taken(sheet, bytes),
+        Decision::Refused(n) => refused(n),
+        Decision::Done => taken(sheet, bytes),
     }
     end();
     sheet

@@ -11,13 +11,13 @@ use Rattle.records.proofs.Lists.{refused-taken}
 use Rattle.tesl.specs.Lists.{count}
 use Rattle.tesl.specs.Run.{Instant}
 use Rattle.tesl.specs.Answer.{Answer, exhausted, broken, holding, remainders, answer}
-use Rattle.tesl.specs.Machine.{held, session, LogResult, callsOf, judgeLog}
+use Rattle.tesl.specs.Machine.{listAfterCalls, session, LogResult, callsOf, judgeLog}
 use Rattle.judge.specs.declared.answer.Answer as code
 use Rattle.judge.specs.declared.answer.Reply.the-variants as reply
 use Rattle.judge.specs.declared.monitor.Monitor.{Monitor}
-use Rattle.judge.specs.View.{live}
+use Rattle.judge.specs.View.{heldList}
 use Rattle.judge.specs.Answer.{replyOf}
-use Rattle.judge.specs.Limits.{within}
+use Rattle.judge.specs.Limits.{monitorWithin}
 use Rattle.judge.specs.Monitor.{heldBy}
 use Rattle.judge.specs.Promises.{Follows}
 use Rattle.judge.specs.Log.{FollowsLog}
@@ -45,17 +45,17 @@ count-few p (x ∷ xs) = by-test (p x) (count-few p xs)
 module _ (m : Monitor) (clock : ℕ) {x : Panel} (p : panelOf x ≡ panelCount clock m) where
   pub shown-small : {n : ℕ} → x ≡ shown.Count n → n ≤ 32
   unfolding panelCount
-  shown-small {n} q = by-limits (within m) refl
+  shown-small {n} q = by-limits (monitorWithin m) refl
     where
       same : taken n ≡ panelCount clock m
       same = sym (ap panelOf q) ∙ p
 
-      by-limits : (b : Bool) → within m ≡ b → n ≤ 32
+      by-limits : (b : Bool) → monitorWithin m ≡ b → n ≤ 32
       by-limits false e = let k : panelCount clock m ≡ refused 11 = rw e in refused-taken (sym k ∙ sym same)
       by-limits true e =
           let k = same ∙ within-count clock m e in
-          let f : n ≡ count (owesClock clock) (live (heldBy m)) = cc in
-          omega (arith, f, count-few (owesClock clock) (live (heldBy m)), held-few m e)
+          let f : n ≡ count (owesClock clock) (heldList (heldBy m)) = cc in
+          omega (arith, f, count-few (owesClock clock) (heldList (heldBy m)), held-few m e)
 
   pub shown-counted : {n : ℕ} → x ≡ shown.Count n → n ≡ shownCount (panelCount clock m)
   shown-counted q = ap shownCount (sym (ap panelOf q) ∙ p)
@@ -71,7 +71,7 @@ owing-shown clock s run m f = by-answer (answer s run) refl
     by-answer : (a : Answer) → answer s run ≡ a → panelCount clock m ≡ taken (unlessExhausted a (count (owesClock clock) (remainders s run)))
     by-answer exhausted e = panel-of-run s run m clock f .none e
     by-answer broken e = panel-of-run s run m clock f .distinct (λ x. let z : _≡_ {A = ℕ} 0 1 = cc in absurd (omega arith))
-    by-answer (holding live standing) e = panel-of-run s run m clock f .distinct (λ x. let z : _≡_ {A = ℕ} 0 1 = cc in absurd (omega arith))
+    by-answer (holding heldList standing) e = panel-of-run s run m clock f .distinct (λ x. let z : _≡_ {A = ℕ} 0 1 = cc in absurd (omega arith))
 
 -- ---- after a log
 module _ (last : LastMonitor) (clock : ℕ) where
@@ -108,4 +108,4 @@ module _ (sheet log : List ℕ) (last : LastMonitor) (h : FollowsLog sheet log l
       by-reply : (r : Outcome Answer) → replyOf (last .reply) ≡ r
           → packed (numberOf r) 0 owing 0 (last .instants) ≡ packed (numberOf r) 0 (unlessRefused (λ a. owingOf clock log (readSheet sheet)) r) 0 (last .instants)
       by-reply (refused n) k = rw (o .none n k)
-      by-reply (taken a) k = let s = answered-sheet k in rw (s .1, o .owing a k (s .0) (held (s .0) [] (callsOf log)) (h .follows (s .0) (s .1) a k))
+      by-reply (taken a) k = let s = answered-sheet k in rw (s .1, o .owing a k (s .0) (listAfterCalls (s .0) [] (callsOf log)) (h .follows (s .0) (s .1) a k))

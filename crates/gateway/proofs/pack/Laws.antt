@@ -14,7 +14,7 @@ use Rattle.judge.specs.declared.answer.Reply.the-variants as reply
 use Rattle.judge.specs.Answer.{answerOf, replyOf}
 use Rattle.judge.specs.Entry.{answerCode, liveCode, clearCode}
 use Rattle.gateway.specs.Result.{numberOf, packed, judgedCode}
-use Rattle.gateway.specs.Inner.{readingNumber, Small}
+use Rattle.gateway.specs.Inner.{readingNumber, Packable}
 
 -- the number of what was read
 pub sheet-number : (bytes : List ℕ) {x : SheetRead} {n : ℕ} → n ≡ readingNumber (x .answer) → x ≡ sheetRead (readSheet bytes) → n ≡ numberOf (readSheet bytes)
@@ -34,11 +34,11 @@ instant-number clocks bytes e q = e ∙ ap (λ (r : InstantRead). readingNumber 
 
 -- ---- a reply's result
 
-module _ (r : Reply) (count : ℕ) (h : Small (record { outcome = replyOf r; instants = count })) where
+module _ (r : Reply) (count : ℕ) (h : Packable (record { outcome = replyOf r; instants = count })) where
   pub reply-live : {a : code.Answer} → r ≡ reply.Answered a → liveCode (answerOf a) ≤ 32
   reply-live e = rw e at (h .live)
 
-pub refused-small : {r : Reply} {n : ℕ} → r ≡ reply.Refused n → Small (record { outcome = replyOf r; instants = 0 })
+pub refused-small : {r : Reply} {n : ℕ} → r ≡ reply.Refused n → Packable (record { outcome = replyOf r; instants = 0 })
 refused-small e = record { live = rw e (omega arith); count = omega arith }
 
 pub refused-code : (r : Reply) (count : ℕ) {n : ℕ} (result : ℕ) → r ≡ reply.Refused n → result ≡ packed n 0 0 0 count

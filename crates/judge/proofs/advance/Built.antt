@@ -9,19 +9,19 @@ use Rattle.tesl.specs.Run.{Filled}
 use Rattle.tesl.specs.Fits.{Obligation}
 use Rattle.judge.specs.Word.{flagOf}
 use Rattle.judge.specs.Carried.{either}
-use Rattle.judge.specs.Rows.{leadsPart, stoppedPart, width, rowCount, rowOwed, rowLead, rowStopped, Stays, KeptRow, BegunRow, LeadsOn, StoppedOn}
+use Rattle.judge.specs.Rows.{leadsPart, stoppedPart, width, rowCount, rowOwed, rowLead, rowStopped, Stays, StillOwedRow, BegunRow, LeadsOn, StoppedOn}
 use Rattle.judge.proofs.Listing.{listed-same}
 use Rattle.judge.proofs.rows.Laws.{stays-wide, stays-on, owed-stays}
 
-module _ {i to : ℕ} (apart : i ≡ to → ⊥) {f : Filled} {k : Bool} {a b : List ℕ} (kept : KeptRow f i to k a b) where
+module _ {i to : ℕ} (apart : i ≡ to → ⊥) {f : Filled} {k : Bool} {a b : List ℕ} (left-owed : StillOwedRow f i to k a b) where
   pub late-stays : Stays to 0 width a b
-  late-stays = stays-wide (kept .stays) 0 width (omega arith) (omega arith)
+  late-stays = stays-wide (left-owed .stays) 0 width (omega arith) (omega arith)
 
   module _ {os : List Obligation} {o : Bool} {c : List ℕ} (begun : BegunRow to os o b c) where
     pub over-stays : Stays to 0 width a c
     over-stays = stays-on late-stays (stays-wide (begun .stays) 0 width (omega arith) (omega arith))
 
-    module _ {reach : ℕ} {gains losses : List ℕ} {d : List ℕ} (led : LeadsOn reach gains losses i to c d) {stops : List Bool} {e : List ℕ} (stopped : StoppedOn stops i to d e) where
+    module _ {leaders : ℕ} {gains losses : List ℕ} {d : List ℕ} (led : LeadsOn leaders gains losses i to c d) {stops : List Bool} {e : List ℕ} (stopped : StoppedOn stops i to d e) where
       pub built-stays : Stays to 0 width a e
       built-stays = stays-on over-stays (stays-on (stays-wide (led .stays) 0 width (omega arith) (omega arith)) (stays-wide (stopped .stays) 0 width (omega arith) (omega arith)))
 
@@ -34,10 +34,10 @@ module _ {i to : ℕ} (apart : i ≡ to → ⊥) {f : Filled} {k : Bool} {a b : 
       pub built-owed : rowOwed e to ≡ rowOwed c to
       built-owed = owed-stays (stopped .stays) to few (λ q x e y z. omega arith) ∙ owed-stays (led .stays) to (begun .few) (λ q x e y z. omega arith)
 
-      lead : (j : ℕ) → j < reach → reach ≤ 16 → rowLead c i j ≡ rowLead a i j
+      lead : (j : ℕ) → j < leaders → leaders ≤ 16 → rowLead c i j ≡ rowLead a i j
       lead j h l = over-stays .same i (leadsPart + j) (omega arith) (λ e. absurd (apart e))
 
-      pub built-leads : reach ≤ 16 → (j : ℕ) → j < reach → rowLead a i j < 65536 → rowLead e to j ≡ rowLead a i j + getD gains j 0 - getD losses j 0
+      pub built-leads : leaders ≤ 16 → (j : ℕ) → j < leaders → rowLead a i j < 65536 → rowLead e to j ≡ rowLead a i j + getD gains j 0 - getD losses j 0
       built-leads l j h s =
           stopped .stays .same to (leadsPart + j) (omega arith) (λ e x y. omega arith) ∙ led .leads j h (rw (lead j h l) s) ∙ rw (lead j h l)
 

@@ -17,15 +17,15 @@ use Rattle.theory.specs.Step.{overlap, linesOk, nextLeads}
 use Rattle.judge.specs.declared.filling.Filling.{Filling}
 use Rattle.judge.specs.declared.plan.Plan.{Plan}
 use Rattle.judge.specs.Advanced.{Advanced, fails, over, onto}
-use Rattle.judge.specs.View.{inUse, cut}
+use Rattle.judge.specs.View.{inUse, usedPart}
 use Rattle.judge.specs.Questions.{carriedHolds, leadAfter}
 use Rattle.judge.specs.Lines.{allStopped, smallLeads}
-use Rattle.judge.specs.Owed.{owing, kept}
+use Rattle.judge.specs.Owed.{owing, stillOwed}
 use Rattle.judge.specs.Carried.{either}
 use Rattle.judge.specs.Plan.{isPrecedes}
-use Rattle.judge.specs.Rows.{rowOwed, rowLead, rowLeads, rowStop, rowStopped, rowOf, provided, KeptRow, BegunRow}
-use Rattle.judge.specs.Filling.{instantOf, begunIn, Asked}
-use Rattle.judge.specs.Work.{carried, withBegun, withKept, advanced}
+use Rattle.judge.specs.Rows.{rowOwed, rowLead, rowLeads, rowStop, rowStopped, rowOf, provided, StillOwedRow, BegunRow}
+use Rattle.judge.specs.Filling.{filledInstant, begunIn, GatheredFor}
+use Rattle.judge.specs.Work.{carried, withBegun, withStillOwed, advanced}
 use Rattle.judge.proofs.Below.{below-ext}
 use Rattle.judge.proofs.Listing.{listed-at}
 use Rattle.judge.proofs.work.Carried.{sheetLine, small-lead, carried-holds, carried-stopped, carried-leads}
@@ -33,18 +33,18 @@ use Rattle.judge.proofs.work.Carried.{sheetLine, small-lead, carried-ho
 pub same-remainder : {o o′ : List Obligation} {l l′ : List ℕ} {s s′ : List Bool} → o ≡ o′ → l ≡ l′ → s ≡ s′ → _≡_ {A = Remainder} (record { owed = o; leads = l; stopped = s }) (record { owed = o′; leads = l′; stopped = s′ })
 same-remainder a b c = rw (a, b, c)
 
-module _ {v : SheetValue} {p : Plan} {f : Filling} (a : Asked v p f) (rows : List ℕ) (i : ℕ) where
+module _ {v : SheetValue} {p : Plan} {f : Filling} (a : GatheredFor v p f) (rows : List ℕ) (i : ℕ) where
   abbrev row : Remainder
-  row = cut v (rowOf rows i)
+  row = usedPart v (rowOf rows i)
 
   -- what the row becomes
   abbrev became : Advanced
-  became = advanced v (instantOf f) (begunIn f) row
+  became = advanced v (filledInstant f) (begunIn f) row
 
   abbrev enough : Bool
-  enough = below (p .reach) (λ (k : ℕ). leb (getD (f .needs) k 0) (rowLead rows i k))
+  enough = below (p .leaders) (λ (k : ℕ). leb (getD (f .needs) k 0) (rowLead rows i k))
 
-  lead-at : (rs : List ℕ) (j k : ℕ) → k < p .reach → getD (rowLeads rs j) k 0 ≡ rowLead rs j k
+  lead-at : (rs : List ℕ) (j k : ℕ) → k < p .leaders → getD (rowLeads rs j) k 0 ≡ rowLead rs j k
   lead-at rs j k h = let r = a .leading .0 in listed-at (rowLead rs j) 0 16 k (omega arith)
 
   -- a clock that ticks is stopped in the row
@@ -58,7 +58,7 @@ module _ {v : SheetValue} {p : Plan} {f : Filling} (a : Asked v p f) (rows : Lis
 
   holds : (not (overlap (f .ticks) (row .stopped)) && linesOk (carriedHolds (f .ticks)) (v .lines) (row .leads)) ≡ (not barred && enough)
   holds = ap₂ (λ (bs : List Bool) (b : Bool). not (overlap (f .ticks) bs) && b) row-stopped
-      (carried-holds v (f .ticks) (p .reach) (p .precede) (a .leading) (rowLeads rows i) ∙ below-ext (p .reach) _ _ (λ k h. ap₂ leb (sym (a .needed k h)) (lead-at rows i k h)))
+      (carried-holds v (f .ticks) (p .leaders) (p .precede) (a .leading) (rowLeads rows i) ∙ below-ext (p .leaders) _ _ (λ k h. ap₂ leb (sym (a .needed k h)) (lead-at rows i k h)))
 
   -- a lead is too short; a stopped clock ticks
   module _ {h : Bool} (g : h ≡ enough) where
@@ -67,7 +67,7 @@ module _ {v : SheetValue} {p : Plan} {f : Filling} (a : Asked v p f) (rows : Lis
     row-short u = rw (holds, sym g, not-true h u, and-false (not barred))
 
     module _ (u : not h ≡ false) {b : Bool} (e : b ≡ barred) where
-      by-stopped : became ≡ cond (not b) (withKept v (f .ticks) (begunIn f) row (kept (instantOf f) (row .owed))) fails
+      by-stopped : became ≡ cond (not b) (withStillOwed v (f .ticks) (begunIn f) row (stillOwed (filledInstant f) (row .owed))) fails
       unfolding advanced
       by-stopped = rw (holds, sym g, not-false h u, and-true (not barred), sym e)
 
@@ -75,36 +75,36 @@ module _ {v : SheetValue} {p : Plan} {f : Filling} (a : Asked v p f) (rows : Lis
       row-barred t = sym (by-stopped ∙ rw t)
 
       -- an obligation is late; there is no room for one
-      module _ (t : b ≡ false) {to : ℕ} {k : Bool} {mid : List ℕ} (m : KeptRow (instantOf f) i to k rows mid) where
-        by-kept : became ≡ withKept v (f .ticks) (begunIn f) row (provided k (rowOwed mid to))
-        by-kept = by-stopped ∙ rw (t, m .owed)
+      module _ (t : b ≡ false) {to : ℕ} {k : Bool} {mid : List ℕ} (m : StillOwedRow (filledInstant f) i to k rows mid) where
+        by-still-owed : became ≡ withStillOwed v (f .ticks) (begunIn f) row (provided k (rowOwed mid to))
+        by-still-owed = by-stopped ∙ rw (t, m .owed)
 
         pub row-late : not k ≡ true → fails ≡ became
-        row-late l = sym (by-kept ∙ rw (not-true k l))
+        row-late l = sym (by-still-owed ∙ rw (not-true k l))
 
         module _ (l : not k ≡ false) {o : Bool} {after : List ℕ} (n : BegunRow to (begunIn f) o mid after) where
           by-added : became ≡ withBegun v (f .ticks) row (provided o (rowOwed after to))
-          by-added = by-kept ∙ rw (not-false k l, n .owed)
+          by-added = by-still-owed ∙ rw (not-false k l, n .owed)
 
           pub row-over : not o ≡ true → over ≡ became
           row-over q = sym (by-added ∙ rw (not-true o q))
 
           -- the row goes on to row j, where that is what it owes
           pub row-onto : not o ≡ false → T (smallLeads row) → (rs : List ℕ) → rowOwed rs to ≡ rowOwed after to
-              → ((k : ℕ) → k < p .reach → rowLead rows i k < 65536 → rowLead rs to k ≡ rowLead rows i k + getD (f .gains) k 0 - getD (f .losses) k 0) → rowStopped rs to ≡ either (rowStopped rows i) (f .stops)
-              → onto (cut v (rowOf rs to)) ≡ became
+              → ((k : ℕ) → k < p .leaders → rowLead rows i k < 65536 → rowLead rs to k ≡ rowLead rows i k + getD (f .gains) k 0 - getD (f .losses) k 0) → rowStopped rs to ≡ either (rowStopped rows i) (f .stops)
+              → onto (usedPart v (rowOf rs to)) ≡ became
           row-onto q small rs owes moves stops = ap onto (same-remainder owes on-leads on-stopped) ∙ sym goes
             where
               goes : became ≡ onto (carried v (f .ticks) (owing (rowOwed after to) row))
               goes = by-added ∙ rw (not-false o q)
 
-              moved : (k : ℕ) → k < p .reach → isPrecedes (sheetLine v k) ≡ true → getD (rowLeads rs to) k 0 ≡ getD (rowLeads rows i) k 0 + getD (f .gains) k 0 - getD (f .losses) k 0
+              moved : (k : ℕ) → k < p .leaders → isPrecedes (sheetLine v k) ≡ true → getD (rowLeads rs to) k 0 ≡ getD (rowLeads rows i) k 0 + getD (f .gains) k 0 - getD (f .losses) k 0
               moved k h e =
                   let at = lead-at rows i k h in
                   lead-at rs to k h ∙ moves k h (omega (arith, at, small-lead v (f .ticks) (rowOf rows i) small k e)) ∙ rw at
 
               on-leads : nextLeads inUse (v .lines) (rowLeads rs to) ≡ nextLeads (leadAfter (f .ticks)) (v .lines) (row .leads)
-              on-leads = carried-leads v (f .ticks) (p .reach) (p .precede) (a .leading) (rowLeads rows i) (rowLeads rs to) (λ k h e. rw (sym (a .gained k h), sym (a .lost k h)) (moved k h e))
+              on-leads = carried-leads v (f .ticks) (p .leaders) (p .precede) (a .leading) (rowLeads rows i) (rowLeads rs to) (λ k h e. rw (sym (a .gained k h), sym (a .lost k h)) (moved k h e))
 
               on-stopped : take (v .clocks) (rowStopped rs to) ≡ allStopped (f .ticks) (v .lines) (row .stopped)
               on-stopped =

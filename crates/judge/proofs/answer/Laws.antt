@@ -14,12 +14,12 @@ use Rattle.tesl.specs.Lists.{any, distinct}
 use Rattle.tesl.specs.Remainder.{Remainder, sameObligation, owes, isClear}
 use Rattle.tesl.specs.Answer.{broken, holding, clear, owed, standing, judged}
 use Rattle.theory.proofs.Lists.{any-snoc}
-use Rattle.judge.specs.declared.held.Count.{Count}
-use Rattle.judge.specs.declared.held.Count.the-variants.{Live}
-use Rattle.judge.specs.View.{cut}
+use Rattle.judge.specs.declared.held.Status.{Status}
+use Rattle.judge.specs.declared.held.Status.the-variants.{Live}
+use Rattle.judge.specs.View.{usedPart}
 use Rattle.judge.specs.Answer.{saidBy}
 use Rattle.judge.specs.Rows.{rowCount, rowObligation, rowOwed, rowOf, rowsOf}
-use Rattle.judge.specs.Settle.{foundIn}
+use Rattle.judge.specs.Apply.{foundIn}
 use Rattle.judge.proofs.Listing.{any-of}
 
 -- one of each of a list is none only of the empty list
@@ -45,7 +45,7 @@ judged-some (r ∷ rs) k = refl
 -- ---- in rows
 
 module _ (v : SheetValue) (rows : List ℕ) where
-  clear-row : (i : ℕ) → isClear (cut v (rowOf rows i)) ≡ eqb (rowCount rows i) 0
+  clear-row : (i : ℕ) → isClear (usedPart v (rowOf rows i)) ≡ eqb (rowCount rows i) 0
   unfolding owes isClear
   clear-row i = distinct-none sameObligation (rowOwed rows i) ∙ ap (λ k. eqb k 0) (length-listed (rowObligation rows i) (rowCount rows i))
 
@@ -56,18 +56,18 @@ module _ (v : SheetValue) (rows : List ℕ) where
 
     pub row-owes : (i : ℕ) → any isClear (rowsOf v rows from i) ≡ false → (rowCount rows (from + i) ≡ 0 → ⊥) → any isClear (rowsOf v rows from (i + 1)) ≡ false
     row-owes i a k =
-        let b : isClear (cut v (rowOf rows (from + i))) ≡ false = clear-row (from + i) ∙ ne-eqb (rowCount rows (from + i)) 0 k in
-        ap (any isClear) (listed-snoc (λ j. cut v (rowOf rows (from + j))) i) ∙ any-snoc isClear (rowsOf v rows from i) (cut v (rowOf rows (from + i))) ∙ simp (a, b)
+        let b : isClear (usedPart v (rowOf rows (from + i))) ≡ false = clear-row (from + i) ∙ ne-eqb (rowCount rows (from + i)) 0 k in
+        ap (any isClear) (listed-snoc (λ j. usedPart v (rowOf rows (from + j))) i) ∙ any-snoc isClear (rowsOf v rows from i) (usedPart v (rowOf rows (from + i))) ∙ simp (a, b)
 
     pub row-clear : (n i : ℕ) → i < n → rowCount rows (from + i) ≡ 0 → any isClear (rowsOf v rows from n) ≡ true
-    row-clear n i h e = any-of (λ j. cut v (rowOf rows (from + j))) isClear n i h (clear-row (from + i) ∙ eq-eqb (rowCount rows (from + i)) 0 e)
+    row-clear n i h e = any-of (λ j. usedPart v (rowOf rows (from + j))) isClear n i h (clear-row (from + i) ∙ eq-eqb (rowCount rows (from + i)) 0 e)
 
-    module _ {count : Count} {n : ℕ} (e : count ≡ Live n) where
+    module _ {count : Status} {n : ℕ} (e : count ≡ Live n) where
       pub rows-none : n ≡ 0 → broken ≡ saidBy (foundIn v count rows from)
       unfolding judged listedFrom
       rows-none z = rw (e, z)
 
       pub rows-some : (n ≡ 0 → ⊥) → {b : Bool} → b ≡ any isClear (rowsOf v rows from n) → holding n (cond b clear owed) ≡ saidBy (foundIn v count rows from)
       rows-some k f =
-          let m : length (rowsOf v rows from n) ≡ n = length-listed (λ j. cut v (rowOf rows (from + j))) n in
+          let m : length (rowsOf v rows from n) ≡ n = length-listed (λ j. usedPart v (rowOf rows (from + j))) n in
           rw (f, e) (sym (judged-some (rowsOf v rows from n) (λ z. k (sym m ∙ z)) ∙ rw m))

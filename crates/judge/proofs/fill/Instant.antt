@@ -15,20 +15,20 @@ use Rattle.records.proofs.Lists.{length-listed}
 use Rattle.tesl.specs.Lists.{all, filter, flatMap}
 use Rattle.tesl.specs.Fits.{Obligation, noneFalls}
 use Rattle.tesl.specs.Remainder.{Remainder}
-use Rattle.judge.specs.declared.held.Count.{Count}
-use Rattle.judge.specs.declared.held.Count.the-variants.{Exhausted, Live}
-use Rattle.judge.specs.View.{cut, seenOf}
+use Rattle.judge.specs.declared.held.Status.{Status}
+use Rattle.judge.specs.declared.held.Status.the-variants.{Exhausted, Live}
+use Rattle.judge.specs.View.{usedPart, seenOf}
 use Rattle.judge.specs.Questions.{tagsHold}
 use Rattle.judge.specs.Plan.{isRelation, isRule}
 use Rattle.judge.specs.Rules.{allowed}
-use Rattle.judge.specs.Fillings.{fillingsIn, takenBy, settling}
+use Rattle.judge.specs.Fillings.{fillingsIn, takenBy, byFilling}
 use Rattle.judge.specs.Rows.{rowObligation, rowCount, rowOf, rowsOf}
-use Rattle.judge.specs.Settle.{foundIn}
+use Rattle.judge.specs.Apply.{foundIn}
 use Rattle.judge.specs.Fill.{fillingsLeft}
-use Rattle.judge.specs.Heed.{namedBy, rowClocks, rowsClocks, flagged}
+use Rattle.judge.specs.Relevant.{namedBy, rowClocks, rowsClocks, flagged}
 use Rattle.judge.specs.Work.{worked}
 use Rattle.judge.proofs.Listing.{map-listed}
-use Rattle.judge.proofs.work.Heed.{clocksOf}
+use Rattle.judge.proofs.work.Relevant.{clocksOf}
 use Rattle.judge.proofs.work.Listed.{worked-no, worked-yes}
 
 -- ---- the clocks that rows owe a tick of
@@ -39,11 +39,11 @@ flat-listed f g at e i (suc n) = rw (e i, flat-listed f g at e (i + 1) n)
 
 rows-clocks : (v : SheetValue) (from n : ℕ) (rows : List ℕ) → flatMap clocksOf (rowsOf v rows from n) ≡ rowsClocks rows from n
 rows-clocks v from n rows =
-    flat-listed clocksOf (λ i. rowClocks rows (from + i)) (λ i. cut v (rowOf rows (from + i)))
+    flat-listed clocksOf (λ i. rowClocks rows (from + i)) (λ i. usedPart v (rowOf rows (from + i)))
     (λ i. map-listed (rowObligation rows (from + i)) (λ (o : Obligation). o .clock) (rowCount rows (from + i))) 0 n
 
 -- ---- an instant
-module _ (room : ℕ) (v : SheetValue) (last : Option (List ℤ)) (ticks : List TickSlot) (tags : List ℤ) (count : Count) (rows : List ℕ) (from : ℕ) where
+module _ (room : ℕ) (v : SheetValue) (last : Option (List ℤ)) (ticks : List TickSlot) (tags : List ℤ) (count : Status) (rows : List ℕ) (from : ℕ) where
   abbrev after : Option (List Remainder)
   after = worked room v last (seenOf (v .clocks) ticks) tags (foundIn v count rows from)
 
@@ -59,7 +59,7 @@ module _ (room : ℕ) (v : SheetValue) (last : Option (List ℤ)) (ticks : List 
     module _ (z : n ≡ 0 → ⊥) {clocks : ℕ} (c : clocks ≡ v .clocks) {relations : List Line} (d : relations ≡ filter isRelation (v .lines)) {q : Bool}
         (f : q ≡ (noneFalls clocks last tags && all (tagsHold tags) relations)) where
       many : 0 < length (rowsOf v rows from n)
-      many = omega (arith, z, length-listed (λ i. cut v (rowOf rows (from + i))) n)
+      many = omega (arith, z, length-listed (λ i. usedPart v (rowOf rows (from + i))) n)
 
       pub work-no : q ≡ false → (out : List ℕ) (to : ℕ) → some (rowsOf v out to 0) ≡ after
       unfolding listedFrom
@@ -67,5 +67,5 @@ module _ (room : ℕ) (v : SheetValue) (last : Option (List ℤ)) (ticks : List 
 
       pub work-yes : q ≡ true → {flags : List Bool} → flags ≡ flagged (rowsClocks rows from n) (flagged (flatMap namedBy (v .lines)) (replicate 8 false)) → {rules : List Line} → rules ≡ filter isRule (v .lines)
           → (list : List Bool) {fillings : List (List Bool)} → fillings ≡ fillingsIn list 0 ++ filter (allowed rules) (fillingsLeft flags ticks clocks 0 (replicate 8 false))
-          → {found : Option (List Remainder)} → found ≡ takenBy (settling room v tags (rowsOf v rows from n)) fillings (some []) → found ≡ after
+          → {found : Option (List Remainder)} → found ≡ takenBy (byFilling room v tags (rowsOf v rows from n)) fillings (some []) → found ≡ after
       work-yes g s k list l p = rw e (worked-yes room v last ticks tags (rowsOf v rows from n) many c d f g (rows-clocks v from n rows) s k list l p)

@@ -36,8 +36,8 @@ module _ (flags : List Bool) (seen : List TickSlot) (clocks k : ℕ) (ticks : Li
     left-idle = by-flag-idle (getD flags k true) refl
 
     -- an unseen tick whose clock has no flag
-    pub left-unheeded : t ≡ Unseen → getD flags k true ≡ false → left k ticks ≡ left (k + 1) ticks
-    left-unheeded f g = rw (here Unseen f, g)
+    pub left-irrelevant : t ≡ Unseen → getD flags k true ≡ false → left k ticks ≡ left (k + 1) ticks
+    left-irrelevant f g = rw (here Unseen f, g)
 
     module _ {next : List Bool} (p : next ≡ set ticks k true) where
       by-flag-ticks : (b : Bool) → getD flags k true ≡ b → t ≡ Ticks → left k ticks ≡ left (k + 1) next

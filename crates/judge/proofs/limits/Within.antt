@@ -6,8 +6,8 @@ use native.Mathlib.Omega.{arith}
 use lib.Dec.{leb, not-T, leb→le, le→leb}
 use lib.ListN.{length}
 use borrow.Author.Tests.{ltb-false}
-use Rattle.records.specs.declared.record.Answer.{Answer}
-use Rattle.records.specs.declared.record.Answer.the-variants.{Done, Refused}
+use Rattle.records.specs.declared.record.Decision.{Decision}
+use Rattle.records.specs.declared.record.Decision.the-variants.{Done, Refused}
 use Rattle.records.specs.Outcome.{Outcome, taken, refused, decide}
 use Rattle.records.specs.Sheet.{SheetValue, lineAt, sheetValue, sheetValueChecks}
 use Rattle.records.specs.Inner.{answered, Checked}
@@ -15,7 +15,7 @@ use Rattle.records.proofs.Lists.{taken-passed, length-listed}
 use Rattle.tesl.proofs.Tests.{T→≡}
 use Rattle.theory.proofs.Lists.{F→≡}
 use Rattle.judge.specs.declared.monitor.Monitor.{Monitor}
-use Rattle.judge.specs.Limits.{isTaken, sheetWithin, heldWithin, within, Limited}
+use Rattle.judge.specs.Limits.{isTaken, sheetWithin, heldWithin, monitorWithin, Limited}
 
 -- ---- the sheet
 
@@ -31,7 +31,7 @@ few : (v : SheetValue) (o : Outcome SheetValue) → decide (sheetValueChecks v) 
 few v (taken w) e t = ltb-false 16 (length (v .lines)) (taken-passed (sheetValueChecks v) e .0 .1 .0)
 few v (refused n) e t = let z : _≡_ {A = ℕ} 0 1 = cc in absurd (omega arith)
 
-module _ (m : Monitor) (a : Answer) (h : Checked (m .sheet) a) where
+module _ (m : Monitor) (a : Decision) (h : Checked (m .sheet) a) where
   pub sheet-kept : a ≡ Done → sheetWithin (sheetValue (m .sheet)) ≡ true
   unfolding sheetWithin
   sheet-kept e = done-taken (decide (sheetValueChecks (sheetValue (m .sheet))) (sheetValue (m .sheet))) (sym (h .answer) ∙ e)
@@ -45,7 +45,7 @@ module _ (m : Monitor) (a : Answer) (h : Checked (m .sheet) a) where
   -- ---- in turn
 
   pub within-not : {n : ℕ} → a ≡ Refused n → Limited m false
-  unfolding within sheetWithin
+  unfolding monitorWithin sheetWithin
   within-not e =
       let v = sheetValue (m .sheet) in
       record {
@@ -54,14 +54,14 @@ module _ (m : Monitor) (a : Answer) (h : Checked (m .sheet) a) where
       }
 
   pub within-many : a ≡ Done → 4000 < m .instants → Limited m false
-  unfolding within
+  unfolding monitorWithin
   within-many e k = record {
     answer = sym (rw (sheet-kept e, F→≡ (leb (m .instants) 4000) (not-T (leb (m .instants) 4000) (λ t. let l = leb→le (m .instants) 4000 t in omega arith))));
     value = λ z. h .value e;
   }
 
   pub within-held : {b : Bool} → a ≡ Done → m .instants ≤ 4000 → b ≡ heldWithin (sheetValue (m .sheet)) (m .instants) (m .held .count) (m .held .remainders) → Limited m b
-  unfolding within
+  unfolding monitorWithin
   within-held e k q = record {
     answer = q ∙ sym (rw (sheet-kept e, T→≡ (leb (m .instants) 4000) (le→leb (m .instants) 4000 k)));
     value = λ z. h .value e;

@@ -7,21 +7,21 @@ use native.Mathlib.Omega.{arith}
 use lib.Dec.{T}
 use lib.ListN.{length}
 use borrow.Author.Tests.{not-true, not-false}
-use Rattle.records.specs.declared.record.Answer.{Answer}
-use Rattle.records.specs.declared.record.Answer.the-variants.{Done, Refused}
+use Rattle.records.specs.declared.record.Decision.{Decision}
+use Rattle.records.specs.declared.record.Decision.the-variants.{Done, Refused}
 use Rattle.records.specs.declared.sheet.Sheet.{Sheet}
 use Rattle.records.specs.Sheet.{sheetValue}
 use Rattle.records.specs.Inner.{Checked}
 use Rattle.records.proofs.Lists.{both}
 use Rattle.tesl.proofs.Tests.{≡→T}
-use Rattle.judge.specs.declared.kept.Kept.{Kept}
+use Rattle.judge.specs.declared.progress.Progress.{Progress}
 use Rattle.judge.specs.declared.plan.Plan.{Plan}
 use Rattle.judge.specs.declared.live.Found.{Found}
-use Rattle.judge.specs.Limits.{within, Limited}
+use Rattle.judge.specs.Limits.{monitorWithin, Limited}
 use Rattle.judge.specs.Plan.{numbers, Preparing, PlanOf, Planned}
 use Rattle.judge.specs.Rows.{words, word}
 use Rattle.judge.specs.RowsLimits.{RowsWithin, TestingAll}
-use Rattle.judge.specs.State.{hasFormat, hasKinds, isSide, isState, stateSheet, stateKept, stateMonitor}
+use Rattle.judge.specs.State.{hasFormat, hasKinds, isSide, isState, stateSheet, stateProgress, stateMonitor}
 use Rattle.judge.specs.Live.{stateWithin}
 use Rattle.judge.specs.Found.{NothingFound, FoundIn}
 use Rattle.judge.proofs.monitor.Limits.{sheet-limits}
@@ -33,25 +33,25 @@ pub state-side : (w : List ℕ) → isState w ≡ true → T (isSide (word w 0 4
 unfolding isState
 state-side w e = ≡→T (both (isSide (word w 0 4)) (both (hasFormat w && hasKinds w) e .1) .0)
 
-module _ (w : List ℕ) (size : length w ≡ words) {k : Kept} (kept : k ≡ stateKept w) where
+module _ (w : List ℕ) (size : length w ≡ words) {k : Progress} (kept : k ≡ stateProgress w) where
   none : {f : Found} {lines : List ℕ} → NothingFound k f → stateWithin w ≡ false → FoundIn w f lines
   none n e = record {
     size = size;
     ok = n .ok ∙ sym e;
-    kept = n .kept ∙ kept;
+    progress = n .progress ∙ kept;
     plan = n .plan;
     ready = λ t. let y : false ≡ true = sym (n .ok) ∙ t in let z : _≡_ {A = ℕ} 0 1 = cc in absurd (omega arith);
   }
 
   pub found-none : {b : Bool} → b ≡ isState w → not b ≡ true → {f : Found} {lines : List ℕ} → NothingFound k f → FoundIn w f lines
   unfolding stateWithin
-  found-none {b} e t n = none n (ap (λ (x : Bool). x && within (stateMonitor w)) (sym e ∙ not-true b t))
+  found-none {b} e t n = none n (ap (λ (x : Bool). x && monitorWithin (stateMonitor w)) (sym e ∙ not-true b t))
 
   outside : Limited (stateMonitor w) false → {f : Found} {lines : List ℕ} → NothingFound k f → FoundIn w f lines
   unfolding stateWithin
   outside l n = none n (ap (λ (x : Bool). isState w && x) (sym (l .answer)) ∙ and-false (isState w))
 
-  module _ {s : Sheet} (sheet : s ≡ stateSheet w) {a : Answer} (checked : Checked s a) where
+  module _ {s : Sheet} (sheet : s ≡ stateSheet w) {a : Decision} (checked : Checked s a) where
     here : Checked (stateSheet w) a
     here = subst (λ (x : Sheet). Checked x a) sheet checked
 
@@ -69,19 +69,19 @@ module _ (w : List ℕ) (size : length w ≡ words) {k : Kept} (kept : k ≡ sta
 
       module _ {b : Bool} (state : b ≡ isState w) (is : not b ≡ false) {p : Plan} {lines : List ℕ} (plan : PlanOf s p lines) where
         pub found-tests : TestingAll (k .from) p
-        found-tests = record { side = subst (λ (x : Kept). x .from ≤ 39) (sym kept) (side-small (word w 0 4) (state-side w (sym state ∙ not-false b is))); plan = plan .fits }
+        found-tests = record { side = subst (λ (x : Progress). x .from ≤ 39) (sym kept) (side-small (word w 0 4) (state-side w (sym state ∙ not-false b is))); plan = plan .fits }
 
         planned : Planned (sheetValue (stateSheet w)) p lines
         planned = subst (λ (x : Sheet). Planned (sheetValue x) p lines) sheet (plan .planned)
 
-        pub found-held : {ok : Bool} → k .instants ≤ 4000 → RowsWithin p (k .instants) w (k .from) (k .count) ok → FoundIn w (record { ok = ok; kept = k; plan = p }) lines
+        pub found-held : {ok : Bool} → k .instants ≤ 4000 → RowsWithin p (k .instants) w (k .from) (k .count) ok → FoundIn w (record { ok = ok; progress = k; plan = p }) lines
         unfolding stateWithin
         found-held {ok} h r =
-            let l = within-held (stateMonitor w) a here {b = ok} done (subst (λ (x : Kept). x .instants ≤ 4000) kept h) (subst (λ (x : Kept). RowsWithin p (x .instants) w (x .from) (x .count) ok) kept r (sheetValue (stateSheet w)) lines planned) in
+            let l = within-held (stateMonitor w) a here {b = ok} done (subst (λ (x : Progress). x .instants ≤ 4000) kept h) (subst (λ (x : Progress). RowsWithin p (x .instants) w (x .from) (x .count) ok) kept r (sheetValue (stateSheet w)) lines planned) in
             record {
               size = size;
-              ok = l .answer ∙ ap (λ (x : Bool). x && within (stateMonitor w)) (sym (sym state ∙ not-false b is));
-              kept = kept;
+              ok = l .answer ∙ ap (λ (x : Bool). x && monitorWithin (stateMonitor w)) (sym (sym state ∙ not-false b is));
+              progress = kept;
               plan = plan .fits;
               ready = λ t. record { value = l .value t; planned = planned; limits = sym (l .answer) ∙ t };
             }

@@ -6,42 +6,42 @@ use Prim.Native.Nat.{ℕ, _+_, _-_, _≤_, _<_}
 use native.Mathlib.Omega.{arith}
 use lib.Dec.{T}
 use Rattle.records.proofs.Lists.{both}
-use Rattle.judge.specs.declared.held.Count.{Count}
-use Rattle.judge.specs.declared.held.Count.the-variants.{Exhausted, Live}
-use Rattle.judge.specs.declared.kept.Kept.{Kept}
+use Rattle.judge.specs.declared.held.Status.{Status}
+use Rattle.judge.specs.declared.held.Status.the-variants.{Exhausted, Live}
+use Rattle.judge.specs.declared.progress.Progress.{Progress}
 use Rattle.judge.specs.declared.plan.Plan.{Plan}
 use Rattle.judge.specs.View.{liveCount}
 use Rattle.judge.specs.Rows.{headRows, width, word}
-use Rattle.judge.specs.Settle.{foundIn, SmallIn}
+use Rattle.judge.specs.Apply.{foundIn, FewOwedIn}
 use Rattle.judge.specs.UnusedWords.{NothingBeside}
 use Rattle.judge.specs.Cleared.{Tidying, Tidied}
-use Rattle.judge.specs.State.{hasFormat, hasKinds, isSide, isState, FewIn, PuttingKept, PutKept}
+use Rattle.judge.specs.State.{hasFormat, hasKinds, isSide, isState, FewIn, PuttingProgress, PutProgress}
 use Rattle.judge.specs.Found.{KeepingNext, KeptNext}
-use Rattle.judge.proofs.kept.Laws.{other-side}
+use Rattle.judge.proofs.progress.Laws.{other-side}
 use Rattle.judge.proofs.unused.Sides.{SameRows, small-same, found-same, nothing-same}
 use Rattle.judge.proofs.state.Laws.{side-is}
 use Rattle.judge.proofs.state.Same.{sheet-beside, sheet-stays, state-stays}
 
-pub few-in : (c : Count) (rows : List ℕ) (from : ℕ) → SmallIn c rows from → FewIn c
+pub few-in : (c : Status) (rows : List ℕ) (from : ℕ) → FewOwedIn c rows from → FewIn c
 few-in Exhausted rows from s = tt
 few-in (Live n) rows from s = s .0
 
 -- nothing is beside those held, where the rows behind the head stay
-pub beside-same : {p : Plan} (count : Count) (from : ℕ) (a b : List ℕ) → headRows ≤ from → ((h q : ℕ) → headRows ≤ h → q < width → word b h q ≡ word a h q) → NothingBeside p count from a → NothingBeside p count from b
+pub beside-same : {p : Plan} (count : Status) (from : ℕ) (a b : List ℕ) → headRows ≤ from → ((h q : ℕ) → headRows ≤ h → q < width → word b h q ≡ word a h q) → NothingBeside p count from a → NothingBeside p count from b
 beside-same count from a b past same n = record {
   others = λ h q l m k f. same h q l k ∙ n .others h q l m k f;
   each = λ k l. nothing-same a b (from + k) (λ q m. same (from + k) q (omega arith) m) (n .each k l);
 }
 
-module _ (k next : Kept) (p : Plan) {a : List ℕ} (can : KeepingNext a k next p) where
+module _ (k next : Progress) (p : Plan) {a : List ℕ} (can : KeepingNext a k next p) where
   pub can-tidy : Tidying a (k .from) (k .count) (next .count) p
-  can-tidy = record { side = can .side; held = can .held; small = subst (SmallIn (next .count) a) (can .to) (can .small); plan = can .plan }
+  can-tidy = record { side = can .side; held = can .held; small = subst (FewOwedIn (next .count) a) (can .to) (can .small); plan = can .plan }
 
   module _ {c : List ℕ} (t : Tidied p (k .from) (k .count) (next .count) a c) where
-    small : SmallIn (next .count) c (next .from)
-    small = subst (SmallIn (next .count) c) (sym (can .to)) (t .small)
+    small : FewOwedIn (next .count) c (next .from)
+    small = subst (FewOwedIn (next .count) c) (sym (can .to)) (t .small)
 
-    pub can-put : PuttingKept c next
+    pub can-put : PuttingProgress c next
     can-put = record {
       size = t .size ∙ can .size;
       instants = can .instants;
@@ -49,7 +49,7 @@ module _ (k next : Kept) (p : Plan) {a : List ℕ} (can : KeepingNext a k next p
       side = subst (λ (n : ℕ). T (isSide n)) (sym (can .to)) (side-is (45 - k .from) (other-side (can .side)));
     }
 
-    module _ {b : List ℕ} (q : PutKept next c b) where
+    module _ {b : List ℕ} (q : PutProgress next c b) where
       -- the rows behind the head
       behind : (h j : ℕ) → 6 ≤ h → j < width → word b h j ≡ word c h j
       behind h j l m = q .stays .same h j m (λ e x y. omega arith)
@@ -69,7 +69,7 @@ module _ (k next : Kept) (p : Plan) {a : List ℕ} (can : KeepingNext a k next p
         head = λ h j l m f. q .stays .same h j m f ∙ t .head h j l m;
         state = state;
         sheet = sheet-beside c b (q .stays) ∙ sheet-stays a c (t .head);
-        kept = q .kept;
+        progress = q .progress;
         gap = q .gap ∙ t .head 0 7 (omega arith) (omega arith);
         live = q .live;
         raw = q .raw;

@@ -19,27 +19,27 @@ use Rattle.tesl.specs.Remainder.{Remainder}
 use Rattle.judge.specs.declared.answer.Answer as code
 use Rattle.judge.specs.declared.answer.Reply.the-variants.{Answered, Refused}
 use Rattle.judge.specs.declared.held.Held.{Held}
-use Rattle.judge.specs.declared.kept.Kept.{Kept}
-use Rattle.judge.specs.declared.kept.Told.{Told}
+use Rattle.judge.specs.declared.progress.Progress.{Progress}
+use Rattle.judge.specs.declared.progress.InstantResult.{InstantResult}
 use Rattle.judge.specs.declared.live.Found.{Found}
 use Rattle.judge.specs.declared.live.Replied.{Replied}
 use Rattle.judge.specs.declared.monitor.Monitor.{Monitor}
-use Rattle.judge.specs.declared.monitor.Given.{Given}
+use Rattle.judge.specs.declared.monitor.CallResult.{CallResult}
 use Rattle.judge.specs.View.{liveCount, heldOf, sized}
 use Rattle.judge.specs.Answer.{replyOf, saidBy}
-use Rattle.judge.specs.Limits.{within}
+use Rattle.judge.specs.Limits.{monitorWithin}
 use Rattle.judge.specs.Plan.{Planned}
 use Rattle.judge.specs.Rows.{word, HeadStays}
 use Rattle.judge.specs.UnusedWords.{NothingBeside}
-use Rattle.judge.specs.Settle.{Side, SmallIn}
+use Rattle.judge.specs.Apply.{Side, FewOwedIn}
 use Rattle.judge.specs.Fill.{Working}
-use Rattle.judge.specs.Kept.{rowsHeld, keptMonitor, given, Ready, Takes}
+use Rattle.judge.specs.Progress.{rowsHeld, rowsMonitor, given, Ready, Takes}
 use Rattle.judge.specs.Promises.{observes, Accepted, Called}
-use Rattle.judge.specs.State.{isState, stateSheet, stateCount, stateKept, stateMonitor}
+use Rattle.judge.specs.State.{isState, stateSheet, stateCount, stateProgress, stateMonitor}
 use Rattle.judge.specs.UnusedState.{KeepsNothingIn}
 use Rattle.judge.specs.Live.{stateWithin, instantsIn, observesIn, ObservedIn}
 use Rattle.judge.specs.Found.{FoundIn, KeepingNext, KeptNext}
-use Rattle.judge.proofs.kept.Laws.{held-rows, small-rows, sized-rows, within-same, follows-same}
+use Rattle.judge.proofs.progress.Laws.{held-rows, small-rows, sized-rows, within-same, follows-same}
 use Rattle.judge.proofs.monitor.Limits.{limits-of}
 use Rattle.judge.proofs.monitor.InRows.{answered-refused}
 use Rattle.judge.proofs.unused.Sides.{few-live}
@@ -48,8 +48,8 @@ use Rattle.judge.proofs.state.Same.{sheet-stays, state-stays}
 use Rattle.judge.proofs.live.Finding.{state-side}
 use Rattle.judge.proofs.live.Unused.{beside-in, keeps-on}
 
-abbrev pub replied : Told → Replied
-replied t = record { reply = t .reply; instants = t .kept .instants }
+abbrev pub replied : InstantResult → Replied
+replied t = record { reply = t .reply; instants = t .progress .instants }
 
 -- ---- what a state is
 module _ (w : List ℕ) where
@@ -57,7 +57,7 @@ module _ (w : List ℕ) where
   unfolding stateWithin
   is-state e = both (isState w) e .0
 
-  pub instants-held : stateWithin w ≡ true → instantsIn w ≡ stateKept w .instants
+  pub instants-held : stateWithin w ≡ true → instantsIn w ≡ stateProgress w .instants
   unfolding instantsIn
   instants-held e = rw e
 
@@ -76,7 +76,7 @@ module _ (w : List ℕ) where
     where
       by-state : (b : Bool) → isState w ≡ b → observesIn w bytes ≡ refused 11
       by-state false e = rw e
-      by-state true e = let o : within (stateMonitor w) ≡ false = ap (λ (x : Bool). x && within (stateMonitor w)) (sym e) ∙ f in rw (e, o)
+      by-state true e = let o : monitorWithin (stateMonitor w) ≡ false = ap (λ (x : Bool). x && monitorWithin (stateMonitor w)) (sym e) ∙ f in rw (e, o)
 
 module _ {w : List ℕ} {f : Found} {lines : List ℕ} (found : FoundIn w f lines) where
   -- ---- none is found
@@ -98,36 +98,36 @@ module _ {w : List ℕ} {f : Found} {lines : List ℕ} (found : FoundIn w f line
     pub one-within : stateWithin w ≡ true
     one-within = sym (found .ok) ∙ not-false (f .ok) is
 
-    pub ready : Ready (stateSheet w) (stateKept w) (f .plan) lines w
+    pub ready : Ready (stateSheet w) (stateProgress w) (f .plan) lines w
     ready = found .ready (not-false (f .ok) is)
 
-    pub side : Side (stateKept w .from)
+    pub side : Side (stateProgress w .from)
     side = side-of (word w 0 4) (state-side w (is-state w one-within))
 
-    pub small : SmallIn (stateKept w .count) w (stateKept w .from)
+    pub small : FewOwedIn (stateProgress w .count) w (stateProgress w .from)
     small = small-rows w (word w 0 4) (stateCount w) (limits-of (stateMonitor w) (ready .value) (ready .limits) .fits)
 
-    pub room : {list : List Bool} → length list ≡ 2048 → Working w (f .kept .from) (f .kept .count) (f .plan) list
-    room {list} lists = subst (λ (k : Kept). Working w (k .from) (k .count) (f .plan) list) (sym (found .kept)) (record { size = found .size; side = side; small = small; plan = found .plan; lists = lists })
+    pub room : {list : List Bool} → length list ≡ 2048 → Working w (f .progress .from) (f .progress .count) (f .plan) list
+    room {list} lists = subst (λ (k : Progress). Working w (k .from) (k .count) (f .plan) list) (sym (found .progress)) (record { size = found .size; side = side; small = small; plan = found .plan; lists = lists })
 
-    module _ {bytes : List ℕ} {t : Told} {m : List ℕ} {list : List Bool} (takes : Takes (f .kept) (f .plan) bytes lines t w m list) where
+    module _ {bytes : List ℕ} {t : InstantResult} {m : List ℕ} {list : List Bool} (takes : Takes (f .progress) (f .plan) bytes lines t w m list) where
       abbrev s : Sheet
       s = stateSheet w
 
-      abbrev next : Kept
-      next = t .kept
+      abbrev next : Progress
+      next = t .progress
 
-      ready-kept : Ready (stateSheet w) (f .kept) (f .plan) lines w
-      ready-kept = subst (λ (k : Kept). Ready (stateSheet w) k (f .plan) lines w) (sym (found .kept)) ready
+      ready-kept : Ready (stateSheet w) (f .progress) (f .plan) lines w
+      ready-kept = subst (λ (k : Progress). Ready (stateSheet w) k (f .plan) lines w) (sym (found .progress)) ready
 
-      called : Called (stateMonitor w) bytes (given (t .reply) (keptMonitor (stateSheet w) (t .kept) m))
-      called = subst (λ (k : Kept). Called (keptMonitor (stateSheet w) k w) bytes (given (t .reply) (keptMonitor (stateSheet w) (t .kept) m))) (found .kept) (takes .called (stateSheet w) ready-kept)
+      called : Called (stateMonitor w) bytes (given (t .reply) (rowsMonitor (stateSheet w) (t .progress) m))
+      called = subst (λ (k : Progress). Called (rowsMonitor (stateSheet w) k w) bytes (given (t .reply) (rowsMonitor (stateSheet w) (t .progress) m))) (found .progress) (takes .called (stateSheet w) ready-kept)
 
       call : observesIn w bytes ≡ observes (stateMonitor w) bytes
       call = taken-for w (is-state w one-within) bytes
 
       refuses : {n : ℕ} → observesIn w bytes ≡ refused n → t .reply ≡ Refused n
-      refuses {n} e = ap (λ (g : Given). g .reply) (called .refuses n (sym call ∙ e))
+      refuses {n} e = ap (λ (g : CallResult). g .reply) (called .refuses n (sym call ∙ e))
 
       -- refused, no word changes
       pub observed-refused : {n : ℕ} → t .reply ≡ Refused n → ObservedIn bytes (replied t) w m
@@ -137,29 +137,29 @@ module _ {w : List ℕ} {f : Found} {lines : List ℕ} (found : FoundIn w f line
             refuses = λ j e. (refuses e, k .1);
             accepts = λ i e. refused-taken (ap replyOf (sym p) ∙ called .accepts i (sym call ∙ e) .answers);
             unused = λ i e n. refused-taken (ap replyOf (sym p) ∙ called .accepts i (sym call ∙ e) .answers);
-            instants = ap (λ (x : Kept). x .instants) (k .0 ∙ found .kept) ∙ sym (instants-held w one-within) ∙ ap instantsIn (sym (k .1));
+            instants = ap (λ (x : Progress). x .instants) (k .0 ∙ found .progress) ∙ sym (instants-held w one-within) ∙ ap instantsIn (sym (k .1));
           }
 
       -- answered, the monitor after it is stored
       module _ {x : code.Answer} (q : t .reply ≡ Answered x) where
-        after : Ready (stateSheet w) (t .kept) (f .plan) lines m
+        after : Ready (stateSheet w) (t .progress) (f .plan) lines m
         after = takes .ready (stateSheet w) ready-kept
 
-        pub keeping : KeepingNext m (f .kept) (t .kept) (f .plan)
+        pub keeping : KeepingNext m (f .progress) (t .progress) (f .plan)
         keeping = record {
           size = takes .room .size;
-          side = subst (λ (k : Kept). Side (k .from)) (sym (found .kept)) side;
+          side = subst (λ (k : Progress). Side (k .from)) (sym (found .progress)) side;
           to = takes .moved x q .to;
-          held = subst (λ (k : Kept). liveCount (k .count) ≤ 32) (sym (found .kept)) (few-live (stateCount w) w (word w 0 4) small);
+          held = subst (λ (k : Progress). liveCount (k .count) ≤ 32) (sym (found .progress)) (few-live (stateCount w) w (word w 0 4) small);
           small = takes .room .small;
           plan = found .plan;
-          instants = limits-of (keptMonitor (stateSheet w) (t .kept) m) (after .value) (after .limits) .instants;
+          instants = limits-of (rowsMonitor (stateSheet w) (t .progress) m) (after .value) (after .limits) .instants;
         }
 
         head : HeadStays w m
         head h j l k = takes .moved x q .stays .same h j k (λ y z. omega (arith, keeping .side .past))
 
-        module _ {b : List ℕ} (kept : KeptNext (f .plan) (f .kept) (t .kept) m b) where
+        module _ {b : List ℕ} (kept : KeptNext (f .plan) (f .progress) (t .progress) m b) where
           sheet-after : stateSheet b ≡ stateSheet w
           sheet-after = kept .sheet ∙ sheet-stays w m head
 
@@ -167,7 +167,7 @@ module _ {w : List ℕ} {f : Found} {lines : List ℕ} (found : FoundIn w f line
           state-after = kept .state (state-stays w m head ∙ is-state w one-within)
 
           abbrev inRows : List ℕ → Held
-          inRows rows = rowsHeld (t .kept .count) rows (t .kept .from)
+          inRows rows = rowsHeld (t .progress .count) rows (t .progress .from)
 
           same : heldOf (sheetValue (stateSheet w)) (inRows b) ≡ heldOf (sheetValue (stateSheet w)) (inRows m)
           same =
@@ -178,13 +178,13 @@ module _ {w : List ℕ} {f : Found} {lines : List ℕ} (found : FoundIn w f line
           fits : T (sized (inRows b))
           fits = sized-rows b (next .from) (next .count) (kept .small)
 
-          monitor-after : stateMonitor b ≡ keptMonitor (stateSheet w) (t .kept) b
-          monitor-after = ap₂ (λ (y : Sheet) (k : Kept). keptMonitor y k b) sheet-after (kept .kept)
+          monitor-after : stateMonitor b ≡ rowsMonitor (stateSheet w) (t .progress) b
+          monitor-after = ap₂ (λ (y : Sheet) (k : Progress). rowsMonitor y k b) sheet-after (kept .progress)
 
-          limits-after : within (keptMonitor (stateSheet w) (t .kept) b) ≡ true
+          limits-after : monitorWithin (rowsMonitor (stateSheet w) (t .progress) b) ≡ true
           limits-after = within-same s (next .instants) (next .tags) (inRows m) (inRows b) same fits (after .limits)
 
-          accepted : {i : Instant} → Accepted (stateMonitor w) i (given (t .reply) (keptMonitor (stateSheet w) (t .kept) m)) → Accepted (stateMonitor w) i (given (t .reply) (keptMonitor (stateSheet w) (t .kept) b))
+          accepted : {i : Instant} → Accepted (stateMonitor w) i (given (t .reply) (rowsMonitor (stateSheet w) (t .progress) m)) → Accepted (stateMonitor w) i (given (t .reply) (rowsMonitor (stateSheet w) (t .progress) b))
           accepted a = record {
             answers = a .answers ∙ ap (λ (h : Option (List Remainder)). taken (saidBy h)) (sym same);
             limits = limits-after;
@@ -193,7 +193,7 @@ module _ {w : List ℕ} {f : Found} {lines : List ℕ} (found : FoundIn w f line
 
           within-after : stateWithin b ≡ true
           unfolding stateWithin
-          within-after = ap₂ _&&_ state-after (ap within monitor-after ∙ limits-after)
+          within-after = ap₂ _&&_ state-after (ap monitorWithin monitor-after ∙ limits-after)
 
           planned-after : Planned (sheetValue (stateSheet b)) (f .plan) lines
           planned-after = subst (λ (y : Sheet). Planned (sheetValue y) (f .plan) lines) (sym sheet-after) (after .planned)
@@ -201,11 +201,11 @@ module _ {w : List ℕ} {f : Found} {lines : List ℕ} (found : FoundIn w f line
           keeps : KeepsNothingIn w → KeepsNothingIn b
           keeps n =
               keeps-on b planned-after
-              (subst (λ (k : Kept). NothingBeside (f .plan) (k .count) (k .from) b) (sym (kept .kept))
-              (kept .nothing w (subst (λ (k : Kept). NothingBeside (f .plan) (k .count) (k .from) w) (sym (found .kept)) (beside-in w (ready .planned) n)) (takes .moved x q .stays)))
-              (kept .live ∙ ap (λ (k : Kept). liveCount (k .count)) (sym (kept .kept)))
-              (λ j l. kept .raw j l ∙ ap (λ (k : Kept). rawOf (getD (k .tags) j (pos 0))) (sym (kept .kept)))
-              (λ j l. ap (λ (k : Kept). getD (k .tags) j (pos 0)) (kept .kept) ∙ takes .tags (stateSheet w) ready-kept x q j (subst (λ (y : Sheet). y .clocks ≤ j) sheet-after l))
+              (subst (λ (k : Progress). NothingBeside (f .plan) (k .count) (k .from) b) (sym (kept .progress))
+              (kept .nothing w (subst (λ (k : Progress). NothingBeside (f .plan) (k .count) (k .from) w) (sym (found .progress)) (beside-in w (ready .planned) n)) (takes .moved x q .stays)))
+              (kept .live ∙ ap (λ (k : Progress). liveCount (k .count)) (sym (kept .progress)))
+              (λ j l. kept .raw j l ∙ ap (λ (k : Progress). rawOf (getD (k .tags) j (pos 0))) (sym (kept .progress)))
+              (λ j l. ap (λ (k : Progress). getD (k .tags) j (pos 0)) (kept .progress) ∙ takes .tags (stateSheet w) ready-kept x q j (subst (λ (y : Sheet). y .clocks ≤ j) sheet-after l))
               w sheet-after (λ h j l m g. kept .head h j l m g ∙ head h j l m) (kept .gap ∙ head 0 7 (omega arith) (omega arith)) n
 
           pub observed-answered : ObservedIn bytes (replied t) w b
@@ -213,5 +213,5 @@ module _ {w : List ℕ} {f : Found} {lines : List ℕ} (found : FoundIn w f line
             refuses = λ n e. answered-refused (sym q ∙ refuses e);
             accepts = λ i e. (state-after, subst (λ (y : Monitor). Accepted (stateMonitor w) i (given (t .reply) y)) (sym monitor-after) (accepted (called .accepts i (sym call ∙ e))));
             unused = λ i e n. keeps n;
-            instants = ap (λ (k : Kept). k .instants) (sym (kept .kept)) ∙ sym (instants-held b within-after);
+            instants = ap (λ (k : Progress). k .instants) (sym (kept .progress)) ∙ sym (instants-held b within-after);
           }

@@ -5,7 +5,7 @@ use Prim.Native.Nat.{ℕ, _+_, _≤_, _<_}
 use native.Mathlib.Omega.{arith}
 use lib.IntN.{pos}
 use lib.ListN.{length, getD}
-use Rattle.records.specs.declared.record.Answer.the-variants as told
+use Rattle.records.specs.declared.record.Decision.the-variants as told
 use Rattle.records.specs.declared.sheet.Sheet.{Sheet}
 use Rattle.records.specs.declared.sheet.SheetRead.{SheetRead}
 use Rattle.records.specs.Outcome.{Outcome, taken, refused}
@@ -16,25 +16,25 @@ use Rattle.records.proofs.Lists.{refused-taken}
 use Rattle.records.proofs.sheet.RoundTrip.{sheetOf-value}
 use Rattle.judge.specs.declared.answer.Answer as code
 use Rattle.judge.specs.declared.answer.Reply.the-variants.{Answered, Refused}
-use Rattle.judge.specs.declared.held.Count.the-variants.{Live}
+use Rattle.judge.specs.declared.held.Status.the-variants.{Live}
 use Rattle.judge.specs.declared.held.Held.{Held}
-use Rattle.judge.specs.declared.kept.Kept.{Kept}
+use Rattle.judge.specs.declared.progress.Progress.{Progress}
 use Rattle.judge.specs.declared.plan.Plan.{Plan}
 use Rattle.judge.specs.View.{liveCount, heldOf}
 use Rattle.judge.specs.Answer.{answerOf, saidBy}
-use Rattle.judge.specs.Plan.{Fitting, Planned, PlanOf}
+use Rattle.judge.specs.Plan.{PlanFits, Planned, PlanOf}
 use Rattle.judge.specs.Rows.{width, words, headRows, word}
-use Rattle.judge.specs.Settle.{foundIn, SmallIn}
+use Rattle.judge.specs.Apply.{foundIn, FewOwedIn}
 use Rattle.judge.specs.Start.{BlankRow, BegunRows}
 use Rattle.judge.specs.UnusedWords.{NothingBeside}
 use Rattle.judge.specs.Cleared.{ClearedRows, Holding, ClearedBeside}
-use Rattle.judge.specs.Kept.{keptFirst, rowsHeld, keptMonitor}
+use Rattle.judge.specs.Progress.{firstProgress, rowsHeld, rowsMonitor}
 use Rattle.judge.specs.Promises.{Follows}
-use Rattle.judge.specs.State.{stateSheet, stateKept, PutFormat, PuttingKept, PutKept, PutSheet}
+use Rattle.judge.specs.State.{stateSheet, stateProgress, PutFormat, PuttingProgress, PutProgress, PutSheet}
 use Rattle.judge.specs.UnusedState.{KeepsNothingIn}
 use Rattle.judge.specs.Live.{FollowsIn, OpenedIn}
 use Rattle.judge.proofs.rows.Placing.{blank-at}
-use Rattle.judge.proofs.kept.Laws.{held-rows, sized-rows, follows-same}
+use Rattle.judge.proofs.progress.Laws.{held-rows, sized-rows, follows-same}
 use Rattle.judge.proofs.monitor.Opened.{follows-begun}
 use Rattle.judge.proofs.unused.Sides.{SameRows, small-same, found-same}
 use Rattle.judge.proofs.state.Words.{words-same}
@@ -50,14 +50,14 @@ refused-done e = let z : _≡_ {A = ℕ} 0 1 = cc in absurd (omega arith)
 pub blank-row : {a z : List ℕ} → length a ≡ words → ClearedRows 0 7 a z → BlankRow z headRows
 blank-row size zero = record { size = zero .stays .size ∙ size; blank = λ p h. zero .zero 6 p (omega arith) (omega arith) h }
 
-pub one-held : {p : Plan} {v : SheetValue} {z g : List ℕ} → Fitting p → BegunRows v z g → Holding g headRows (Live 1) p
+pub one-held : {p : Plan} {v : SheetValue} {z g : List ℕ} → PlanFits p → BegunRows v z g → Holding g headRows (Live 1) p
 one-held fits begun = record {
   side = record { one = omega arith; other = omega arith; past = omega arith; apart = λ k l h j e. omega arith };
   small = begun .small;
   plan = fits;
 }
 
-pub first-put : {k : Kept} {h : List ℕ} → k ≡ keptFirst → length h ≡ words → PuttingKept h k
+pub first-put : {k : Progress} {h : List ℕ} → k ≡ firstProgress → length h ≡ words → PuttingProgress h k
 first-put e size = rw e (record { size = size; instants = omega arith; few = omega arith; side = tt })
 
 -- ---- what was read
@@ -73,7 +73,7 @@ module _ (bytes : List ℕ) (x : SheetRead) (e : x ≡ sheetRead (readSheet byte
   sheet-read {v} f = ap (λ (z : SheetRead). sheetValue (z .sheet)) (e ∙ ap sheetRead f) ∙ sheetOf-value v
 
   -- ---- stored in turn
-  module _ {p : Plan} {lines a z g d f h b : List ℕ} (plan : PlanOf (x .sheet) p lines) (zero : ClearedRows 0 7 a z) (begun : BegunRows (sheetValue (x .sheet)) z g) (cleared : ClearedBeside p headRows (Live 1) g d) (format : PutFormat d f) (sheet : PutSheet (x .sheet) f h) {k : Kept} (first : k ≡ keptFirst) (put : PutKept k h b) where
+  module _ {p : Plan} {lines a z g d f h b : List ℕ} (plan : PlanOf (x .sheet) p lines) (zero : ClearedRows 0 7 a z) (begun : BegunRows (sheetValue (x .sheet)) z g) (cleared : ClearedBeside p headRows (Live 1) g d) (format : PutFormat d f) (sheet : PutSheet (x .sheet) f h) {k : Progress} (first : k ≡ firstProgress) (put : PutProgress k h b) where
     -- the rows behind the head
     behind : (i j : ℕ) → 6 ≤ i → j < width → word b i j ≡ word d i j
     behind i j l m =
@@ -84,7 +84,7 @@ module _ (bytes : List ℕ) (x : SheetRead) (e : x ≡ sheetRead (readSheet byte
     same-rows : SameRows d b headRows 1
     same-rows i j l m = behind (6 + i) j (omega arith) m
 
-    pub small-opened : SmallIn (Live 1) b headRows
+    pub small-opened : FewOwedIn (Live 1) b headRows
     small-opened = small-same d b headRows (Live 1) same-rows (cleared .small)
 
     abbrev first-in : List ℕ → Held
@@ -101,19 +101,19 @@ module _ (bytes : List ℕ) (x : SheetRead) (e : x ≡ sheetRead (readSheet byte
         let v = sheetValue (stateSheet b) in
         held-rows b headRows v (Live 1) ∙ found-same d b headRows (Live 1) same-rows (cleared .small) v ∙ cleared .held v lines planned ∙ sym (held-rows g headRows v (Live 1))
 
-    kept-first : stateKept b ≡ keptFirst
-    kept-first = put .kept ∙ first
+    kept-first : stateProgress b ≡ firstProgress
+    kept-first = put .progress ∙ first
 
     module _ (is : IsBytes bytes) {v : SheetValue} (r : readSheet bytes ≡ taken v) where
-      follows : Follows v [] (keptMonitor (stateSheet b) keptFirst b)
+      follows : Follows v [] (rowsMonitor (stateSheet b) firstProgress b)
       follows =
-          follows-same (stateSheet b) 0 (keptFirst .tags) (first-in g) (first-in b) same (sized-rows b headRows (Live 1) small-opened)
+          follows-same (stateSheet b) 0 (firstProgress .tags) (first-in g) (first-in b) same (sized-rows b headRows (Live 1) small-opened)
           (follows-begun bytes is v r (stateSheet b) (value ∙ sheet-read r) (subst (λ (y : SheetValue). BegunRows y z g) (sym value) begun))
 
       follows-opened : FollowsIn v [] b
       follows-opened = record {
         state = state-made sheet put format;
-        follows = subst (λ (y : Kept). Follows v [] (keptMonitor (stateSheet b) y b)) (sym kept-first) follows;
+        follows = subst (λ (y : Progress). Follows v [] (rowsMonitor (stateSheet b) y b)) (sym kept-first) follows;
       }
 
     -- the words of the head before the format, the sheet and the monitor were stored
@@ -127,10 +127,10 @@ module _ (bytes : List ℕ) (x : SheetRead) (e : x ≡ sheetRead (readSheet byte
     keeps : KeepsNothingIn b
     keeps =
         keeps-made b planned
-        (subst (λ (y : Kept). NothingBeside p (y .count) (y .from) b) (sym kept-first) (beside-same (Live 1) headRows d b (omega arith) behind (cleared .nothing)))
-        (put .live ∙ ap (λ (y : Kept). liveCount (y .count)) (sym (put .kept)))
-        (λ j l. put .raw j l ∙ ap (λ (y : Kept). rawOf (getD (y .tags) j (pos 0))) (sym (put .kept)))
-        (λ j l. ap (λ (y : Kept). getD (y .tags) j (pos 0)) kept-first ∙ blank-at (pos 0) 8 j)
+        (subst (λ (y : Progress). NothingBeside p (y .count) (y .from) b) (sym kept-first) (beside-same (Live 1) headRows d b (omega arith) behind (cleared .nothing)))
+        (put .live ∙ ap (λ (y : Progress). liveCount (y .count)) (sym (put .progress)))
+        (λ j l. put .raw j l ∙ ap (λ (y : Progress). rawOf (getD (y .tags) j (pos 0))) (sym (put .progress)))
+        (λ j l. ap (λ (y : Progress). getD (y .tags) j (pos 0)) kept-first ∙ blank-at (pos 0) 8 j)
         (λ j l m. words-same h b (λ i q u w y. put .stays .same i q y (λ n s t. omega arith)) j m ∙ sheet .unused j (omega (arith, sheet .count, ap (λ (y : Sheet). y .count) (sheet-beside h b (put .stays)))) m)
         (put .gap ∙ blank-top 7 (omega arith) (omega arith))
         (λ j l m. put .stays .same 0 j m (λ y u w. omega arith) ∙ blank-top j (omega arith) m)

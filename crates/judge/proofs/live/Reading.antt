@@ -9,20 +9,20 @@ use Rattle.records.specs.Outcome.{taken}
 use Rattle.records.specs.Sheet.{SheetValue, sheetValue, sheetOf}
 use Rattle.judge.specs.declared.answer.Answer as code
 use Rattle.judge.specs.declared.answer.Reply.the-variants.{Answered, Refused}
-use Rattle.judge.specs.declared.kept.Kept.{Kept}
+use Rattle.judge.specs.declared.progress.Progress.{Progress}
 use Rattle.judge.specs.declared.live.Found.{Found}
 use Rattle.judge.specs.declared.monitor.Monitor.{Monitor}
-use Rattle.judge.specs.declared.monitor.Given.{Given}
+use Rattle.judge.specs.declared.monitor.CallResult.{CallResult}
 use Rattle.judge.specs.Answer.{answerOf, replyOf, saidBy}
-use Rattle.judge.specs.Settle.{foundIn, SmallIn}
+use Rattle.judge.specs.Apply.{foundIn, FewOwedIn}
 use Rattle.judge.specs.Stored.{FindingRows, FromRows}
 use Rattle.judge.specs.Monitor.{heldBy, blankMonitor, noMonitor, refusal}
-use Rattle.judge.specs.Kept.{given, readBack, ReadBack}
+use Rattle.judge.specs.Progress.{given, readBack, ReadBack}
 use Rattle.judge.specs.Promises.{Follows}
-use Rattle.judge.specs.State.{stateSheet, stateCount, stateKept, stateMonitor}
+use Rattle.judge.specs.State.{stateSheet, stateCount, stateProgress, stateMonitor}
 use Rattle.judge.specs.Live.{stateWithin, FollowsIn, SaidIn, GivenIn}
 use Rattle.judge.specs.Found.{FoundIn}
-use Rattle.judge.proofs.kept.Laws.{held-rows, same-back, within-back, follows-back}
+use Rattle.judge.proofs.progress.Laws.{held-rows, same-back, within-back, follows-back}
 use Rattle.judge.proofs.live.Observing.{none-within, one-within, ready, side, small, instants-held, no-instants}
 
 false-true : {X : Type 0} → false ≡ true → X
@@ -36,7 +36,7 @@ module _ {w : List ℕ} {f : Found} {lines : List ℕ} (found : FoundIn w f line
     instants = sym (no-instants w (none-within found out));
   }
 
-  pub given-none : not (f .ok) ≡ true → {s : Sheet} {m : Monitor} {r : Given} → s ≡ sheetOf (record { clocks = 0; lines = [] }) → m ≡ blankMonitor s → r ≡ refusal 11 m → GivenIn r w
+  pub given-none : not (f .ok) ≡ true → {s : Sheet} {m : Monitor} {r : CallResult} → s ≡ sheetOf (record { clocks = 0; lines = [] }) → m ≡ blankMonitor s → r ≡ refusal 11 m → GivenIn r w
   unfolding noMonitor stateWithin
   given-none out a b c = record {
     outside = λ e. c ∙ ap (refusal 11) (b ∙ ap blankMonitor a);
@@ -47,35 +47,35 @@ module _ {w : List ℕ} {f : Found} {lines : List ℕ} (found : FoundIn w f line
   }
 
   module _ (is : not (f .ok) ≡ false) where
-    pub can-say : (f .kept .from ≤ 39) × SmallIn (f .kept .count) w (f .kept .from)
-    can-say = subst (λ (k : Kept). (k .from ≤ 39) × SmallIn (k .count) w (k .from)) (sym (found .kept)) (side found is .one, small found is)
+    pub can-say : (f .progress .from ≤ 39) × FewOwedIn (f .progress .count) w (f .progress .from)
+    can-say = subst (λ (k : Progress). (k .from ≤ 39) × FewOwedIn (k .count) w (k .from)) (sym (found .progress)) (side found is .one, small found is)
 
-    pub can-read : FindingRows w (f .kept .count) (f .kept .from) (f .plan)
+    pub can-read : FindingRows w (f .progress .count) (f .progress .from) (f .plan)
     can-read = record { side = can-say .0; small = can-say .1; plan = found .plan }
 
     abbrev Says : code.Answer → Type 0
-    Says y = (v : SheetValue) → answerOf y ≡ saidBy (foundIn v (f .kept .count) w (f .kept .from))
+    Says y = (v : SheetValue) → answerOf y ≡ saidBy (foundIn v (f .progress .count) w (f .progress .from))
 
     said : (y : code.Answer) → Says y → replyOf (Answered y) ≡ taken (saidBy (heldBy (stateMonitor w)))
     said y says =
         let v = sheetValue (stateSheet w) in
-        let k = stateKept w in
-        ap taken (subst (λ (x : Kept). answerOf y ≡ saidBy (foundIn v (x .count) w (x .from))) (found .kept) (says v) ∙ ap saidBy (sym (held-rows w (k .from) v (k .count))))
+        let k = stateProgress w in
+        ap taken (subst (λ (x : Progress). answerOf y ≡ saidBy (foundIn v (x .count) w (x .from))) (found .progress) (says v) ∙ ap saidBy (sym (held-rows w (k .from) v (k .count))))
 
-    pub said-one : {y : code.Answer} → Says y → SaidIn (record { reply = Answered y; instants = f .kept .instants }) w
+    pub said-one : {y : code.Answer} → Says y → SaidIn (record { reply = Answered y; instants = f .progress .instants }) w
     said-one {y} says = record {
       outside = λ e. false-true (sym e ∙ one-within found is);
       inside = λ e. said y says;
-      instants = ap (λ (k : Kept). k .instants) (found .kept) ∙ sym (instants-held w (one-within found is));
+      instants = ap (λ (k : Progress). k .instants) (found .progress) ∙ sym (instants-held w (one-within found is));
     }
 
     -- read back
-    module _ {s : Sheet} (e : s ≡ stateSheet w) {m : Monitor} (read : ReadBack s (f .kept) (f .plan) m w) where
-      back : FromRows (f .plan) (stateKept w .count) (stateKept w .from) (m .held .remainders) w
-      back = subst (λ (k : Kept). FromRows (f .plan) (k .count) (k .from) (m .held .remainders) w) (found .kept) (read .found)
+    module _ {s : Sheet} (e : s ≡ stateSheet w) {m : Monitor} (read : ReadBack s (f .progress) (f .plan) m w) where
+      back : FromRows (f .plan) (stateProgress w .count) (stateProgress w .from) (m .held .remainders) w
+      back = subst (λ (k : Progress). FromRows (f .plan) (k .count) (k .from) (m .held .remainders) w) (found .progress) (read .found)
 
-      same : m ≡ readBack (stateSheet w) (stateKept w) (m .held .remainders)
-      same = read .same ∙ ap₂ (λ (a : Sheet) (k : Kept). readBack a k (m .held .remainders)) e (found .kept)
+      same : m ≡ readBack (stateSheet w) (stateProgress w) (m .held .remainders)
+      same = read .same ∙ ap₂ (λ (a : Sheet) (k : Progress). readBack a k (m .held .remainders)) e (found .progress)
 
       pub given-one : {y : code.Answer} → Says y → GivenIn (given (Answered y) m) w
       given-one {y} says =

@@ -14,7 +14,7 @@ use Rattle.judge.specs.Unused.{BlankFrom}
 use Rattle.judge.specs.Plan.{Planned}
 use Rattle.judge.specs.Rows.{width, headRows, word}
 use Rattle.judge.specs.UnusedWords.{NothingInRow, NothingBeside}
-use Rattle.judge.specs.State.{stateWords, stateSheet, stateKept, noWords}
+use Rattle.judge.specs.State.{stateWords, stateSheet, stateProgress, noWords}
 use Rattle.judge.specs.UnusedState.{UnusedInRow, KeepsNothingIn}
 use Rattle.judge.proofs.state.Words.{words-same}
 
@@ -44,18 +44,18 @@ module _ {v : SheetValue} {p : Plan} {lines : List ℕ} (planned : Planned v p l
 
 -- the rows of a state
 module _ (w : List ℕ) {p : Plan} {lines : List ℕ} (planned : Planned (sheetValue (stateSheet w)) p lines) where
-  pub beside-in : KeepsNothingIn w → NothingBeside p (stateKept w .count) (stateKept w .from) w
-  beside-in n = record { others = n .others; each = λ k l. by-plan planned w (stateKept w .from + k) (n .each k l) }
+  pub beside-in : KeepsNothingIn w → NothingBeside p (stateProgress w .count) (stateProgress w .from) w
+  beside-in n = record { others = n .others; each = λ k l. by-plan planned w (stateProgress w .from + k) (n .each k l) }
 
   -- and the head
-  module _ (beside : NothingBeside p (stateKept w .count) (stateKept w .from) w) (live : word w 0 6 ≡ liveCount (stateKept w .count)) (raw : (j : ℕ) → j < 8 → word w 0 (8 + j) ≡ rawOf (getD (stateKept w .tags) j (pos 0))) (tags : BlankFrom (stateSheet w .clocks) (pos 0) (stateKept w .tags)) where
+  module _ (beside : NothingBeside p (stateProgress w .count) (stateProgress w .from) w) (live : word w 0 6 ≡ liveCount (stateProgress w .count)) (raw : (j : ℕ) → j < 8 → word w 0 (8 + j) ≡ rawOf (getD (stateProgress w .tags) j (pos 0))) (tags : BlankFrom (stateSheet w .clocks) (pos 0) (stateProgress w .tags)) where
     tag-zero : (k : ℕ) → stateSheet w .clocks ≤ k → k < 8 → word w 0 (8 + k) ≡ 0
     tag-zero k l h = raw k h ∙ ap rawOf (tags k l) ∙ raw-zero
 
     pub keeps-made : ((k : ℕ) → stateSheet w .count ≤ k → k < 16 → stateWords w k ≡ noWords) → word w 0 7 ≡ 0 → ((q : ℕ) → 16 ≤ q → q < width → word w 0 q ≡ 0) → ((q : ℕ) → 32 ≤ q → q < width → word w 2 q ≡ 0) → ((h q : ℕ) → 2 < h → h < headRows → q < width → word w h q ≡ 0) → KeepsNothingIn w
     keeps-made unlined gap top numbers head = record {
       others = beside .others;
-      each = λ k l. by-sheet planned w (stateKept w .from + k) (beside .each k l);
+      each = λ k l. by-sheet planned w (stateProgress w .from + k) (beside .each k l);
       live = live;
       tags = tag-zero;
       lines = unlined;

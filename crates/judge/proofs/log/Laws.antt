@@ -20,15 +20,15 @@ use Rattle.tesl.specs.Machine.{machine, callsOf}
 use Rattle.judge.specs.declared.answer.Answer as code
 use Rattle.judge.specs.declared.answer.Reply.{Reply}
 use Rattle.judge.specs.declared.answer.Reply.the-variants as reply
-use Rattle.judge.specs.declared.kept.Kept.{Kept}
+use Rattle.judge.specs.declared.progress.Progress.{Progress}
 use Rattle.judge.specs.declared.plan.Plan.{Plan}
 use Rattle.judge.specs.declared.monitor.Monitor.{Monitor}
-use Rattle.judge.specs.declared.monitor.Given.{Given}
+use Rattle.judge.specs.declared.monitor.CallResult.{CallResult}
 use Rattle.judge.specs.Answer.{answerOf, replyOf}
 use Rattle.judge.specs.Entry.{liveCode, entry, answersFrom, PutEntry}
 use Rattle.judge.specs.Promises.{Follows, Called}
 use Rattle.judge.specs.Fill.{Working}
-use Rattle.judge.specs.Kept.{keptMonitor, given, Ready}
+use Rattle.judge.specs.Progress.{rowsMonitor, given, Ready}
 use Rattle.judge.specs.Records.{FollowsRecords}
 use Rattle.judge.proofs.log.Answers.{answers-small, length-entries, entries-snoc, entry-fits}
 use Rattle.judge.proofs.log.Turn.{Watching, watching-start, watching-more, more-answers, ended, ended-follows, ended-answers, stopped, stopped-answers}
@@ -61,7 +61,7 @@ module _ {log before after : List ℕ} {m₀ m : Monitor} {r₀ last : Reply} {n
     buffer = λ s run f. whole s run f (ended-answers (w .watching) h s run f);
   }
 
-  module _ {p : List ℕ} (h : TheRecord log at p) {g : Given} (o : Called m p g) where
+  module _ {p : List ℕ} (h : TheRecord log at p) {g : CallResult} (o : Called m p g) where
     pub written-refused : {k : ℕ} → g .reply ≡ reply.Refused k → FollowsRecords (given r₀ m₀) log (record { outcome = replyOf (g .reply); instants = n }) (g .monitor) before after
     written-refused e = record {
       concludes = stopped (w .watching) h o (ap replyOf e);
@@ -90,12 +90,12 @@ module _ {log before after : List ℕ} {m₀ m : Monitor} {r₀ last : Reply} {n
           }
 
 -- ---- the loop, for every sheet that the plan is of
-pub record Turns (log before : List ℕ) (k₀ : Kept) (rows₀ : List ℕ) (r₀ : Reply) (p : Plan) (lines : List ℕ) (k : Kept) (last : Reply) (n at end : ℕ) (rows : List ℕ) (list : List Bool) (after : List ℕ)
+pub record Turns (log before : List ℕ) (k₀ : Progress) (rows₀ : List ℕ) (r₀ : Reply) (p : Plan) (lines : List ℕ) (k : Progress) (last : Reply) (n at end : ℕ) (rows : List ℕ) (list : List Bool) (after : List ℕ)
     : Type 0 where
   pub few : n ≤ at
   pub ends : at ≤ length log
   pub most : end ≤ length after
   pub size : length after ≡ length before
   pub room : Working rows (k .from) (k .count) p list
-  pub writing : (s : Sheet) → Ready s k₀ p lines rows₀ → Writing log before (keptMonitor s k₀ rows₀) r₀ after (keptMonitor s k rows) last n at end
+  pub writing : (s : Sheet) → Ready s k₀ p lines rows₀ → Writing log before (rowsMonitor s k₀ rows₀) r₀ after (rowsMonitor s k rows) last n at end
   pub ready : (s : Sheet) → Ready s k₀ p lines rows₀ → Ready s k p lines rows

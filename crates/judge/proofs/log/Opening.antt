@@ -6,7 +6,7 @@ use Prim.Native.Nat.{ℕ, _+_, _*_, _≤_, _<_}
 use native.Mathlib.Omega.{arith}
 use lib.ListN.{length, drop}
 use borrow.Author.Tests.{lt-ltb, le-ltb}
-use Rattle.records.specs.declared.record.Answer.the-variants as told
+use Rattle.records.specs.declared.record.Decision.the-variants as told
 use Rattle.records.specs.declared.sheet.SheetRead.{SheetRead}
 use Rattle.records.specs.Outcome.{Outcome, taken, refused}
 use Rattle.records.specs.Sheet.{SheetValue, readSheet, sheetRead, sheetValue}
@@ -18,7 +18,7 @@ use Rattle.tesl.specs.Answer.{answer}
 use Rattle.tesl.specs.Machine.{machine, session, LogResult, callsOf, judgeLog}
 use Rattle.judge.specs.declared.answer.Answer as code
 use Rattle.judge.specs.declared.answer.Reply.the-variants as reply
-use Rattle.judge.specs.declared.kept.Kept.{Kept}
+use Rattle.judge.specs.declared.progress.Progress.{Progress}
 use Rattle.judge.specs.declared.log.Judged.{Judged}
 use Rattle.judge.specs.declared.log.LastMonitor.{LastMonitor}
 use Rattle.judge.specs.declared.log.LastRows.{LastRows}
@@ -27,10 +27,10 @@ use Rattle.judge.specs.declared.plan.Plan.{Plan}
 use Rattle.judge.specs.Answer.{replyOf}
 use Rattle.judge.specs.Entry.{entry, answersFrom}
 use Rattle.judge.specs.Promises.{Follows}
-use Rattle.judge.specs.Kept.{keptFirst, ReadBack}
+use Rattle.judge.specs.Progress.{firstProgress, ReadBack}
 use Rattle.judge.specs.Log.{judgedOf, entries, watchedAs, watchLog}
 use Rattle.judge.specs.Records.{ObservedRecords, ObservedLog, Counted, CountedLog}
-use Rattle.judge.proofs.kept.Laws.{follows-back}
+use Rattle.judge.proofs.progress.Laws.{follows-back}
 use Rattle.judge.proofs.log.Answers.{concluded-count, length-entries}
 use Rattle.judge.proofs.monitor.Opened.{OpenedRows, refused-done, read-answer}
 
@@ -66,8 +66,8 @@ module _ (sheet log : List ℕ) (x : SheetRead) (e : x ≡ sheetRead (readSheet 
       }
 
   module _ {p : Plan} {lines rows : List ℕ} {y : code.Answer} (o : OpenedRows sheet x e p lines rows y) {r : LastRows} {out : List ℕ} {list : List Bool} {before after : List ℕ}
-      (w : ObservedRecords log (reply.Answered y) keptFirst p lines r rows out list before after) where
-    pub log-observed : {m : Monitor} → ReadBack (x .sheet) (r .kept) p m out → ObservedLog sheet log (record { reply = r .reply; instants = r .instants; monitor = m }) before after
+      (w : ObservedRecords log (reply.Answered y) firstProgress p lines r rows out list before after) where
+    pub log-observed : {m : Monitor} → ReadBack (x .sheet) (r .progress) p m out → ObservedLog sheet log (record { reply = r .reply; instants = r .instants; monitor = m }) before after
     unfolding judgeLog session
     log-observed {m} back =
         let k = w .follows (x .sheet) (o .ready) in

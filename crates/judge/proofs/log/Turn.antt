@@ -11,10 +11,10 @@ use Rattle.records.proofs.Lists.{map-append}
 use Rattle.records.proofs.record.Cut.{no-pieces}
 use Rattle.tesl.specs.Run.{Instant}
 use Rattle.tesl.specs.Answer.{Answer}
-use Rattle.tesl.specs.Machine.{accepts, listAfter, machine, held, concluded, callsOf}
+use Rattle.tesl.specs.Machine.{accepts, listAfter, machine, listAfterCalls, concluded, callsOf}
 use Rattle.theory.proofs.Log.{next-replies, next-held}
 use Rattle.judge.specs.declared.monitor.Monitor.{Monitor}
-use Rattle.judge.specs.declared.monitor.Given.{Given}
+use Rattle.judge.specs.declared.monitor.CallResult.{CallResult}
 use Rattle.judge.specs.declared.answer.Reply.{Reply}
 use Rattle.judge.specs.Answer.{replyOf}
 use Rattle.judge.specs.Entry.{answersTaken, answersFrom}
@@ -29,7 +29,7 @@ pub record Left (log : List ℕ) (m : Monitor) (said : List Answer) (at : ℕ) (
   pub run : List Instant
   pub follows : Follows s run m
   pub replies : machine s run₀ (callsOf log) ≡ map taken said ++ machine s run (callsOf (drop at log))
-  pub kept : held s run₀ (callsOf log) ≡ held s run (callsOf (drop at log))
+  pub lists : listAfterCalls s run₀ (callsOf log) ≡ listAfterCalls s run (callsOf (drop at log))
 
 -- for every run that the first monitor followed; each instant taken had a record
 pub record Going (log : List ℕ) (m₀ m : Monitor) (said : List Answer) (at : ℕ) : Type 0 where
@@ -38,18 +38,18 @@ pub record Going (log : List ℕ) (m₀ m : Monitor) (said : List Answer) (at : 
   pub same : (s : SheetValue) (run : List Instant) → Follows s run m₀ → Left log m said at s run
 
 pub going-start : (log : List ℕ) (m : Monitor) → Going log m m [] 0
-going-start log m = record { few = omega arith; ends = omega arith; same = λ s run f. record { run = run; follows = f; replies = refl; kept = refl } }
+going-start log m = record { few = omega arith; ends = omega arith; same = λ s run f. record { run = run; follows = f; replies = refl; lists = refl } }
 
 module _ {log : List ℕ} {m₀ m : Monitor} {said : List Answer} {at : ℕ} (w : Going log m₀ m said at) where
   -- at the end the machine has said no more
   pub going-end : length log ≤ at → (s : SheetValue) (run : List Instant) (f : Follows s run m₀)
-      → (machine s run (callsOf log) ≡ map taken said ++ []) × (held s run (callsOf log) ≡ w .same s run f .run)
-  unfolding machine held
+      → (machine s run (callsOf log) ≡ map taken said ++ []) × (listAfterCalls s run (callsOf log) ≡ w .same s run f .run)
+  unfolding machine listAfterCalls
   going-end h s run f =
       let l = w .same s run f in
-      (l .replies ∙ rw (drop-of-length-le log {i = at} h, no-pieces), l .kept ∙ rw (drop-of-length-le log {i = at} h, no-pieces))
+      (l .replies ∙ rw (drop-of-length-le log {i = at} h, no-pieces), l .lists ∙ rw (drop-of-length-le log {i = at} h, no-pieces))
 
-  module _ {p : List ℕ} (h : TheRecord log at p) {g : Given} (o : Called m p g) where
+  module _ {p : List ℕ} (h : TheRecord log at p) {g : CallResult} (o : Called m p g) where
     -- the call follows the machine
     pub turn : (s : SheetValue) (run : List Instant) → Follows s run m₀ → (rest : List (Outcome Answer)) × (machine s run (callsOf log) ≡ map taken said ++ (replyOf (g .reply) ∷ rest))
     turn s run f =
@@ -69,7 +69,7 @@ module _ {log : List ℕ} {m₀ m : Monitor} {said : List Answer} {at : ℕ} (w 
             run = listAfter (l .run) (accepts s (l .run) p);
             follows = k .follows;
             replies = l .replies ∙ rw (next-replies h s (l .run), ← k .same, e, map-append, append-assoc);
-            kept = l .kept ∙ next-held h s (l .run);
+            lists = l .lists ∙ next-held h s (l .run);
           };
     }
 
@@ -97,13 +97,13 @@ module _ {log : List ℕ} {m₀ m : Monitor} {r₀ last : Reply} {n at : ℕ} {s
     pub ended : (s : SheetValue) (run : List Instant) → Follows s run m₀ → record { outcome = replyOf last; instants = n } ≡ concluded (replyOf r₀) 0 (machine s run (callsOf log))
     ended s run f = concludes last [] s run (going-end (w .going) h s run f .0) (rw (w .last-said))
 
-    pub ended-follows : (s : SheetValue) (run : List Instant) → Follows s run m₀ → Follows s (held s run (callsOf log)) m
+    pub ended-follows : (s : SheetValue) (run : List Instant) → Follows s run m₀ → Follows s (listAfterCalls s run (callsOf log)) m
     ended-follows s run f = rw (going-end (w .going) h s run f .1) (w .going .same s run f .follows)
 
     pub ended-answers : (s : SheetValue) (run : List Instant) → Follows s run m₀ → answersFrom s run log ≡ said
     ended-answers s run f = rw (going-end (w .going) h s run f .0, answers-said) (append-nil said)
 
-  module _ {p : List ℕ} (h : TheRecord log at p) {g : Given} (o : Called m p g) where
+  module _ {p : List ℕ} (h : TheRecord log at p) {g : CallResult} (o : Called m p g) where
     module _ {k : ℕ} (e : replyOf (g .reply) ≡ refused k) where
       pub stopped : (s : SheetValue) (run : List Instant) → Follows s run m₀ → record { outcome = replyOf (g .reply); instants = n } ≡ concluded (replyOf r₀) 0 (machine s run (callsOf log))
       stopped s run f = let t = turn (w .going) h o s run f in concludes (g .reply) _ s run (t .1) (rw e)

@@ -8,7 +8,7 @@ use lib.Dec.{leb, le→leb, leb→le, not-T}
 use lib.IntN.{pos}
 use lib.ListN.{length, length-map}
 use borrow.Author.Tests.{not-true, not-false}
-use Rattle.records.specs.declared.record.Answer.the-variants.{Done, Refused}
+use Rattle.records.specs.declared.record.Decision.the-variants.{Done, Refused}
 use Rattle.records.specs.declared.instant.Instant as code
 use Rattle.records.specs.declared.instant.InstantRead.{InstantRead}
 use Rattle.records.specs.Outcome.{taken, refused}
@@ -23,9 +23,9 @@ use Rattle.theory.proofs.Lists.{F→≡}
 use Rattle.tesl.specs.Answer.{mostLive}
 use Rattle.judge.specs.declared.remainder.Remainder as arrays
 use Rattle.judge.specs.declared.monitor.Monitor.{Monitor}
-use Rattle.judge.specs.declared.monitor.Given.{Given}
+use Rattle.judge.specs.declared.monitor.CallResult.{CallResult}
 use Rattle.judge.specs.Unused.{BlankFrom}
-use Rattle.judge.specs.Limits.{sheetWithin, within, Limited}
+use Rattle.judge.specs.Limits.{sheetWithin, monitorWithin, Limited}
 use Rattle.judge.specs.Monitor.{sheetBy, refusal, Accepts}
 use Rattle.judge.specs.Promises.{observes, Accepted, Called, Observed}
 use Rattle.judge.proofs.rows.Placing.{filled-past}
@@ -34,7 +34,7 @@ use Rattle.judge.proofs.monitor.Observed.{accepted}
 
 -- ---- by the outcome
 
-module _ (m : Monitor) (bytes : List ℕ) (r : Given) where
+module _ (m : Monitor) (bytes : List ℕ) (r : CallResult) where
   called-refused : {n : ℕ} → observes m bytes ≡ refused n → r ≡ refusal n m → Called m bytes r
   called-refused {n} e q = record {
     refuses = λ k f. let z : n ≡ k = cc in rw (← z) q;
@@ -53,20 +53,20 @@ module _ (m : Monitor) (bytes : List ℕ) (r : Given) where
   pub observed-outside : {b : Bool} → Limited m b → not b ≡ true → r ≡ refusal 11 m → Observed m bytes r
   unfolding observes
   observed-outside {b} l e q =
-      let w : within m ≡ false = sym (l .answer) ∙ not-true b e in
+      let w : monitorWithin m ≡ false = sym (l .answer) ∙ not-true b e in
       let f : observes m bytes ≡ refused 11 = rw w in
       record { called = called-refused f q; unused = λ i g. refused-taken (sym f ∙ g) }
 
 module _ (m : Monitor) (bytes : List ℕ) {b : Bool} (l : Limited m b) (e : not b ≡ false)
     {x : InstantRead} (h : x ≡ instantRead (readInstant (m .sheet .clocks) bytes)) where
-  inside : within m ≡ true
+  inside : monitorWithin m ≡ true
   inside = sym (l .answer) ∙ not-false b e
 
-  kept : Limits m
-  kept = limits-of m (l .value (not-false b e)) inside
+  its-limits : Limits m
+  its-limits = limits-of m (l .value (not-false b e)) inside
 
   -- 12 to 15
-  pub called-unread : {r : Given} {n : ℕ} → x .answer ≡ Refused n → r ≡ refusal n m → Called m bytes r
+  pub called-unread : {r : CallResult} {n : ℕ} → x .answer ≡ Refused n → r ≡ refusal n m → Called m bytes r
   unfolding observes
   called-unread {r} q g =
       let k = read-refused (readInstant (m .sheet .clocks) bytes) (sym (ap (λ (y : InstantRead). y .answer) h) ∙ q) in
@@ -77,7 +77,7 @@ module _ (m : Monitor) (bytes : List ℕ) {b : Bool} (l : Limited m b) (e : not 
     was-read = read-done (readInstant (m .sheet .clocks) bytes) (sym (ap (λ (y : InstantRead). y .answer) h) ∙ q)
 
     -- 16
-    pub called-full : {r : Given} → 4000 ≤ m .instants → r ≡ refusal 16 m → Called m bytes r
+    pub called-full : {r : CallResult} → 4000 ≤ m .instants → r ≡ refusal 16 m → Called m bytes r
     unfolding observes
     called-full {r} k g = called-refused m bytes r (rw (inside, was-read .is, T→≡ (leb 4000 (m .instants)) (le→leb 4000 (m .instants) k))) g
 
@@ -89,13 +89,13 @@ module _ (m : Monitor) (bytes : List ℕ) {b : Bool} (l : Limited m b) (e : not 
         rw (ap (λ (y : InstantRead). y .instant .tags) h ∙ ap (λ (i : code.Instant). i .tags) (was-read .struct))
         (filled-past (pos 0) 8 tags k (omega (arith, w .size, length-map (was-read .cells) (λ (c : Cell). c .tag))))
 
-    pub called : {r : Given} → IsBytes bytes → All (λ (s : arrays.Remainder). length (s .stopped) ≡ 8) (m .held .remainders) → m .instants < 4000
+    pub called : {r : CallResult} → IsBytes bytes → All (λ (s : arrays.Remainder). length (s .stopped) ≡ 8) (m .held .remainders) → m .instants < 4000
         → Accepts mostLive m (x .instant) r → Called m bytes r
-    unfolding observes within
+    unfolding observes monitorWithin
     called {r} u stops k a =
         let w = read-writes (m .sheet .clocks) bytes u (was-read .is) in
         let n = F→≡ (leb 4000 (m .instants)) (not-T (leb 4000 (m .instants)) (λ t. let f = leb→le 4000 (m .instants) t in omega arith)) in
         called-taken m bytes r (rw (inside, was-read .is, n))
-        (accepted m kept (≡→T (both (sheetWithin (sheetBy m)) inside .0)) k (was-read .cells) (w .value) (w .size) r
+        (accepted m its-limits (≡→T (both (sheetWithin (sheetBy m)) inside .0)) k (was-read .cells) (w .value) (w .size) r
         (subst (λ (v : _). Accepts mostLive m v r) (ap (λ (y : InstantRead). y .instant) h ∙ was-read .struct) a)
-        (held-shaped (sheetBy m) (kept .sheet .clocks-most) (m .held .count) (m .held .remainders) stops (kept .fits)))
+        (held-shaped (sheetBy m) (its-limits .sheet .clocks-most) (m .held .count) (m .held .remainders) stops (its-limits .fits)))

@@ -19,12 +19,12 @@ use Rattle.theory.specs.Limits.{SheetLimits, clocksOk, dueOk, withinLimits}
 use Rattle.theory.proofs.Lists.{all-imp}
 use Rattle.theory.proofs.Opened.{checked-limits}
 use Rattle.judge.specs.declared.remainder.Remainder as arrays
-use Rattle.judge.specs.declared.held.Count.{Count}
-use Rattle.judge.specs.declared.held.Count.the-variants.{Exhausted, Live}
+use Rattle.judge.specs.declared.held.Status.{Status}
+use Rattle.judge.specs.declared.held.Status.the-variants.{Exhausted, Live}
 use Rattle.judge.specs.declared.monitor.Monitor.{Monitor}
-use Rattle.judge.specs.View.{obligationOf, owedOf, viewOf, heldIn, live, sizedIn, sized}
+use Rattle.judge.specs.View.{obligationOf, owedOf, viewOf, heldIn, heldList, sizedIn, sized}
 use Rattle.judge.specs.Lines.{smallLeads}
-use Rattle.judge.specs.Limits.{isTaken, sheetWithin, obligationWithin, remainderWithin, heldWithin, within}
+use Rattle.judge.specs.Limits.{isTaken, sheetWithin, obligationWithin, remainderWithin, heldWithin, monitorWithin}
 use Rattle.judge.specs.Monitor.{sheetBy, heldBy, Workable}
 use Rattle.judge.proofs.work.Found.{Shaped}
 
@@ -76,8 +76,8 @@ each-limits v n rs =
     ∙ ap (λ (b : Bool). all (λ (r : arrays.Remainder). leb (r .owed) 8) rs && b) (sym (all-map (withinLimits (v .clocks) n) (viewOf v) rs))
 
 -- within the limits: room for what is counted, and each view within them
-pub held-limits : (v : SheetValue) (n : ℕ) (count : Count) (rs : List arrays.Remainder)
-    → heldWithin v n count rs ≡ (sizedIn count rs && all (withinLimits (v .clocks) n) (live (heldIn v count rs)))
+pub held-limits : (v : SheetValue) (n : ℕ) (count : Status) (rs : List arrays.Remainder)
+    → heldWithin v n count rs ≡ (sizedIn count rs && all (withinLimits (v .clocks) n) (heldList (heldIn v count rs)))
 unfolding heldWithin
 held-limits v n Exhausted rs = refl
 held-limits v n (Live k) rs = ap (λ (b : Bool). leb k 32 && b) (each-limits v n (take k rs)) ∙ sym (and-assoc (leb k 32) _ _)
@@ -88,10 +88,10 @@ pub record Limits (m : Monitor) : Type 0 where
   pub sheet : SheetLimits (sheetBy m)
   pub instants : m .instants ≤ 4000
   pub fits : T (sized (m .held))
-  pub views : T (all (withinLimits (m .sheet .clocks) (m .instants)) (live (heldBy m)))
+  pub views : T (all (withinLimits (m .sheet .clocks) (m .instants)) (heldList (heldBy m)))
 
-pub limits-of : (m : Monitor) → IsSheet (sheetBy m) → within m ≡ true → Limits m
-unfolding within
+pub limits-of : (m : Monitor) → IsSheet (sheetBy m) → monitorWithin m ≡ true → Limits m
+unfolding monitorWithin
 limits-of m h e =
     let v = sheetBy m in
     let a = both (sheetWithin v) e in
@@ -100,11 +100,11 @@ limits-of m h e =
     record { sheet = sheet-limits v h (≡→T (a .0)); instants = leb→le (m .instants) 4000 (≡→T (b .0)); fits = ≡→T (c .0); views = ≡→T (c .1) }
 
 pub within-limits : (m : Monitor) → T (sheetWithin (sheetBy m)) → m .instants ≤ 4000 → T (sized (m .held))
-    → T (all (withinLimits (m .sheet .clocks) (m .instants)) (live (heldBy m))) → within m ≡ true
-unfolding within
+    → T (all (withinLimits (m .sheet .clocks) (m .instants)) (heldList (heldBy m))) → monitorWithin m ≡ true
+unfolding monitorWithin
 within-limits m s i f w =
     let v = sheetBy m in
-    rw (T→≡ (sheetWithin v) s, T→≡ (leb (m .instants) 4000) (le→leb (m .instants) 4000 i), held-limits v (m .instants) (m .held .count) (m .held .remainders), T→≡ (sized (m .held)) f, T→≡ (all (withinLimits (m .sheet .clocks) (m .instants)) (live (heldBy m))) w)
+    rw (T→≡ (sheetWithin v) s, T→≡ (leb (m .instants) 4000) (le→leb (m .instants) 4000 i), held-limits v (m .instants) (m .held .count) (m .held .remainders), T→≡ (sized (m .held)) f, T→≡ (all (withinLimits (m .sheet .clocks) (m .instants)) (heldList (heldBy m))) w)
 
 -- ---- what within the limits the work asks
 
@@ -113,8 +113,8 @@ unfolding withinLimits
 small-leads c n h r t = all-imp (λ (k : ℕ). leb k n) (λ (k : ℕ). ltb k 65535) (r .leads) (λ k u. let b = leb→le k n u in lt→ltb k 65535 (omega arith))
     (and-r (all (clocksOk c) (r .owed) && all (λ (o : Obligation). dueOk (o .due)) (r .owed)) (all (λ (k : ℕ). leb k n) (r .leads)) t)
 
-pub leads-small : (m : Monitor) → Limits m → T (all smallLeads (live (heldBy m)))
-leads-small m l = all-imp (withinLimits (m .sheet .clocks) (m .instants)) smallLeads (live (heldBy m)) (small-leads (m .sheet .clocks) (m .instants) (l .instants)) (l .views)
+pub leads-small : (m : Monitor) → Limits m → T (all smallLeads (heldList (heldBy m)))
+leads-small m l = all-imp (withinLimits (m .sheet .clocks) (m .instants)) smallLeads (heldList (heldBy m)) (small-leads (m .sheet .clocks) (m .instants) (l .instants)) (l .views)
 
 pub workable : (m : Monitor) → Limits m → m .instants < 4000 → Workable m
 workable m l h = record {
@@ -154,7 +154,7 @@ module _ (v : SheetValue) (c-most : v .clocks ≤ 8) where
   all-take P (suc n) [] h = tt
   all-take P (suc n) (x ∷ xs) h = (h .0, all-take P n xs (h .1))
 
-  pub held-shaped : (count : Count) (rs : List arrays.Remainder) → All (λ (r : arrays.Remainder). length (r .stopped) ≡ 8) rs → T (sizedIn count rs)
-      → All (Shaped (v .clocks)) (live (heldIn v count rs))
+  pub held-shaped : (count : Status) (rs : List arrays.Remainder) → All (λ (r : arrays.Remainder). length (r .stopped) ≡ 8) rs → T (sizedIn count rs)
+      → All (Shaped (v .clocks)) (heldList (heldIn v count rs))
   held-shaped Exhausted rs s t = tt
   held-shaped (Live n) rs s t = all-shaped (take n rs) (all-take _ n rs s) (and-r (leb n 32) (all (λ (r : arrays.Remainder). leb (r .owed) 8) (take n rs)) t)

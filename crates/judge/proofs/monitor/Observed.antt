@@ -29,11 +29,11 @@ use Rattle.theory.specs.Tracks.{Tracks, Finding, every}
 use Rattle.theory.proofs.Limits.{successors-within}
 use Rattle.theory.proofs.Tracks.{tracks-exhausted, tracks-next}
 use Rattle.judge.specs.declared.monitor.Monitor.{Monitor}
-use Rattle.judge.specs.declared.monitor.Given.{Given}
-use Rattle.judge.specs.View.{live, tagsBefore, seenOf}
+use Rattle.judge.specs.declared.monitor.CallResult.{CallResult}
+use Rattle.judge.specs.View.{heldList, tagsBefore, seenOf}
 use Rattle.judge.specs.Work.{worked}
 use Rattle.judge.specs.Answer.{saidBy}
-use Rattle.judge.specs.Limits.{sheetWithin, within}
+use Rattle.judge.specs.Limits.{sheetWithin, monitorWithin}
 use Rattle.judge.specs.Monitor.{sheetBy, heldBy, lastBy, Accepts}
 use Rattle.judge.specs.Promises.{Follows, Accepted}
 use Rattle.judge.proofs.work.Found.{Shaped, Proper, Every, worked-among, worked-every, worked-none}
@@ -54,7 +54,7 @@ module _ (room : ℕ) where
   Works v last i (some rs) none = Proper rs → Finding room v last i rs exhausted []
   Works v last i (some rs) (some new) = Covers sameRemainder new (successors v last i rs) × (Proper rs → Every room v last i rs new)
 
-  works : (v : SheetValue) (first : Bool) (was : List ℤ) (i : Instant) → length i ≤ 8 → (h after : Option (List Remainder)) → All (Shaped (v .clocks)) (live h)
+  works : (v : SheetValue) (first : Bool) (was : List ℤ) (i : Instant) → length i ≤ 8 → (h after : Option (List Remainder)) → All (Shaped (v .clocks)) (heldList h)
       → worked room v (tagsBefore first was) (ticksOf i) (filled 8 (pos 0) (tagsOf i)) h ≡ after → Works v (cond first none (some (take (v .clocks) was))) i h after
   unfolding worked Works
   works v first was i size none after s e = sym e
@@ -63,7 +63,7 @@ module _ (room : ℕ) where
 
   -- ---- the answer and those held after it
 
-  proper-after : (v : SheetValue) (last : Option (List ℤ)) (i : Instant) (h after : Option (List Remainder)) → Works v last i h after → Proper (live h) → Proper (live after)
+  proper-after : (v : SheetValue) (last : Option (List ℤ)) (i : Instant) (h after : Option (List Remainder)) → Works v last i h after → Proper (heldList h) → Proper (heldList after)
   unfolding Works
   proper-after v last i none after w p = rw w tt
   proper-after v last i (some rs) none w p = tt
@@ -73,15 +73,15 @@ module _ (room : ℕ) where
   every-found e = every (e .once) (e .live) (e .owe)
 
   views-after : (v : SheetValue) → SheetLimits v → (last : Option (List ℤ)) (i : Instant) → IsInstant i → (n : ℕ) (h after : Option (List Remainder)) → Works v last i h after
-      → T (all (withinLimits (v .clocks) n) (live h)) → T (all (withinLimits (v .clocks) (suc n)) (live after))
+      → T (all (withinLimits (v .clocks) n) (heldList h)) → T (all (withinLimits (v .clocks) (suc n)) (heldList after))
   unfolding Works
   views-after v l last i value n none after w b = rw w tt
   views-after v l last i value n (some rs) none w b = tt
   views-after v l last i value n (some rs) (some new) w b = successors-within v (l .clocks-below) (l .values) last i value n rs new (w .0) b
 
-  tracks-after : (v : SheetValue) → SheetLimits v → (run : List Instant) (n : ℕ) (last : Option (List ℤ)) (i : Instant) (h after : Option (List Remainder)) → Works v last i h after → Proper (live h)
-      → Tracks room v run (record { instants = n; last = last; said = saidBy h; live = live h })
-      → Tracks room v (run ++ (i ∷ [])) (record { instants = suc n; last = some (tagsOf i); said = saidBy after; live = live after })
+  tracks-after : (v : SheetValue) → SheetLimits v → (run : List Instant) (n : ℕ) (last : Option (List ℤ)) (i : Instant) (h after : Option (List Remainder)) → Works v last i h after → Proper (heldList h)
+      → Tracks room v run (record { instants = n; last = last; said = saidBy h; live = heldList h })
+      → Tracks room v (run ++ (i ∷ [])) (record { instants = suc n; last = some (tagsOf i); said = saidBy after; live = heldList after })
   unfolding Works
   tracks-after v l run n last i none after w p t = rw w (tracks-exhausted room v run i _ t [] refl)
   tracks-after v l run n last i (some rs) none w p t = tracks-next room v run i _ t (l .clocks-below) (judged-short rs) (w p)
@@ -97,8 +97,8 @@ seen-of c i e =
 -- ---- the monitor after it
 
 module _ (m : Monitor) (l : Limits m) (sheet : T (sheetWithin (sheetBy m))) (room : m .instants < 4000)
-    (i : Instant) (value : IsInstant i) (size : length i ≡ m .sheet .clocks) (r : Given) (a : Accepts mostLive m (instantOf i) r)
-    (shaped : All (Shaped (m .sheet .clocks)) (live (heldBy m))) where
+    (i : Instant) (value : IsInstant i) (size : length i ≡ m .sheet .clocks) (r : CallResult) (a : Accepts mostLive m (instantOf i) r)
+    (shaped : All (Shaped (m .sheet .clocks)) (heldList (heldBy m))) where
   found : Works mostLive (sheetBy m) (lastBy m) i (heldBy m) (heldBy (r .monitor))
   found = works mostLive (sheetBy m) (eqb (m .instants) 0) (m .tags) i (let c = l .sheet .clocks-most in omega arith) (heldBy m) (heldBy (r .monitor)) shaped
       (rw (← seen-of (m .sheet .clocks) i size) (sym (a .held)))
@@ -106,10 +106,10 @@ module _ (m : Monitor) (l : Limits m) (sheet : T (sheetWithin (sheetBy m))) (roo
   same-sheet : sheetBy (r .monitor) ≡ sheetBy m
   same-sheet = ap sheetValue (a .sheet)
 
-  limits-after : within (r .monitor) ≡ true
+  limits-after : monitorWithin (r .monitor) ≡ true
   limits-after = within-limits (r .monitor) (rw (a .sheet) sheet) (let n = a .instants in omega arith) (a .fits)
-      (subst (λ (s : Sheet). T (all (withinLimits (s .clocks) (r .monitor .instants)) (live (heldBy (r .monitor))))) (sym (a .sheet))
-      (subst (λ (n : ℕ). T (all (withinLimits (m .sheet .clocks) n) (live (heldBy (r .monitor))))) (sym (a .instants))
+      (subst (λ (s : Sheet). T (all (withinLimits (s .clocks) (r .monitor .instants)) (heldList (heldBy (r .monitor))))) (sym (a .sheet))
+      (subst (λ (n : ℕ). T (all (withinLimits (m .sheet .clocks) n) (heldList (heldBy (r .monitor))))) (sym (a .instants))
       (views-after mostLive (sheetBy m) (l .sheet) (lastBy m) i value (m .instants) (heldBy m) (heldBy (r .monitor)) found (l .views))))
 
   last-after : lastBy (r .monitor) ≡ some (tagsOf i)

@@ -8,7 +8,7 @@ use native.Mathlib.Omega.{arith}
 use lib.Dec.{T}
 use lib.IntN.{pos}
 use lib.ListN.{length}
-use Rattle.records.specs.declared.record.Answer.the-variants as told
+use Rattle.records.specs.declared.record.Decision.the-variants as told
 use Rattle.records.specs.declared.sheet.Sheet.{Sheet}
 use Rattle.records.specs.declared.sheet.SheetRead.{SheetRead}
 use Rattle.records.specs.Outcome.{Outcome, taken, refused}
@@ -33,25 +33,25 @@ use Rattle.theory.proofs.Opened.{read-limits, opening-owes, opening-answer}
 use Rattle.judge.specs.declared.answer.Answer as code
 use Rattle.judge.specs.declared.answer.Reply.the-variants as reply
 use Rattle.judge.specs.declared.remainder.Remainder as arrays
-use Rattle.judge.specs.declared.held.Count.the-variants.{Live}
+use Rattle.judge.specs.declared.held.Status.the-variants.{Live}
 use Rattle.judge.specs.declared.plan.Plan.{Plan}
 use Rattle.judge.specs.declared.monitor.Monitor.{Monitor}
-use Rattle.judge.specs.declared.monitor.Given.{Given}
-use Rattle.judge.specs.View.{live, sized}
+use Rattle.judge.specs.declared.monitor.CallResult.{CallResult}
+use Rattle.judge.specs.View.{heldList, sized}
 use Rattle.judge.specs.Owed.{owing}
 use Rattle.judge.specs.Work.{addedAll}
 use Rattle.judge.specs.Answer.{answerOf, saidBy}
-use Rattle.judge.specs.Limits.{isTaken, sheetWithin, within}
+use Rattle.judge.specs.Limits.{isTaken, sheetWithin, monitorWithin}
 use Rattle.judge.specs.Plan.{numbers, Preparing, PlanOf}
 use Rattle.judge.specs.Rows.{headRows, rowsOf}
-use Rattle.judge.specs.Settle.{foundIn}
+use Rattle.judge.specs.Apply.{foundIn}
 use Rattle.judge.specs.Start.{BegunRows}
 use Rattle.judge.specs.Monitor.{sheetBy, heldBy, blankMonitor, noMonitor, refusal}
-use Rattle.judge.specs.Kept.{keptMonitor, keptFirst, given, readBack, ReadBack, Ready}
+use Rattle.judge.specs.Progress.{rowsMonitor, firstProgress, given, readBack, ReadBack, Ready}
 use Rattle.judge.specs.Promises.{Follows, Opened}
 use Rattle.judge.proofs.rows.Placing.{blank-at}
 use Rattle.judge.proofs.monitor.Limits.{within-limits}
-use Rattle.judge.proofs.kept.Laws.{held-rows, sized-rows, follows-back, nothing-back}
+use Rattle.judge.proofs.progress.Laws.{held-rows, sized-rows, follows-back, nothing-back}
 
 -- ---- what is owed from the start has room, and is what no filled instant leaves
 
@@ -103,7 +103,7 @@ module _ (b : List ℕ) (bytes : IsBytes b) (s : SheetValue) (e : readSheet b �
         subst (λ (v : SheetValue). T (sheetWithin v)) (sym same)
         (subst (λ (o : Outcome SheetValue). T (isTaken o)) (sym (read-writes b bytes e .checks)) tt)
 
-    views : T (all (withinLimits (m .sheet .clocks) (m .instants)) (live (heldBy m)))
+    views : T (all (withinLimits (m .sheet .clocks) (m .instants)) (heldList (heldBy m)))
     views = rw (holds, ap (λ (v : SheetValue). v .clocks) same, none)
         (and-i (withinLimits (s .clocks) 0 (held s l)) true
         (subst T (sym (same-within (s .clocks) 0 (held s l) (remainder s []) (held-same s l))) (start-within s (l .clocks-below) (l .values))) tt)
@@ -122,22 +122,22 @@ module _ (b : List ℕ) (bytes : IsBytes b) (s : SheetValue) (e : readSheet b �
 
   -- begun in rows
   module _ (sheet : Sheet) (same : sheetValue sheet ≡ s) {blank rows : List ℕ} (begun : BegunRows (sheetValue sheet) blank rows) where
-    holds-begun : heldBy (keptMonitor sheet keptFirst rows) ≡ some (held s l ∷ [])
+    holds-begun : heldBy (rowsMonitor sheet firstProgress rows) ≡ some (held s l ∷ [])
     unfolding held
     holds-begun =
         held-rows rows headRows (sheetValue sheet) (Live 1)
         ∙ ap some (subst (λ (v : SheetValue). BegunRows v blank rows → rowsOf v rows headRows 1 ≡ owing (first s l .owed) (remainder s []) ∷ []) (sym same) (λ b. b .first (l .clocks-most) (first s l .owed) (first s l .found)) begun)
 
-    pub follows-begun : Follows s [] (keptMonitor sheet keptFirst rows)
-    follows-begun = follows (keptMonitor sheet keptFirst rows) same refl holds-begun (sized-rows rows headRows (Live 1) (begun .small))
+    pub follows-begun : Follows s [] (rowsMonitor sheet firstProgress rows)
+    follows-begun = follows (rowsMonitor sheet firstProgress rows) same refl holds-begun (sized-rows rows headRows (Live 1) (begun .small))
 
-    pub ready-begun : {p : Plan} {lines : List ℕ} → PlanOf sheet p lines → Ready sheet keptFirst p lines rows
+    pub ready-begun : {p : Plan} {lines : List ℕ} → PlanOf sheet p lines → Ready sheet firstProgress p lines rows
     ready-begun plan = record { value = subst IsSheet (sym same) (read-writes b bytes e .value); planned = plan .planned; limits = follows-begun .limits }
 
 -- ---- a refused one: no clock is within the limits
 
-pub no-monitor-outside : within noMonitor ≡ false
-unfolding within sheetWithin noMonitor
+pub no-monitor-outside : monitorWithin noMonitor ≡ false
+unfolding monitorWithin sheetWithin noMonitor
 no-monitor-outside = refl
 
 pub refused-done : {X : Type 0} {n : ℕ} → told.Refused n ≡ told.Done → X
@@ -160,7 +160,7 @@ module _ (b : List ℕ) (x : SheetRead) (e : x ≡ sheetRead (readSheet b)) wher
       by-outcome (taken s) h a = refused-done (sym a)
       by-outcome (refused k) h a = let z : k ≡ n = cc in h ∙ ap refused z
 
-  pub opened-refused : {n : ℕ} → x .answer ≡ told.Refused n → (r : Given) → r ≡ refusal n (blankMonitor (x .sheet)) → Opened readSheet b r
+  pub opened-refused : {n : ℕ} → x .answer ≡ told.Refused n → (r : CallResult) → r ≡ refusal n (blankMonitor (x .sheet)) → Opened readSheet b r
   unfolding noMonitor
   opened-refused {n} a r q = by-outcome (readSheet b) refl (ap (λ (y : SheetRead). y .answer) (sym e) ∙ a) (q ∙ ap (λ (y : SheetRead). refusal n (blankMonitor (y .sheet))) e)
     where
@@ -174,8 +174,8 @@ module _ (b : List ℕ) (x : SheetRead) (e : x ≡ sheetRead (readSheet b)) wher
     pub read : readSheet b ≡ taken value
     pub sheet : sheetValue (x .sheet) ≡ value
     pub said : answerOf y ≡ answer value []
-    pub follows : Follows value [] (keptMonitor (x .sheet) keptFirst rows)
-    pub ready : Ready (x .sheet) keptFirst p lines rows
+    pub follows : Follows value [] (rowsMonitor (x .sheet) firstProgress rows)
+    pub ready : Ready (x .sheet) firstProgress p lines rows
 
   module _ {p : Plan} {lines blank rows : List ℕ} (plan : PlanOf (x .sheet) p lines) (begun : BegunRows (sheetValue (x .sheet)) blank rows) where
     pub opened-rows : IsBytes b → x .answer ≡ told.Done → {y : code.Answer} → ((v : SheetValue) → answerOf y ≡ saidBy (foundIn v (Live 1) rows headRows)) → OpenedRows p lines rows y
@@ -195,7 +195,7 @@ module _ (b : List ℕ) (x : SheetRead) (e : x ≡ sheetRead (readSheet b)) wher
             }
 
   -- and read back
-  pub opened-done : {p : Plan} {lines rows : List ℕ} {y : code.Answer} → OpenedRows p lines rows y → {m : Monitor} → ReadBack (x .sheet) keptFirst p m rows → Opened readSheet b (given (reply.Answered y) m)
+  pub opened-done : {p : Plan} {lines rows : List ℕ} {y : code.Answer} → OpenedRows p lines rows y → {m : Monitor} → ReadBack (x .sheet) firstProgress p m rows → Opened readSheet b (given (reply.Answered y) m)
   opened-done {y = y} o {m} back =
       let f = back .found in
       subst (λ (n : Monitor). Opened readSheet b (given (reply.Answered y) n)) (sym (back .same))

@@ -8,7 +8,7 @@ use lib.ListN.{length, getD}
 use Rattle.records.specs.declared.line.Line.{Line}
 use Rattle.judge.specs.declared.line_words.LineWords.{LineWords}
 use Rattle.judge.specs.LineWords.{lineOfWords}
-use Rattle.judge.specs.Plan.{lineWidth, numbers, linesIn, LineRow, LinesStay, PutLine, PutPart}
+use Rattle.judge.specs.Plan.{lineWidth, numbers, planLines, LineRow, LinesStay, PutPlanLine, PutPart}
 use Rattle.judge.proofs.Listing.{listed-same, listed-next}
 use Rattle.judge.proofs.line_words.Stored.{stored, stored-length, stored-other, stored-there}
 
@@ -24,7 +24,7 @@ module _ {lines : List ℕ} {j : ℕ} (r : LineRow lines j) (w : LineWords) wher
   first : (h : ℕ) → (h ≡ j → ⊥) → getD after (lineWidth * h) 0 ≡ getD lines (lineWidth * h) 0
   first h apart = stored-other lines (lineWidth * j) w (lineWidth * h) (λ p q. apart (omega arith))
 
-  pub put-there : PutLine j (lineOfWords w) lines after
+  pub put-there : PutPlanLine j (lineOfWords w) lines after
   put-there = record {
     stays = record {
       size = stored-length lines (lineWidth * j) w ∙ r .size;
@@ -34,14 +34,14 @@ module _ {lines : List ℕ} {j : ℕ} (r : LineRow lines j) (w : LineWords) wher
   }
 
 -- rows that j is not among
-pub rows-stay : {j : ℕ} {a b : List ℕ} → LinesStay j a b → (from n : ℕ) → ((k : ℕ) → k < n → from + k ≡ j → ⊥) → linesIn b from n ≡ linesIn a from n
+pub rows-stay : {j : ℕ} {a b : List ℕ} → LinesStay j a b → (from n : ℕ) → ((k : ℕ) → k < n → from + k ≡ j → ⊥) → planLines b from n ≡ planLines a from n
 rows-stay r from n apart = listed-same n (λ k m. r .same (from + k) (apart k m))
 
 -- ---- a part
 pub part-same : {lines : List ℕ} (from count : ℕ) (l : Line) → length lines ≡ numbers → PutPart from count false l count lines lines
 part-same {lines} from count l e =
-    record { stays = record { size = e; same = λ h apart. refl }; few = omega arith; rows = sym (append-nil (linesIn lines from count)) }
+    record { stays = record { size = e; same = λ h apart. refl }; few = omega arith; rows = sym (append-nil (planLines lines from count)) }
 
-pub part-more : {l : Line} {a b : List ℕ} (from count : ℕ) → PutLine (from + count) l a b → PutPart from count true l (count + 1) a b
+pub part-more : {l : Line} {a b : List ℕ} (from count : ℕ) → PutPlanLine (from + count) l a b → PutPart from count true l (count + 1) a b
 part-more from count p =
     record { stays = p .stays; few = omega arith; rows = listed-next count (λ k m. p .stays .same (from + k) (λ e. omega arith)) (p .there) refl }

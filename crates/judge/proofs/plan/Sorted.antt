@@ -17,9 +17,9 @@ use Rattle.records.proofs.Lists.{listed-snoc}
 use Rattle.tesl.specs.Lists.{filter, flatMap}
 use Rattle.theory.proofs.Lists.{filter-append}
 use Rattle.judge.specs.declared.plan.Plan.{Plan}
-use Rattle.judge.specs.Heed.{namedBy, flagged}
-use Rattle.judge.specs.Plan.{isRelation, isRule, isDelay, isPrecedes, numbers, relationsFrom, rulesFrom, delaysFrom, lineIn, linesIn, PutLine, PutPart, Preparing, PlanOf}
-use Rattle.judge.proofs.heed.Laws.{flagged-append}
+use Rattle.judge.specs.Relevant.{namedBy, flagged}
+use Rattle.judge.specs.Plan.{isRelation, isRule, isDelay, isPrecedes, numbers, relationsFrom, rulesFrom, delaysFrom, planLine, planLines, PutPlanLine, PutPart, Preparing, PlanOf}
+use Rattle.judge.proofs.relevant.Laws.{flagged-append}
 use Rattle.judge.proofs.rows.Placing.{blank-at}
 use Rattle.judge.proofs.plan.Rows.{rows-stay}
 
@@ -30,19 +30,19 @@ pub record Sorted (ls : List Line) (i : ℕ) (p : Plan) (lines : List ℕ) : Typ
   pub few-relations : p .relations ≤ i
   pub few-rules : p .rules ≤ i
   pub few-delays : p .delays ≤ i
-  pub all : (k : ℕ) → k < i → lineIn lines k ≡ getD ls k blankLine
-  pub relations : linesIn lines relationsFrom (p .relations) ≡ filter isRelation ls
-  pub rules : linesIn lines rulesFrom (p .rules) ≡ filter isRule ls
-  pub delays : linesIn lines delaysFrom (p .delays) ≡ filter isDelay ls
-  pub reach : p .reach ≤ i
-  pub past : (k : ℕ) → p .reach ≤ k → isPrecedes (getD ls k blankLine) ≡ false
+  pub all : (k : ℕ) → k < i → planLine lines k ≡ getD ls k blankLine
+  pub relations : planLines lines relationsFrom (p .relations) ≡ filter isRelation ls
+  pub rules : planLines lines rulesFrom (p .rules) ≡ filter isRule ls
+  pub delays : planLines lines delaysFrom (p .delays) ≡ filter isDelay ls
+  pub leaders : p .leaders ≤ i
+  pub past : (k : ℕ) → p .leaders ≤ k → isPrecedes (getD ls k blankLine) ≡ false
   pub places : length (p .precede) ≡ 16
   pub precede : (k : ℕ) → getD (p .precede) k false ≡ isPrecedes (getD ls k blankLine)
   pub named : p .named ≡ flagged (flatMap namedBy ls) (replicate 8 false)
 
 abbrev pub planBy : ℕ → ℕ → ℕ → ℕ → ℕ → List Bool → List Bool → Plan
-planBy clocks relations rules delays reach precede named =
-    record { clocks = clocks; relations = relations; rules = rules; delays = delays; reach = reach; precede = precede; named = named }
+planBy clocks relations rules delays leaders precede named =
+    record { clocks = clocks; relations = relations; rules = rules; delays = delays; leaders = leaders; precede = precede; named = named }
 
 -- ---- none
 pub sorted-none : (s : Sheet) (clocks : ℕ) (lines : List ℕ) → length lines ≡ numbers → Sorted (listed (lineAt s) 0) 0 (planBy clocks 0 0 0 0 (replicate 16 false) (replicate 8 false)) lines
@@ -57,7 +57,7 @@ sorted-none s clocks lines e = record {
   relations = refl;
   rules = refl;
   delays = refl;
-  reach = omega arith;
+  leaders = omega arith;
   past = λ k h. refl;
   places = refl;
   precede = λ k. blank-at false 16 k;
@@ -82,7 +82,7 @@ module _ (ls : List Line) (l : Line) where
 
 -- a part of them
 filtered : (q : Line → Bool) (ls : List Line) {from count r : ℕ} {one : Bool} {k l : Line} {a b : List ℕ}
-    → k ≡ l → PutPart from count one k r a b → one ≡ q l → linesIn a from count ≡ filter q ls → linesIn b from r ≡ filter q (ls ++ (l ∷ []))
+    → k ≡ l → PutPart from count one k r a b → one ≡ q l → planLines a from count ≡ filter q ls → planLines b from r ≡ filter q (ls ++ (l ∷ []))
 filtered q ls {l = l} t w e f = w .rows ∙ rw (f, e, t) (sym (filter-append q ls (l ∷ [])))
 
 named-more : (ls : List Line) (l : Line) (flags : List Bool) → flagged (flatMap namedBy (ls ++ (l ∷ []))) flags ≡ flagged (namedBy l) (flagged (flatMap namedBy ls) flags)
@@ -92,31 +92,31 @@ named-more (x ∷ ls) l flags =
 
 module _ {ls : List Line} {i : ℕ} {p : Plan} {a : List ℕ} (s : Sorted ls i p a) (few : i < 16) {k l : Line} (t : k ≡ l) where
   -- its rows
-  module _ {b c d e : List ℕ} {one₁ one₂ one₃ : Bool} {m n o : ℕ} (w : PutLine i k a b) (x : PutPart relationsFrom (p .relations) one₁ k m b c) (y : PutPart rulesFrom (p .rules) one₂ k n c d) (z : PutPart delaysFrom (p .delays) one₃ k o d e) where
-    all-more : (k : ℕ) → k < i + 1 → lineIn e k ≡ getD (ls ++ (l ∷ [])) k blankLine
+  module _ {b c d e : List ℕ} {one₁ one₂ one₃ : Bool} {m n o : ℕ} (w : PutPlanLine i k a b) (x : PutPart relationsFrom (p .relations) one₁ k m b c) (y : PutPart rulesFrom (p .rules) one₂ k n c d) (z : PutPart delaysFrom (p .delays) one₃ k o d e) where
+    all-more : (k : ℕ) → k < i + 1 → planLine e k ≡ getD (ls ++ (l ∷ [])) k blankLine
     all-more k h = z .stays .same k (λ f. omega arith) ∙ y .stays .same k (λ f. omega arith) ∙ x .stays .same k (λ f. omega arith) ∙ by-test (eqb k i) refl
       where
-        by-test : (t : Bool) → eqb k i ≡ t → lineIn b k ≡ getD (ls ++ (l ∷ [])) k blankLine
-        by-test true u = let f = eqb-true k i u in ap (lineIn b) f ∙ w .there ∙ t ∙ sym (at-end ls l k (f ∙ sym (s .many)))
+        by-test : (t : Bool) → eqb k i ≡ t → planLine b k ≡ getD (ls ++ (l ∷ [])) k blankLine
+        by-test true u = let f = eqb-true k i u in ap (planLine b) f ∙ w .there ∙ t ∙ sym (at-end ls l k (f ∙ sym (s .many)))
         by-test false u =
             let apart = eqb-false k i u in
             w .stays .same k apart ∙ s .all k (omega (arith, apart)) ∙ sym (elsewhere ls l k (λ f. apart (f ∙ s .many)))
 
-    module _ {one : Bool} {reach : ℕ} {named : List Bool} (u₁ : one₁ ≡ isRelation l) (u₂ : one₂ ≡ isRule l) (u₃ : one₃ ≡ isDelay l) (v : one ≡ isPrecedes l) (f : reach ≡ cond one (i + 1) (p .reach)) (g : named ≡ flagged (namedBy l) (p .named)) where
-      reach-more : (t : Bool) → one ≡ t → reach ≤ i + 1
-      reach-more true e = let h : reach ≡ i + 1 = f ∙ rw e in omega arith
-      reach-more false e = let h : reach ≡ p .reach = f ∙ rw e in omega (arith, s .reach)
+    module _ {one : Bool} {leaders : ℕ} {named : List Bool} (u₁ : one₁ ≡ isRelation l) (u₂ : one₂ ≡ isRule l) (u₃ : one₃ ≡ isDelay l) (v : one ≡ isPrecedes l) (f : leaders ≡ cond one (i + 1) (p .leaders)) (g : named ≡ flagged (namedBy l) (p .named)) where
+      leaders-more : (t : Bool) → one ≡ t → leaders ≤ i + 1
+      leaders-more true e = let h : leaders ≡ i + 1 = f ∙ rw e in omega arith
+      leaders-more false e = let h : leaders ≡ p .leaders = f ∙ rw e in omega (arith, s .leaders)
 
-      past-more : (t : Bool) → one ≡ t → (k : ℕ) → reach ≤ k → isPrecedes (getD (ls ++ (l ∷ [])) k blankLine) ≡ false
+      past-more : (t : Bool) → one ≡ t → (k : ℕ) → leaders ≤ k → isPrecedes (getD (ls ++ (l ∷ [])) k blankLine) ≡ false
       past-more true e k h =
-          let r : reach ≡ i + 1 = f ∙ rw e in
-          rw (elsewhere ls l k (λ q. omega (arith, s .many))) (s .past k (omega (arith, s .reach)))
+          let r : leaders ≡ i + 1 = f ∙ rw e in
+          rw (elsewhere ls l k (λ q. omega (arith, s .many))) (s .past k (omega (arith, s .leaders)))
       past-more false e k h = by-test (eqb k i) refl
         where
           by-test : (t : Bool) → eqb k i ≡ t → isPrecedes (getD (ls ++ (l ∷ [])) k blankLine) ≡ false
           by-test true u = rw (at-end ls l k (eqb-true k i u ∙ sym (s .many))) (sym v ∙ e)
           by-test false u =
-              let r : reach ≡ p .reach = f ∙ rw e in
+              let r : leaders ≡ p .leaders = f ∙ rw e in
               rw (elsewhere ls l k (λ q. eqb-false k i u (q ∙ s .many))) (s .past k (omega arith))
 
       precede-more : (k : ℕ) → getD (set (p .precede) i one) k false ≡ isPrecedes (getD (ls ++ (l ∷ [])) k blankLine)
@@ -130,7 +130,7 @@ module _ {ls : List Line} {i : ℕ} {p : Plan} {a : List ℕ} (s : Sorted ls i p
               let apart = eqb-false k i u in
               rw (getD-set-other (p .precede) i k one false apart, elsewhere ls l k (λ q. apart (q ∙ s .many))) (s .precede k)
 
-      pub sorted-more : Sorted (ls ++ (l ∷ [])) (i + 1) (planBy (p .clocks) m n o reach (set (p .precede) i one) named) e
+      pub sorted-more : Sorted (ls ++ (l ∷ [])) (i + 1) (planBy (p .clocks) m n o leaders (set (p .precede) i one) named) e
       sorted-more = record {
         many = length-append ls (l ∷ []) ∙ ap (λ (k : ℕ). k + 1) (s .many);
         size = z .stays .size;
@@ -151,7 +151,7 @@ module _ {ls : List Line} {i : ℕ} {p : Plan} {a : List ℕ} (s : Sorted ls i p
             ∙ rows-stay (x .stays) delaysFrom (p .delays) (λ k h q. omega (arith, s .few-relations))
             ∙ rows-stay (w .stays) delaysFrom (p .delays) (λ k h q. omega arith)
             ∙ s .delays);
-        reach = reach-more one refl;
+        leaders = leaders-more one refl;
         past = past-more one refl;
         places = length-set (p .precede) i one ∙ s .places;
         precede = precede-more;
@@ -163,25 +163,25 @@ pub sorted-next : (s : Sheet) (i : ℕ) {p : Plan} {lines : List ℕ} → Sorted
 sorted-next s i w = rw (listed-snoc (lineAt s) i) w
 
 -- ---- all
-leading : {ls : List Line} {i : ℕ} {p : Plan} {lines : List ℕ} → Sorted ls i p lines → (k : ℕ) → isPrecedes (getD ls k blankLine) ≡ (ltb k (p .reach) && getD (p .precede) k false)
-leading {ls} {p = p} w k = by-test (ltb k (p .reach)) refl
+leading : {ls : List Line} {i : ℕ} {p : Plan} {lines : List ℕ} → Sorted ls i p lines → (k : ℕ) → isPrecedes (getD ls k blankLine) ≡ (ltb k (p .leaders) && getD (p .precede) k false)
+leading {ls} {p = p} w k = by-test (ltb k (p .leaders)) refl
   where
-    by-test : (t : Bool) → ltb k (p .reach) ≡ t → isPrecedes (getD ls k blankLine) ≡ (t && getD (p .precede) k false)
+    by-test : (t : Bool) → ltb k (p .leaders) ≡ t → isPrecedes (getD ls k blankLine) ≡ (t && getD (p .precede) k false)
     by-test true e = sym (w .precede k)
-    by-test false e = w .past k (ltb-false k (p .reach) e)
+    by-test false e = w .past k (ltb-false k (p .leaders) e)
 
 pub sorted-all : (s : Sheet) {p : Plan} {was lines : List ℕ} → Preparing s was → p .clocks ≡ s .clocks → Sorted (sheetValue s .lines) (s .count) p lines → PlanOf s p lines
 sorted-all s {p} q c w = record {
   size = w .size;
-  fits = record { clocks = rw c (q .few-clocks); reach = omega (arith, w .reach, q .few-lines); few-relations = omega (arith, w .few-relations, q .few-lines); few-rules = omega (arith, w .few-rules, q .few-lines); few-delays = omega (arith, w .few-delays, q .few-lines) };
+  fits = record { clocks = rw c (q .few-clocks); leaders = omega (arith, w .leaders, q .few-lines); few-relations = omega (arith, w .few-relations, q .few-lines); few-rules = omega (arith, w .few-rules, q .few-lines); few-delays = omega (arith, w .few-delays, q .few-lines) };
   planned = record {
     as-many = c;
     few-clocks = q .few-clocks;
-    all = λ k h. w .all k (omega (arith, w .reach));
+    all = λ k h. w .all k (omega (arith, w .leaders));
     relations = w .relations;
     rules = w .rules;
     delays = w .delays;
-    leading = (omega (arith, w .reach, q .few-lines), leading w);
+    leading = (omega (arith, w .leaders, q .few-lines), leading w);
     named = w .named;
   };
 }

@@ -14,14 +14,14 @@ use Rattle.records.specs.Sheet.{SheetValue}
 use Rattle.records.proofs.Lists.{length-listed}
 use Rattle.tesl.specs.Lists.{all, below, table}
 use Rattle.theory.specs.Step.{nextLeads}
-use Rattle.judge.specs.declared.held.Count.{Count}
-use Rattle.judge.specs.declared.held.Count.the-variants.{Exhausted, Live}
+use Rattle.judge.specs.declared.held.Status.{Status}
+use Rattle.judge.specs.declared.held.Status.the-variants.{Exhausted, Live}
 use Rattle.judge.specs.declared.plan.Plan.{Plan}
 use Rattle.judge.specs.View.{obligationOf, owedOf, inUse, viewOf}
 use Rattle.judge.specs.Limits.{obligationWithin, remainderWithin, heldWithin}
 use Rattle.judge.specs.Plan.{Planned}
 use Rattle.judge.specs.Rows.{rowCount, rowObligation, rowOwed, rowLead, rowLeads}
-use Rattle.judge.specs.Kept.{asStruct, rowRemainder}
+use Rattle.judge.specs.Progress.{asStruct, rowRemainder}
 use Rattle.judge.specs.RowsLimits.{owedFits, leadFits, RowWithin, EachRowWithin, RowsWithin}
 use Rattle.judge.proofs.Below.{below-ext, below-front, below-either}
 use Rattle.judge.proofs.Listing.{listed-at, map-listed, all-listed}
@@ -43,10 +43,10 @@ module _ {p : Plan} (m : ℕ) (rows : List ℕ) (i : ℕ) where
     abbrev lead : ℕ → Bool
     lead k = leb (inUse (sheetLine v k) (getD (rowLeads rows i) k 0)) m
 
-    by-flag : (k : ℕ) → k < p .reach → lead k ≡ leadFits (p .precede) m rows i k
+    by-flag : (k : ℕ) → k < p .leaders → lead k ≡ leadFits (p .precede) m rows i k
     by-flag k h =
         ap (λ (n : ℕ). leb n m) (used-by (sheetLine v k) (getD (rowLeads rows i) k 0))
-        ∙ ap₂ (λ (b : Bool) (n : ℕ). leb (cond b n 0) m) (planned .leading .1 k ∙ ap (λ (b : Bool). b && getD (p .precede) k false) (lt-ltb k (p .reach) h)) (listed-at (rowLead rows i) 0 16 k (omega (arith, planned .leading .0)))
+        ∙ ap₂ (λ (b : Bool) (n : ℕ). leb (cond b n 0) m) (planned .leading .1 k ∙ ap (λ (b : Bool). b && getD (p .precede) k false) (lt-ltb k (p .leaders) h)) (listed-at (rowLead rows i) 0 16 k (omega (arith, planned .leading .0)))
         ∙ by-test (getD (p .precede) k false)
       where
         by-test : (b : Bool) → leb (cond b (rowLead rows i k) 0) m ≡ (not b || leb (rowLead rows i k) m)
@@ -56,17 +56,17 @@ module _ {p : Plan} (m : ℕ) (rows : List ℕ) (i : ℕ) where
     past-lines : (k : ℕ) → length (v .lines) ≤ k → lead k ≡ true
     past-lines k h = rw (List·getD-eq-default (v .lines) blankLine {n = k} h) (le-leb 0 m (omega arith))
 
-    past-reach : (k : ℕ) → p .reach ≤ k → lead k ≡ true
-    past-reach k h =
-        ap (λ (n : ℕ). leb n m) (used-by (sheetLine v k) (getD (rowLeads rows i) k 0) ∙ ap (λ (b : Bool). cond b (getD (rowLeads rows i) k 0) 0) (planned .leading .1 k ∙ ap (λ (b : Bool). b && getD (p .precede) k false) (le-ltb k (p .reach) h)))
+    past-leaders : (k : ℕ) → p .leaders ≤ k → lead k ≡ true
+    past-leaders k h =
+        ap (λ (n : ℕ). leb n m) (used-by (sheetLine v k) (getD (rowLeads rows i) k 0) ∙ ap (λ (b : Bool). cond b (getD (rowLeads rows i) k 0) 0) (planned .leading .1 k ∙ ap (λ (b : Bool). b && getD (p .precede) k false) (le-ltb k (p .leaders) h)))
         ∙ le-leb 0 m (omega arith)
 
-    leads-fit : all (λ (n : ℕ). leb n m) (nextLeads inUse (v .lines) (rowLeads rows i)) ≡ below (p .reach) (leadFits (p .precede) m rows i)
+    leads-fit : all (λ (n : ℕ). leb n m) (nextLeads inUse (v .lines) (rowLeads rows i)) ≡ below (p .leaders) (leadFits (p .precede) m rows i)
     leads-fit =
         ap (all (λ (n : ℕ). leb n m)) (next-places 0 inUse (v .lines) (rowLeads rows i))
         ∙ all-table (λ (n : ℕ). leb n m) (length (v .lines)) (λ k. inUse (sheetLine v k) (getD (rowLeads rows i) k 0))
-        ∙ below-either lead (length (v .lines)) (p .reach) past-lines past-reach
-        ∙ below-ext (p .reach) lead (leadFits (p .precede) m rows i) by-flag
+        ∙ below-either lead (length (v .lines)) (p .leaders) past-lines past-leaders
+        ∙ below-ext (p .leaders) lead (leadFits (p .precede) m rows i) by-flag
 
     owed-fit : all (obligationWithin (v .clocks)) (owedOf (rowRemainder rows i)) ≡ below (rowCount rows i) (owedFits (p .clocks) rows i)
     owed-fit =
@@ -85,7 +85,7 @@ module _ {p : Plan} (m : ℕ) (rows : List ℕ) (i : ℕ) where
     row-owed e v lines planned =
         sym (ap₂ (λ (s t : Bool). s && (t && all (λ (n : ℕ). leb n m) (viewOf v (rowRemainder rows i) .leads))) (le-leb (rowCount rows i) 8 few) (owed-fit v lines planned ∙ sym owed ∙ e))
 
-    pub row-leads : {r : Bool} → b ≡ true → r ≡ below (p .reach) (leadFits (p .precede) m rows i) → RowWithin p m rows i r
+    pub row-leads : {r : Bool} → b ≡ true → r ≡ below (p .leaders) (leadFits (p .precede) m rows i) → RowWithin p m rows i r
     unfolding remainderWithin
     row-leads e f v lines planned =
         f ∙ sym (leads-fit v lines planned)
@@ -93,15 +93,15 @@ module _ {p : Plan} (m : ℕ) (rows : List ℕ) (i : ℕ) where
 
 -- ---- those held
 module _ {p : Plan} (m : ℕ) (rows : List ℕ) (from : ℕ) where
-  pub held-none : {c : Count} → c ≡ Exhausted → RowsWithin p m rows from c true
+  pub held-none : {c : Status} → c ≡ Exhausted → RowsWithin p m rows from c true
   unfolding heldWithin
   held-none e v lines planned = rw e
 
-  pub held-many : {c : Count} {n : ℕ} → c ≡ Live n → 32 < n → RowsWithin p m rows from c false
+  pub held-many : {c : Status} {n : ℕ} → c ≡ Live n → 32 < n → RowsWithin p m rows from c false
   unfolding heldWithin
   held-many {n = n} e h v lines planned = rw (e, lt-leb n 32 h)
 
-  pub held-live : {c : Count} {n : ℕ} {b : Bool} → c ≡ Live n → n ≤ 32 → EachRowWithin p m rows from n b → RowsWithin p m rows from c b
+  pub held-live : {c : Status} {n : ℕ} {b : Bool} → c ≡ Live n → n ≤ 32 → EachRowWithin p m rows from n b → RowsWithin p m rows from c b
   unfolding heldWithin
   held-live {n = n} e h f v lines planned =
       rw (e, le-leb n 32 h)

@@ -6,18 +6,18 @@ use Prim.Native.Nat.{ℕ, _+_}
 use borrow.Author.Tests.{not-true, not-false}
 use Rattle.records.specs.declared.line.Line.{Line}
 use Rattle.judge.specs.Questions.{ticksHold}
-use Rattle.judge.specs.Plan.{lineIn, rulesFrom}
-use Rattle.judge.specs.Rules.{isSettled, cuts}
+use Rattle.judge.specs.Plan.{planLine, rulesFrom}
+use Rattle.judge.specs.Rules.{isSettled, forbids}
 
 -- rule i
 abbrev pub ruleIn : List ℕ → ℕ → Line
-ruleIn lines i = lineIn lines (rulesFrom + i)
+ruleIn lines i = planLine lines (rulesFrom + i)
 
 -- ---- whether a rule cuts the ticks
 module _ (k : ℕ) (ticks : List Bool) (l : Line) {settled : Bool} (e : settled ≡ isSettled k l) where
-  pub unsettled : not settled ≡ true → cuts k ticks l ≡ false
+  pub unsettled : not settled ≡ true → forbids k ticks l ≡ false
   unsettled q = rw (sym e ∙ not-true settled q)
 
   module _ {holds : Bool} (g : holds ≡ ticksHold ticks l) (q : not settled ≡ false) where
-    pub cut-as : {b : Bool} → not holds ≡ b → cuts k ticks l ≡ b
-    cut-as u = rw (sym e ∙ not-false settled q, ← g) u
+    pub forbids-as : {b : Bool} → not holds ≡ b → forbids k ticks l ≡ b
+    forbids-as u = rw (sym e ∙ not-false settled q, ← g) u

@@ -17,7 +17,7 @@ use Rattle.tesl.specs.Remainder.{leadOf, stops, remainder}
 use Rattle.theory.specs.Step.{nextLeads}
 use Rattle.theory.proofs.Lists.{table-ext}
 use Rattle.judge.specs.Word.{flagOf}
-use Rattle.judge.specs.View.{inUse, cut}
+use Rattle.judge.specs.View.{inUse, usedPart}
 use Rattle.judge.specs.Owed.{owing}
 use Rattle.judge.specs.Work.{addedAll}
 use Rattle.judge.specs.Rows.{leadsPart, stoppedPart, headRows, rowCount, rowOwed, rowLead, rowLeads, rowStop, rowStopped, rowOf, provided, Row, BegunRow}
@@ -91,7 +91,7 @@ module _ {a : List ℕ} (z : BlankRow a headRows) where
     stopped = listed-is false (rowStop b headRows) 8 (replicate 8 false) (length-replicate 8 false)
         (λ k h. ap flagOf (w .stays .same headRows (stoppedPart + k) (omega arith) (λ e x y. omega arith) ∙ z .blank (stoppedPart + k) (omega arith)) ∙ sym (blank-at false 8 k))
 
-    first : v .clocks ≤ 8 → (os : List Obligation) → addedAll (flatMap owedAtStart (v .lines)) [] ≡ some os → cut v (rowOf b headRows) ≡ owing os (remainder v [])
+    first : v .clocks ≤ 8 → (os : List Obligation) → addedAll (flatMap owedAtStart (v .lines)) [] ≡ some os → usedPart v (rowOf b headRows) ≡ owing os (remainder v [])
     unfolding remainder
     first h os e =
         same-remainder (provided-some r (w .owed ∙ ap (addedAll (flatMap owedAtStart (v .lines))) blank-owes ∙ e))

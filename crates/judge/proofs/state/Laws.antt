@@ -11,13 +11,13 @@ use lib.IntN.{ℤ}
 use lib.ListN.{length, set, length-set}
 use borrow.Author.Tests.{eqb-true, eqb-false, ltb-true, ltb-false}
 use Rattle.tesl.proofs.Tests.{or-e, T→≡}
-use Rattle.judge.specs.declared.held.Count.{Count}
-use Rattle.judge.specs.declared.held.Count.the-variants.{Live}
-use Rattle.judge.specs.declared.kept.Kept.{Kept}
+use Rattle.judge.specs.declared.held.Status.{Status}
+use Rattle.judge.specs.declared.held.Status.the-variants.{Live}
+use Rattle.judge.specs.declared.progress.Progress.{Progress}
 use Rattle.judge.specs.View.{liveCount}
 use Rattle.judge.specs.Rows.{width, words, word, Stays}
-use Rattle.judge.specs.Settle.{Side}
-use Rattle.judge.specs.State.{countBy, stateCount, isSide, isCase, isKind, hasKinds, hasFormat, isState, format, PutFormat, FewIn, PutCount, PutTags, PutKept}
+use Rattle.judge.specs.Apply.{Side}
+use Rattle.judge.specs.State.{countBy, stateCount, isSide, isCase, isKind, hasKinds, hasFormat, isState, format, PutFormat, FewIn, PutCount, PutLastTags, PutProgress}
 use Rattle.judge.proofs.Below.{below-ext}
 use Rattle.judge.proofs.rows.Laws.{stored, stored-other, stays-all, stays-put, stays-wide, stays-on}
 
@@ -68,7 +68,7 @@ format-put a size =
     }
 
 -- ---- how many are held
-pub few-live : {c : Count} {n : ℕ} → c ≡ Live n → FewIn c → n ≤ 32
+pub few-live : {c : Status} {n : ℕ} → c ≡ Live n → FewIn c → n ≤ 32
 few-live e h = rw e at h
 
 module _ (a : List ℕ) (case live : ℕ) (size : length a ≡ words) where
@@ -81,7 +81,7 @@ module _ (a : List ℕ) (case live : ℕ) (size : length a ≡ words) where
   here : word counted 0 5 ≡ case
   here = stored-other cased 0 6 live 0 5 (omega arith) (omega arith) (λ x y. omega arith) ∙ stored a 0 5 case (omega arith)
 
-  pub count-put : {c : Count} → countBy case live ≡ c → isCase case ≡ true → live ≡ liveCount c → PutCount c a counted
+  pub count-put : {c : Status} → countBy case live ≡ c → isCase case ≡ true → live ≡ liveCount c → PutCount c a counted
   count-put e t q =
       let l = stored cased 0 6 live (omega (arith, length-set a (width * 0 + 5) case)) in
       record {
@@ -92,10 +92,10 @@ module _ (a : List ℕ) (case live : ℕ) (size : length a ≡ words) where
       }
 
 -- ---- a monitor beside its sheet and its rows
-pub same-kept : {i i′ f f′ : ℕ} {t t′ : List ℤ} {c c′ : Count} → i ≡ i′ → t ≡ t′ → c ≡ c′ → f ≡ f′ → _≡_ {A = Kept} (record { instants = i; tags = t; count = c; from = f }) (record { instants = i′; tags = t′; count = c′; from = f′ })
-same-kept a b c d = rw (a, b, c, d)
+pub same-progress : {i i′ f f′ : ℕ} {t t′ : List ℤ} {c c′ : Status} → i ≡ i′ → t ≡ t′ → c ≡ c′ → f ≡ f′ → _≡_ {A = Progress} (record { instants = i; tags = t; count = c; from = f }) (record { instants = i′; tags = t′; count = c′; from = f′ })
+same-progress a b c d = rw (a, b, c, d)
 
-module _ (k : Kept) (a : List ℕ) where
+module _ (k : Progress) (a : List ℕ) where
   abbrev timed : List ℕ
   timed = set a (width * 0 + 3) (k .instants)
 
@@ -105,7 +105,7 @@ module _ (k : Kept) (a : List ℕ) where
   pub sided-long : length a ≡ words → length sided ≡ words
   sided-long size = length-set timed (width * 0 + 4) (k .from) ∙ length-set a (width * 0 + 3) (k .instants) ∙ size
 
-  module _ (size : length a ≡ words) {b c : List ℕ} (n : PutCount (k .count) sided b) (t : PutTags (k .tags) b c) (side : T (isSide (k .from))) where
+  module _ (size : length a ≡ words) {b c : List ℕ} (n : PutCount (k .count) sided b) (t : PutLastTags (k .tags) b c) (side : T (isSide (k .from))) where
     -- a word before the tags, and one before the answer
     late : (p : ℕ) → p < 8 → word c 0 p ≡ word b 0 p
     late p h = t .stays .same 0 p (omega arith) (λ e x y. omega arith)
@@ -144,5 +144,5 @@ module _ (k : Kept) (a : List ℕ) where
         let r : isCase (word c 0 5) ≡ true = ap isCase (late 5 (omega arith)) ∙ n .answer in
         ap₂ _&&_ (ap₂ _&&_ f g) (ap₂ _&&_ s r) ∙ and-true _
 
-    pub kept-put : PutKept k a c
-    kept-put = record { stays = stays; live = late 6 (omega arith) ∙ n .live; gap = gap; raw = t .raw; kept = same-kept instants (t .tags) count from; state = state }
+    pub progress-put : PutProgress k a c
+    progress-put = record { stays = stays; live = late 6 (omega arith) ∙ n .live; gap = gap; raw = t .raw; progress = same-progress instants (t .tags) count from; state = state }

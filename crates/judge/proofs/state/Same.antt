@@ -10,12 +10,12 @@ use Rattle.records.specs.declared.sheet.Sheet.{Sheet}
 use Rattle.records.specs.Line.{blankLine}
 use Rattle.records.specs.Sheet.{slotOf, sheetValue}
 use Rattle.records.specs.Word.{tagOf}
-use Rattle.judge.specs.declared.kept.Kept.{Kept}
+use Rattle.judge.specs.declared.progress.Progress.{Progress}
 use Rattle.judge.specs.LineWords.{lineOfWords}
 use Rattle.judge.specs.Rows.{word, Stays, HeadStays}
-use Rattle.judge.specs.State.{format, clocksBy, stateWords, stateSheet, countBy, stateKept, isSide, isCase, isState, PutFormat, PutKept, PutSheet}
+use Rattle.judge.specs.State.{format, clocksBy, stateWords, stateSheet, countBy, stateProgress, isSide, isCase, isState, PutFormat, PutProgress, PutSheet}
 use Rattle.judge.proofs.Listing.{listed-same}
-use Rattle.judge.proofs.state.Laws.{kinds-same, same-kept}
+use Rattle.judge.proofs.state.Laws.{kinds-same, same-progress}
 use Rattle.judge.proofs.state.Words.{words-same}
 use Rattle.judge.proofs.state.Sheet.{same-sheet}
 
@@ -27,9 +27,9 @@ module _ (a b : List ℕ) where
       (listed-same 16 (λ k h. ap₂ (λ (m : ℕ) (l : Line). slotOf (cond (ltb k m) l blankLine)) n (ap lineOfWords (f k h))))
 
   -- the monitor beside it
-  pub kept-same : ((p : ℕ) → 3 ≤ p → p < 16 → word b 0 p ≡ word a 0 p) → stateKept b ≡ stateKept a
-  kept-same f =
-      same-kept (f 3 (omega arith) (omega arith))
+  pub progress-same : ((p : ℕ) → 3 ≤ p → p < 16 → word b 0 p ≡ word a 0 p) → stateProgress b ≡ stateProgress a
+  progress-same f =
+      same-progress (f 3 (omega arith) (omega arith))
       (listed-same 8 (λ k h. ap (λ (w : ℕ). tagOf (w % 65536)) (f (8 + k) (omega arith) (omega arith))))
       (ap₂ countBy (f 5 (omega arith) (omega arith)) (f 6 (omega arith) (omega arith)))
       (f 4 (omega arith) (omega arith))
@@ -47,8 +47,8 @@ module _ (a b : List ℕ) where
         sheet-same (s 0 1 (omega arith) (omega arith)) (s 0 2 (omega arith) (omega arith))
         (words-same a b (λ h p l m n. s h p (omega arith) n))
 
-    pub kept-stays : stateKept b ≡ stateKept a
-    kept-stays = kept-same (λ p l h. s 0 p (omega arith) (omega arith))
+    pub progress-stays : stateProgress b ≡ stateProgress a
+    progress-stays = progress-same (λ p l h. s 0 p (omega arith) (omega arith))
 
     pub state-stays : isState b ≡ isState a
     unfolding isState
@@ -58,11 +58,11 @@ module _ (a b : List ℕ) where
         (ap₂ _&&_ (ap isSide (s 0 4 (omega arith) (omega arith))) (ap isCase (s 0 5 (omega arith) (omega arith))))
 
 -- ---- format, sheet and monitor stored in turn
-module _ {s : Sheet} {k : Kept} {b c d : List ℕ} (sheet : PutSheet s b c) (kept : PutKept k c d) where
+module _ {s : Sheet} {k : Progress} {b c d : List ℕ} (sheet : PutSheet s b c) (progress : PutProgress k c d) where
   pub state-made : {a : List ℕ} → PutFormat a b → isState d ≡ true
   state-made f =
-      kept .state
+      progress .state
       ∙ ap₂ _&&_ (ap (λ (w : ℕ). eqb w format) (sheet .top 0 (omega arith) (λ e. omega arith) (λ e. omega arith)) ∙ f .format) (sheet .kinds)
 
   pub value-made : sheetValue (stateSheet d) ≡ sheetValue s
-  value-made = ap sheetValue (sheet-beside c d (kept .stays)) ∙ sheet .value
+  value-made = ap sheetValue (sheet-beside c d (progress .stays)) ∙ sheet .value

@@ -56,21 +56,21 @@ module _ (l : List ℕ) (k : ℕ) (r : LineWords) where
   linePut = set l₅ (width * 2 + (16 + k)) (r .y)
 
   -- the places before a store are as they were
-  kept₅ : (p : ℕ) → p < width * 2 + (16 + k) → getD linePut p 0 ≡ getD l₅ p 0
-  kept₅ p h = getD-set-other l₅ (width * 2 + (16 + k)) p (r .y) 0 (λ e. omega arith)
+  stays₅ : (p : ℕ) → p < width * 2 + (16 + k) → getD linePut p 0 ≡ getD l₅ p 0
+  stays₅ p h = getD-set-other l₅ (width * 2 + (16 + k)) p (r .y) 0 (λ e. omega arith)
 
-  kept₄ : (p : ℕ) → p < width * 2 + k → getD linePut p 0 ≡ getD l₄ p 0
-  kept₄ p h = kept₅ p (omega arith) ∙ getD-set-other l₄ (width * 2 + k) p (r .x) 0 (λ e. omega arith)
+  stays₄ : (p : ℕ) → p < width * 2 + k → getD linePut p 0 ≡ getD l₄ p 0
+  stays₄ p h = stays₅ p (omega arith) ∙ getD-set-other l₄ (width * 2 + k) p (r .x) 0 (λ e. omega arith)
 
   module _ (few : k < 16) where
-    kept₃ : (p : ℕ) → p < width * 1 + (48 + k) → getD linePut p 0 ≡ getD l₃ p 0
-    kept₃ p h = kept₄ p (omega arith) ∙ getD-set-other l₃ (width * 1 + (48 + k)) p (r .d) 0 (λ e. omega arith)
+    stays₃ : (p : ℕ) → p < width * 1 + (48 + k) → getD linePut p 0 ≡ getD l₃ p 0
+    stays₃ p h = stays₄ p (omega arith) ∙ getD-set-other l₃ (width * 1 + (48 + k)) p (r .d) 0 (λ e. omega arith)
 
-    kept₂ : (p : ℕ) → p < width * 1 + (32 + k) → getD linePut p 0 ≡ getD l₂ p 0
-    kept₂ p h = kept₃ p (omega arith) ∙ getD-set-other l₂ (width * 1 + (32 + k)) p (r .b) 0 (λ e. omega arith)
+    stays₂ : (p : ℕ) → p < width * 1 + (32 + k) → getD linePut p 0 ≡ getD l₂ p 0
+    stays₂ p h = stays₃ p (omega arith) ∙ getD-set-other l₂ (width * 1 + (32 + k)) p (r .b) 0 (λ e. omega arith)
 
-    kept₁ : (p : ℕ) → p < width * 1 + (16 + k) → getD linePut p 0 ≡ getD l₁ p 0
-    kept₁ p h = kept₂ p (omega arith) ∙ getD-set-other l₁ (width * 1 + (16 + k)) p (r .a) 0 (λ e. omega arith)
+    stays₁ : (p : ℕ) → p < width * 1 + (16 + k) → getD linePut p 0 ≡ getD l₁ p 0
+    stays₁ p h = stays₂ p (omega arith) ∙ getD-set-other l₁ (width * 1 + (16 + k)) p (r .a) 0 (λ e. omega arith)
 
     -- any other place than the six
     other : (p : ℕ) → ((m : ℕ) → m < 6 → p ≡ width * 1 + 16 * m + k → ⊥) → getD linePut p 0 ≡ getD l p 0
@@ -92,11 +92,11 @@ module _ (l : List ℕ) (k : ℕ) (r : LineWords) where
         record {
           size = simp length-set;
           here = same-words
-              (kept₁ (width * 1 + k) (omega arith) ∙ getD-set-same l (width * 1 + k) (r .kind) 0 (omega arith))
-              (kept₂ (width * 1 + (16 + k)) (omega arith) ∙ getD-set-same l₁ (width * 1 + (16 + k)) (r .a) 0 (omega arith))
-              (kept₃ (width * 1 + (32 + k)) (omega arith) ∙ getD-set-same l₂ (width * 1 + (32 + k)) (r .b) 0 (omega arith))
-              (kept₄ (width * 1 + (48 + k)) (omega arith) ∙ getD-set-same l₃ (width * 1 + (48 + k)) (r .d) 0 (omega arith))
-              (kept₅ (width * 2 + k) (omega arith) ∙ getD-set-same l₄ (width * 2 + k) (r .x) 0 (omega arith))
+              (stays₁ (width * 1 + k) (omega arith) ∙ getD-set-same l (width * 1 + k) (r .kind) 0 (omega arith))
+              (stays₂ (width * 1 + (16 + k)) (omega arith) ∙ getD-set-same l₁ (width * 1 + (16 + k)) (r .a) 0 (omega arith))
+              (stays₃ (width * 1 + (32 + k)) (omega arith) ∙ getD-set-same l₂ (width * 1 + (32 + k)) (r .b) 0 (omega arith))
+              (stays₄ (width * 1 + (48 + k)) (omega arith) ∙ getD-set-same l₃ (width * 1 + (48 + k)) (r .d) 0 (omega arith))
+              (stays₅ (width * 2 + k) (omega arith) ∙ getD-set-same l₄ (width * 2 + k) (r .x) 0 (omega arith))
               (getD-set-same l₅ (width * 2 + (16 + k)) (r .y) 0 (omega arith));
           others = λ j h f. same-words
               (other (width * 1 + j) (λ m n z. f (omega arith)))

@@ -15,20 +15,20 @@ use Rattle.tesl.specs.Lists.{all}
 use Rattle.tesl.proofs.Tests.{and-l, and-r, and-i}
 use Rattle.judge.specs.declared.plan.Plan.{Plan}
 use Rattle.judge.specs.declared.remainder.Remainder as arrays
-use Rattle.judge.specs.declared.held.Count.{Count}
-use Rattle.judge.specs.declared.held.Count.the-variants.{Exhausted, Live}
-use Rattle.judge.specs.View.{remainderOf, blankObligation, blankRemainder, cut, viewOf, sizedIn}
+use Rattle.judge.specs.declared.held.Status.{Status}
+use Rattle.judge.specs.declared.held.Status.the-variants.{Exhausted, Live}
+use Rattle.judge.specs.View.{remainderOf, blankObligation, blankRemainder, usedPart, viewOf, sizedIn}
 use Rattle.judge.specs.Unused.{NothingUnused}
 use Rattle.judge.specs.Lines.{smallLeads}
 use Rattle.judge.specs.Plan.{isPrecedes, Planned}
-use Rattle.judge.specs.Rows.{words, rowCount, rowOf, rowsOf, Small, HeadStays}
-use Rattle.judge.specs.Settle.{SmallIn}
-use Rattle.judge.specs.Stored.{PutRemainder, ToRows, KeptHeld, CopiedRows, FromRows}
+use Rattle.judge.specs.Rows.{words, rowCount, rowOf, rowsOf, FewOwed, HeadStays}
+use Rattle.judge.specs.Apply.{FewOwedIn}
+use Rattle.judge.specs.Stored.{PutRemainder, ToRows, StoredHeld, CopiedRows, FromRows}
 use Rattle.judge.proofs.Places.{as-is, all-at}
 use Rattle.judge.proofs.Listing.{one-of, all-of}
 use Rattle.judge.proofs.rows.Placing.{blank-at, each-place, first-listed}
 use Rattle.judge.proofs.work.Carried.{used-by}
-use Rattle.judge.proofs.settle.Laws.{row-stays}
+use Rattle.judge.proofs.apply.Laws.{row-stays}
 
 -- what past the end of an array of remainders reads
 abbrev pub pastEnd : arrays.Remainder
@@ -42,18 +42,18 @@ pub record Reads (rs : List arrays.Remainder) (rows : List ℕ) (k : ℕ) : Type
   pub row : rowOf rows (6 + k) ≡ remainderOf (getD rs k pastEnd)
 
 -- the first k are stored
-pub record Keeping (rs : List arrays.Remainder) (was rows : List ℕ) (k : ℕ) : Type 0 where
+pub record PuttingRows (rs : List arrays.Remainder) (was rows : List ℕ) (k : ℕ) : Type 0 where
   pub size : length rows ≡ words
   pub head : HeadStays was rows
   pub places : (j : ℕ) → j < k → Reads rs rows j
 
 module _ (rs : List arrays.Remainder) {was : List ℕ} where
-  pub keeping-start : length was ≡ words → Keeping rs was was 0
-  keeping-start h = record { size = h; head = λ g p l m. refl; places = λ j l. absurd (omega arith) }
+  pub rows-start : length was ≡ words → PuttingRows rs was was 0
+  rows-start h = record { size = h; head = λ g p l m. refl; places = λ j l. absurd (omega arith) }
 
-  module _ {rows : List ℕ} {k : ℕ} (w : Keeping rs was rows k) where
-    pub keeping-more : {after : List ℕ} → PutRemainder (6 + k) (getD rs k pastEnd) rows after → getD rs k pastEnd .owed ≤ 8 → Keeping rs was after (k + 1)
-    keeping-more {after} p few =
+  module _ {rows : List ℕ} {k : ℕ} (w : PuttingRows rs was rows k) where
+    pub rows-more : {after : List ℕ} → PutRemainder (6 + k) (getD rs k pastEnd) rows after → getD rs k pastEnd .owed ≤ 8 → PuttingRows rs was after (k + 1)
+    rows-more {after} p few =
         record {
           size = p .stays .size ∙ w .size;
           head = λ g q l m. p .stays .same g q m (λ e x y. omega arith) ∙ w .head g q l m;
@@ -64,13 +64,13 @@ module _ (rs : List arrays.Remainder) {was : List ℕ} where
               (eq-or-lt-of-le (omega arith));
         }
 
-    pub kept-rows : {n : ℕ} → n ≡ k → n ≤ length rs → ToRows n rs was rows
-    kept-rows {n} e h =
+    pub rows-put : {n : ℕ} → n ≡ k → n ≤ length rs → ToRows n rs was rows
+    rows-put {n} e h =
         record {
           size = w .size;
           head = w .head;
           small = λ j l. w .places j (omega arith) .few;
-          rows = λ v. sym (first-listed (viewOf v) (λ j. cut v (rowOf rows (6 + j))) pastEnd rs n h (λ j l. ap (cut v) (sym (w .places j (omega arith) .row))));
+          rows = λ v. sym (first-listed (viewOf v) (λ j. usedPart v (rowOf rows (6 + j))) pastEnd rs n h (λ j l. ap (usedPart v) (sym (w .places j (omega arith) .row))));
         }
 
 -- remainder k owes at most eight
@@ -78,18 +78,18 @@ pub owes-few : (rs : List arrays.Remainder) (n k : ℕ) → k < n → n ≤ leng
 owes-few rs n k h l t =
     leb→le _ 8 (all-at (λ (r : arrays.Remainder). r) rs n k pastEnd h l (λ (r : arrays.Remainder). leb (r .owed) 8) (rw as-is t))
 
-pub room-for : {count : Count} {n : ℕ} (rs : List arrays.Remainder) → count ≡ Live n → T (sizedIn count rs) → (n ≤ 32) × T (all (λ (r : arrays.Remainder). leb (r .owed) 8) (take n rs))
+pub room-for : {count : Status} {n : ℕ} (rs : List arrays.Remainder) → count ≡ Live n → T (sizedIn count rs) → (n ≤ 32) × T (all (λ (r : arrays.Remainder). leb (r .owed) 8) (take n rs))
 room-for {n = n} rs e t =
     let s : T (sizedIn (Live n) rs) = rw e at t in
     let few = all (λ (r : arrays.Remainder). leb (r .owed) 8) (take n rs) in
     (leb→le n 32 (and-l (leb n 32) few s), and-r (leb n 32) few s)
 
-module _ {count : Count} (rs : List arrays.Remainder) {a : List ℕ} where
-  pub kept-none : count ≡ Exhausted → length a ≡ words → KeptHeld count rs a a
-  kept-none e h = rw e (record { size = h; head = λ g p l m. refl; small = tt; held = λ v. refl })
+module _ {count : Status} (rs : List arrays.Remainder) {a : List ℕ} where
+  pub stored-none : count ≡ Exhausted → length a ≡ words → StoredHeld count rs a a
+  stored-none e h = rw e (record { size = h; head = λ g p l m. refl; small = tt; held = λ v. refl })
 
-  pub kept-live : {n : ℕ} {b : List ℕ} → count ≡ Live n → n ≤ 32 → ToRows n rs a b → KeptHeld count rs a b
-  kept-live e h w = rw e (record { size = w .size; head = w .head; small = (h, w .small); held = λ v. ap some (w .rows v) })
+  pub stored-live : {n : ℕ} {b : List ℕ} → count ≡ Live n → n ≤ 32 → ToRows n rs a b → StoredHeld count rs a b
+  stored-live e h w = rw e (record { size = w .size; head = w .head; small = (h, w .small); held = λ v. ap some (w .rows v) })
 
 -- ---- read back
 
@@ -114,18 +114,18 @@ module _ {p : Plan} {from n : ℕ} (rs : List arrays.Remainder) {rows : List ℕ
   module _ {v : SheetValue} {lines : List ℕ} (planned : Planned v p lines) where
     copied-view : n ≤ 32 → T (all smallLeads (rowsOf v rows from n)) → map (viewOf v) (take n rs) ≡ rowsOf v rows from n
     copied-view h t =
-        first-listed (viewOf v) (λ k. cut v (rowOf rows (from + k))) blankRemainder rs n (omega (arith, w .size))
-        (λ k l. w .first k l .view v lines planned (one-of (λ j. cut v (rowOf rows (from + j))) smallLeads n t k l))
+        first-listed (viewOf v) (λ k. usedPart v (rowOf rows (from + k))) blankRemainder rs n (omega (arith, w .size))
+        (λ k l. w .first k l .view v lines planned (one-of (λ j. usedPart v (rowOf rows (from + j))) smallLeads n t k l))
 
     copied-unused : (k : ℕ) → NothingUnused v (getD rs k blankRemainder)
     copied-unused = each-place (NothingUnused v) blankRemainder rs n (λ k h. w .first k h .unused v lines planned) (w .rest) (blank-unused v)
 
-  pub found-none : {count : Count} → count ≡ Exhausted → n ≡ 0 → FromRows p count from rs rows
+  pub found-none : {count : Status} → count ≡ Exhausted → n ≡ 0 → FromRows p count from rs rows
   found-none e z =
       rw e
       (record { fits = tt; held = λ v lines planned t. refl; unused = λ v lines planned. copied-unused planned; rest = λ k h. w .rest k (omega arith) })
 
-  pub found-live : {count : Count} → count ≡ Live n → n ≤ 32 → FromRows p count from rs rows
+  pub found-live : {count : Status} → count ≡ Live n → n ≤ 32 → FromRows p count from rs rows
   found-live e h =
       rw e
       (record {
@@ -135,5 +135,5 @@ module _ {p : Plan} {from n : ℕ} (rs : List arrays.Remainder) {rows : List ℕ
         rest = w .rest;
       })
 
-pub small-live : {count : Count} {n : ℕ} (rows : List ℕ) (from : ℕ) → count ≡ Live n → SmallIn count rows from → (n ≤ 32) × Small rows from n
-small-live rows from e h = subst (λ (k : Count). SmallIn k rows from) e h
+pub small-live : {count : Status} {n : ℕ} (rows : List ℕ) (from : ℕ) → count ≡ Live n → FewOwedIn count rows from → (n ≤ 32) × FewOwed rows from n
+small-live rows from e h = subst (λ (k : Status). FewOwedIn k rows from) e h

@@ -15,7 +15,7 @@ use Rattle.theory.specs.Step.{nextLeads}
 use Rattle.theory.proofs.Lists.{table-ext}
 use Rattle.judge.specs.declared.plan.Plan.{Plan}
 use Rattle.judge.specs.declared.remainder.Remainder as arrays
-use Rattle.judge.specs.View.{owedOf, inUse, cut, viewOf}
+use Rattle.judge.specs.View.{owedOf, inUse, usedPart, viewOf}
 use Rattle.judge.specs.Unused.{NothingUnused}
 use Rattle.judge.specs.Lines.{smallLeads}
 use Rattle.judge.specs.Plan.{isPrecedes, Planned}
@@ -60,21 +60,21 @@ take-same d n xs ys h l p =
     (λ k b. let c : k < n = omega (arith, m) in getD-take n xs k d c ∙ p k c ∙ sym (getD-take n ys k d c))
 
 module _ {p : Plan} {i : ℕ} (r : arrays.Remainder) {rows : List ℕ} (count : r .owed ≡ rowCount rows i) (few : rowCount rows i ≤ 8)
-    (owed : ObligationsAt i (r .owed) (r .obligations) rows) (led : LeadsAt (p .reach) (p .precede) i (r .leads) rows) (stopped : StoppedAt (p .clocks) i (r .stopped) rows) where
+    (owed : ObligationsAt i (r .owed) (r .obligations) rows) (led : LeadsAt (p .leaders) (p .precede) i (r .leads) rows) (stopped : StoppedAt (p .clocks) i (r .stopped) rows) where
   -- of a sheet that the plan is of
   module _ {v : SheetValue} {lines : List ℕ} (planned : Planned v p lines) where
     abbrev precedes : ℕ → Bool
     precedes k = isPrecedes (sheetLine v k)
 
-    in-reach : (k : ℕ) → precedes k ≡ true → (k < p .reach) × (getD (p .precede) k false ≡ true)
-    in-reach k e = let b = both (ltb k (p .reach)) (sym (planned .leading .1 k) ∙ e) in (ltb-true k (p .reach) (b .0), b .1)
+    in-leaders : (k : ℕ) → precedes k ≡ true → (k < p .leaders) × (getD (p .precede) k false ≡ true)
+    in-leaders k e = let b = both (ltb k (p .leaders)) (sym (planned .leading .1 k) ∙ e) in (ltb-true k (p .leaders) (b .0), b .1)
 
     no-lead : (k : ℕ) → precedes k ≡ false → getD (r .leads) k 0 ≡ 0
-    no-lead k e = by-test (ltb k (p .reach)) refl (sym (planned .leading .1 k) ∙ e)
+    no-lead k e = by-test (ltb k (p .leaders)) refl (sym (planned .leading .1 k) ∙ e)
       where
-        by-test : (b : Bool) → ltb k (p .reach) ≡ b → (b && getD (p .precede) k false) ≡ false → getD (r .leads) k 0 ≡ 0
-        by-test true t f = led .first k (ltb-true k (p .reach) t) ∙ rw f
-        by-test false t f = led .rest k (ltb-false k (p .reach) t)
+        by-test : (b : Bool) → ltb k (p .leaders) ≡ b → (b && getD (p .precede) k false) ≡ false → getD (r .leads) k 0 ≡ 0
+        by-test true t f = led .first k (ltb-true k (p .leaders) t) ∙ rw f
+        by-test false t f = led .rest k (ltb-false k (p .leaders) t)
 
     unused-lead : (k : ℕ) → getD (r .leads) k 0 ≡ inUse (sheetLine v k) (getD (r .leads) k 0)
     unused-lead k = by-test (precedes k) refl ∙ sym (used-by (sheetLine v k) (getD (r .leads) k 0))
@@ -86,13 +86,13 @@ module _ {p : Plan} {i : ℕ} (r : arrays.Remainder) {rows : List ℕ} (count : 
     pub nothing-unused : NothingUnused v r
     nothing-unused = record { obligations = owed .rest; leads = unused-lead; stopped = λ k h. stopped .rest k (omega (arith, planned .as-many)) }
 
-    module _ (small : T (smallLeads (cut v (rowOf rows i)))) where
+    module _ (small : T (smallLeads (usedPart v (rowOf rows i)))) where
       lead-same : (k : ℕ) → inUse (sheetLine v k) (getD (r .leads) k 0) ≡ inUse (sheetLine v k) (getD (rowLeads rows i) k 0)
       lead-same k = used-by (sheetLine v k) (getD (r .leads) k 0) ∙ by-test (precedes k) refl ∙ sym (used-by (sheetLine v k) (getD (rowLeads rows i) k 0))
         where
           by-test : (b : Bool) → precedes k ≡ b → cond b (getD (r .leads) k 0) 0 ≡ cond b (getD (rowLeads rows i) k 0) 0
           by-test true e =
-              let b = in-reach k e in
+              let b = in-leaders k e in
               let at = listed-at (rowLead rows i) 0 16 k (omega (arith, planned .leading .0)) in
               led .first k (b .0) ∙ rw (b .1) (omega (arith, at, small-lead v [] (rowOf rows i) small k e))
           by-test false e = refl
@@ -109,7 +109,7 @@ module _ {p : Plan} {i : ℕ} (r : arrays.Remainder) {rows : List ℕ} (count : 
           take-same false (v .clocks) (r .stopped) (rowStopped rows i) (omega (arith, stopped .size)) (omega arith)
           (λ k h. stopped .first k (omega arith) ∙ sym (listed-at (rowStop rows i) false 8 k (omega arith)))
 
-      pub read-view : viewOf v r ≡ cut v (rowOf rows i)
+      pub read-view : viewOf v r ≡ usedPart v (rowOf rows i)
       read-view = same-remainder (owed .first ∙ ap (listed (rowObligation rows i)) count) leads-read stopped-read
 
   pub remainder-read : RemainderAt p i r rows

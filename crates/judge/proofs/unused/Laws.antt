@@ -17,7 +17,7 @@ use Rattle.theory.proofs.Lists.{table-ext}
 use Rattle.judge.specs.declared.plan.Plan.{Plan}
 use Rattle.judge.specs.View.{inUse}
 use Rattle.judge.specs.Word.{flagOf}
-use Rattle.judge.specs.Plan.{isPrecedes, Fitting, Planned}
+use Rattle.judge.specs.Plan.{isPrecedes, PlanFits, Planned}
 use Rattle.judge.specs.Rows.{width, word, rowCount, rowObligation, rowOwed, rowLead, rowLeads, rowStop, rowStopped, Stays, ClearedWords}
 use Rattle.judge.specs.UnusedWords.{leadUsed}
 use Rattle.judge.specs.Cleared.{ClearedPart, ClearedRows, ClearedOwed, ClearedLeads, ClearedUnused}
@@ -44,39 +44,39 @@ rows-cleared first n c =
 
 -- ---- obligations
 module _ {i n : ℕ} {a b c d : List ℕ} (few : n ≤ 8) (x : ClearedPart i (1 + n) 9 a b) (y : ClearedPart i (9 + n) 17 b c) (z : ClearedPart i (17 + n) 25 c d) where
-  kept-word : (q : ℕ) → q < width → (1 + n ≤ q → q < 9 → ⊥) → (9 + n ≤ q → q < 17 → ⊥) → (17 + n ≤ q → q < 25 → ⊥) → word d i q ≡ word a i q
-  kept-word q l e f g = z .stays .same i q l (λ r. g) ∙ y .stays .same i q l (λ r. f) ∙ x .stays .same i q l (λ r. e)
+  word-as-before : (q : ℕ) → q < width → (1 + n ≤ q → q < 9 → ⊥) → (9 + n ≤ q → q < 17 → ⊥) → (17 + n ≤ q → q < 25 → ⊥) → word d i q ≡ word a i q
+  word-as-before q l e f g = z .stays .same i q l (λ r. g) ∙ y .stays .same i q l (λ r. f) ∙ x .stays .same i q l (λ r. e)
 
   pub owed-cleared : ClearedOwed i n a d
   owed-cleared =
       record {
         stays = stays-on (stays-wide (x .stays) 1 25 (omega arith) (omega arith)) (stays-on (stays-wide (y .stays) 1 25 (omega arith) (omega arith)) (stays-wide (z .stays) 1 25 (omega arith) (omega arith)));
         owed = λ j l. obligation-same a d i j
-            (kept-word (1 + j) (omega arith) (λ u w. omega arith) (λ u w. omega arith) (λ u w. omega arith))
-            (kept-word (9 + j) (omega arith) (λ u w. omega arith) (λ u w. omega arith) (λ u w. omega arith))
-            (kept-word (17 + j) (omega arith) (λ u w. omega arith) (λ u w. omega arith) (λ u w. omega arith));
+            (word-as-before (1 + j) (omega arith) (λ u w. omega arith) (λ u w. omega arith) (λ u w. omega arith))
+            (word-as-before (9 + j) (omega arith) (λ u w. omega arith) (λ u w. omega arith) (λ u w. omega arith))
+            (word-as-before (17 + j) (omega arith) (λ u w. omega arith) (λ u w. omega arith) (λ u w. omega arith));
         clocks = λ j l m. z .stays .same i (1 + j) (omega arith) (λ r u w. omega arith) ∙ y .stays .same i (1 + j) (omega arith) (λ r u w. omega arith) ∙ x .zero (1 + j) (omega arith) (omega arith);
         on-clocks = λ j l m. z .stays .same i (9 + j) (omega arith) (λ r u w. omega arith) ∙ y .zero (9 + j) (omega arith) (omega arith);
         dues = λ j l m. z .zero (17 + j) (omega arith) (omega arith);
       }
 
 -- ---- leads: of the first k those without a flag are zero
-pub record Leads (reach : ℕ) (precede : List Bool) (i : ℕ) (was rows : List ℕ) (k : ℕ) : Type 0 where
-  pub turns : k ≤ reach
+pub record Leads (leaders : ℕ) (precede : List Bool) (i : ℕ) (was rows : List ℕ) (k : ℕ) : Type 0 where
+  pub turns : k ≤ leaders
   pub stays : Stays i 25 41 was rows
-  pub used : (j : ℕ) → j < reach → getD precede j false ≡ true → rowLead rows i j ≡ rowLead was i j
+  pub used : (j : ℕ) → j < leaders → getD precede j false ≡ true → rowLead rows i j ≡ rowLead was i j
   pub unused : (j : ℕ) → j < k → getD precede j false ≡ false → rowLead rows i j ≡ 0
 
-module _ {reach : ℕ} (precede : List Bool) {i : ℕ} {was : List ℕ} (few : reach ≤ 16) where
-  pub leads-start : Leads reach precede i was was 0
+module _ {leaders : ℕ} (precede : List Bool) {i : ℕ} {was : List ℕ} (few : leaders ≤ 16) where
+  pub leads-start : Leads leaders precede i was was 0
   leads-start = record { turns = omega arith; stays = stays-all i 25 41 was; used = λ j l e. refl; unused = λ j l e. absurd (omega arith) }
 
-  module _ {rows : List ℕ} {k : ℕ} (w : Leads reach precede i was rows k) where
+  module _ {rows : List ℕ} {k : ℕ} (w : Leads leaders precede i was rows k) where
     apart : {j : ℕ} → getD precede k false ≡ false → getD precede j false ≡ true → j ≡ k → ⊥
     apart e f g = let z : true ≡ false = sym f ∙ ap (λ n. getD precede n false) g ∙ e in let n : _≡_ {A = ℕ} 0 1 = cc in omega arith
 
-    pub leads-kept : k < reach → getD precede k false ≡ true → Leads reach precede i was rows (k + 1)
-    leads-kept h e =
+    pub leads-stay : k < leaders → getD precede k false ≡ true → Leads leaders precede i was rows (k + 1)
+    leads-stay h e =
         record {
           turns = omega arith;
           stays = w .stays;
@@ -87,7 +87,7 @@ module _ {reach : ℕ} (precede : List Bool) {i : ℕ} {was : List ℕ} (few : r
               (eq-or-lt-of-le (omega arith));
         }
 
-    pub leads-more : k < reach → getD precede k false ≡ false → Leads reach precede i was (set rows (width * i + (25 + k)) 0) (k + 1)
+    pub leads-more : k < leaders → getD precede k false ≡ false → Leads leaders precede i was (set rows (width * i + (25 + k)) 0) (k + 1)
     leads-more h e =
         record {
           turns = omega arith;
@@ -99,24 +99,24 @@ module _ {reach : ℕ} (precede : List Bool) {i : ℕ} {was : List ℕ} (few : r
               (eq-or-lt-of-le (omega arith));
         }
 
-    pub leads-cleared : {out : List ℕ} → reach ≤ k → ClearedPart i (25 + reach) 41 rows out → ClearedLeads reach precede i was out
+    pub leads-cleared : {out : List ℕ} → leaders ≤ k → ClearedPart i (25 + leaders) 41 rows out → ClearedLeads leaders precede i was out
     leads-cleared {out} h c =
         record {
           stays = stays-on (w .stays) (stays-wide (c .stays) 25 41 (omega arith) (omega arith));
-          used = λ j e. let b = both (ltb j reach) e in let m = ltb-true j reach (b .0) in within j m ∙ w .used j m (b .1);
-          unused = λ j l e. by-test j l (ltb j reach) refl e;
+          used = λ j e. let b = both (ltb j leaders) e in let m = ltb-true j leaders (b .0) in within j m ∙ w .used j m (b .1);
+          unused = λ j l e. by-test j l (ltb j leaders) refl e;
         }
       where
-        within : (j : ℕ) → j < reach → rowLead out i j ≡ rowLead rows i j
+        within : (j : ℕ) → j < leaders → rowLead out i j ≡ rowLead rows i j
         within j m = c .stays .same i (25 + j) (omega arith) (λ r x y. omega arith)
 
-        by-test : (j : ℕ) → j < 16 → (b : Bool) → ltb j reach ≡ b → (b && getD precede j false) ≡ false → rowLead out i j ≡ 0
-        by-test j l true t e = let m = ltb-true j reach t in within j m ∙ w .unused j (omega arith) e
-        by-test j l false t e = let m = ltb-false j reach t in c .zero (25 + j) (omega arith) (omega arith)
+        by-test : (j : ℕ) → j < 16 → (b : Bool) → ltb j leaders ≡ b → (b && getD precede j false) ≡ false → rowLead out i j ≡ 0
+        by-test j l true t e = let m = ltb-true j leaders t in within j m ∙ w .unused j (omega arith) e
+        by-test j l false t e = let m = ltb-false j leaders t in c .zero (25 + j) (omega arith) (omega arith)
 
 -- ---- a row
-module _ {p : Plan} {i : ℕ} {a b c d : List ℕ} (few : rowCount a i ≤ 8) (fit : Fitting p)
-    (o : ClearedOwed i (rowCount a i) a b) (l : ClearedLeads (p .reach) (p .precede) i b c) (s : ClearedPart i (41 + p .clocks) width c d) where
+module _ {p : Plan} {i : ℕ} {a b c d : List ℕ} (few : rowCount a i ≤ 8) (fit : PlanFits p)
+    (o : ClearedOwed i (rowCount a i) a b) (l : ClearedLeads (p .leaders) (p .precede) i b c) (s : ClearedPart i (41 + p .clocks) width c d) where
   same-count : rowCount d i ≡ rowCount a i
   same-count = s .stays .same i 0 (omega arith) (λ e x y. omega arith) ∙ l .stays .same i 0 (omega arith) (λ e x y. omega arith) ∙ o .stays .same i 0 (omega arith) (λ e x y. omega arith)
 
@@ -129,7 +129,7 @@ module _ {p : Plan} {i : ℕ} {a b c d : List ℕ} (few : rowCount a i ≤ 8) (f
       ap (listed (rowObligation d i)) same-count
       ∙ listed-same (rowCount a i) (λ j h. obligation-same b d i j (same-word (1 + j) (omega arith)) (same-word (9 + j) (omega arith)) (same-word (17 + j) (omega arith)) ∙ o .owed j h)
 
-  same-lead : (k : ℕ) → k < 16 → leadUsed (p .reach) (p .precede) k ≡ true → rowLead d i k ≡ rowLead a i k
+  same-lead : (k : ℕ) → k < 16 → leadUsed (p .leaders) (p .precede) k ≡ true → rowLead d i k ≡ rowLead a i k
   same-lead k h e = s .stays .same i (25 + k) (omega arith) (λ r x y. omega arith) ∙ l .used k e ∙ o .stays .same i (25 + k) (omega arith) (λ r x y. omega arith)
 
   same-stop : (k : ℕ) → k < p .clocks → rowStop d i k ≡ rowStop a i k
@@ -144,8 +144,8 @@ module _ {p : Plan} {i : ℕ} {a b c d : List ℕ} (few : rowCount a i ≤ 8) (f
       where
         by-test : (b : Bool) → isPrecedes (sheetLine v k) ≡ b → cond b (getD (rowLeads d i) k 0) 0 ≡ cond b (getD (rowLeads a i) k 0) 0
         by-test true e =
-            let u : leadUsed (p .reach) (p .precede) k ≡ true = sym (planned .leading .1 k) ∙ e in
-            let h : k < 16 = omega (arith, ltb-true k (p .reach) (both (ltb k (p .reach)) u .0), fit .reach) in
+            let u : leadUsed (p .leaders) (p .precede) k ≡ true = sym (planned .leading .1 k) ∙ e in
+            let h : k < 16 = omega (arith, ltb-true k (p .leaders) (both (ltb k (p .leaders)) u .0), fit .leaders) in
             listed-at (rowLead d i) 0 16 k h ∙ same-lead k h u ∙ sym (listed-at (rowLead a i) 0 16 k h)
         by-test false e = refl
 

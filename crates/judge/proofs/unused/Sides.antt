@@ -11,17 +11,17 @@ use lib.Dec.{ltb}
 use borrow.Author.Tests.{ltb-true, ltb-false, eq-eqb, ne-eqb}
 use Rattle.records.specs.Sheet.{SheetValue}
 use Rattle.judge.specs.declared.plan.Plan.{Plan}
-use Rattle.judge.specs.declared.held.Count.{Count}
-use Rattle.judge.specs.declared.held.Count.the-variants.{Exhausted, Live}
-use Rattle.judge.specs.View.{cut, liveCount}
-use Rattle.judge.specs.Rows.{width, height, word, rowCount, rowOf, Small, RowsStay}
-use Rattle.judge.specs.Settle.{Side, foundIn, SmallIn, builtRows}
+use Rattle.judge.specs.declared.held.Status.{Status}
+use Rattle.judge.specs.declared.held.Status.the-variants.{Exhausted, Live}
+use Rattle.judge.specs.View.{usedPart, liveCount}
+use Rattle.judge.specs.Rows.{width, height, word, rowCount, rowOf, FewOwed, RowsStay}
+use Rattle.judge.specs.Apply.{Side, foundIn, FewOwedIn, builtRows}
 use Rattle.judge.specs.Fill.{workedRows}
 use Rattle.judge.specs.UnusedWords.{NothingInRow, NothingBeside}
 use Rattle.judge.specs.Cleared.{ClearedRows, ClearedRow, ClearedUnused, ClearedEach, ClearedBeside, ClearedFound, Tidied}
 use Rattle.judge.proofs.Listing.{listed-same}
 use Rattle.judge.proofs.rows.Laws.{rows-stay-all, rows-stay-one, rows-stay-among, rows-stay-wide, rows-stay-on}
-use Rattle.judge.proofs.settle.Laws.{row-same}
+use Rattle.judge.proofs.apply.Laws.{row-same}
 
 -- row h is one of n rows from `first` on, or none of them
 among-rows : {X : Type 0} (h first n : ℕ) → (first ≤ h → h < first + n → X) → ((first ≤ h → h < first + n → ⊥) → X) → X
@@ -60,14 +60,14 @@ nothing-zero p rows i zero =
 -- cleared after, or before, other rows
 module _ {p : Plan} {i : ℕ} where
   cleared-on : (a b : List ℕ) {c : List ℕ} → rowCount a i ≤ 8 → ((q : ℕ) → q < width → word b i q ≡ word a i q) → ClearedRow p i b c → ClearedRow p i a c
-  cleared-on a b few same w = record { count = w .count ∙ same 0 (omega arith); row = λ v lines planned. w .row v lines planned ∙ ap (cut v) (row-same a b i few same); nothing = w .nothing }
+  cleared-on a b few same w = record { count = w .count ∙ same 0 (omega arith); row = λ v lines planned. w .row v lines planned ∙ ap (usedPart v) (row-same a b i few same); nothing = w .nothing }
 
   cleared-stays : (b c : List ℕ) {a : List ℕ} → rowCount a i ≤ 8 → ((q : ℕ) → q < width → word c i q ≡ word b i q) → ClearedRow p i a b → ClearedRow p i a c
   cleared-stays b c few same w =
       let e = w .count in
       record {
         count = same 0 (omega arith) ∙ w .count;
-        row = λ v lines planned. ap (cut v) (row-same b c i (omega arith) same) ∙ w .row v lines planned;
+        row = λ v lines planned. ap (usedPart v) (row-same b c i (omega arith) same) ∙ w .row v lines planned;
         nothing = nothing-same b c i same (w .nothing);
       }
 
@@ -81,7 +81,7 @@ module _ {p : Plan} {from n : ℕ} {was : List ℕ} where
   pub clearing-start : Clearing p from n was was 0
   clearing-start = record { turns = omega arith; stays = rows-stay-all from 0 was; each = λ j l. absurd (omega arith) }
 
-  module _ {rows : List ℕ} {k : ℕ} (small : Small was from n) (w : Clearing p from n was rows k) (h : k < n) where
+  module _ {rows : List ℕ} {k : ℕ} (small : FewOwed was from n) (w : Clearing p from n was rows k) (h : k < n) where
     -- the next row is as it was
     next-word : (q : ℕ) → q < width → word rows (from + k) q ≡ word was (from + k) q
     next-word q l = w .stays .same (from + k) q l (λ x y. omega arith)
@@ -111,44 +111,44 @@ module _ (a b : List ℕ) (to : ℕ) where
   SameRows n = (k q : ℕ) → k < n → q < width → word b (to + k) q ≡ word a (to + k) q
 
   -- where each reads the same
-  found-by : (v : SheetValue) (count : Count) → ((k : ℕ) → k < liveCount count → cut v (rowOf b (to + k)) ≡ cut v (rowOf a (to + k))) → foundIn v count b to ≡ foundIn v count a to
+  found-by : (v : SheetValue) (count : Status) → ((k : ℕ) → k < liveCount count → usedPart v (rowOf b (to + k)) ≡ usedPart v (rowOf a (to + k))) → foundIn v count b to ≡ foundIn v count a to
   found-by v Exhausted same = refl
   found-by v (Live n) same = ap some (listed-same n same)
 
-  small-by : (count : Count) → ((k : ℕ) → k < liveCount count → rowCount b (to + k) ≡ rowCount a (to + k)) → SmallIn count a to → SmallIn count b to
+  small-by : (count : Status) → ((k : ℕ) → k < liveCount count → rowCount b (to + k) ≡ rowCount a (to + k)) → FewOwedIn count a to → FewOwedIn count b to
   small-by Exhausted same s = tt
   small-by (Live n) same s = (s .0, λ k l. rw (same k l) (s .1 k l))
 
-pub few-each : (count : Count) (rows : List ℕ) (to : ℕ) → SmallIn count rows to → Small rows to (liveCount count)
+pub few-each : (count : Status) (rows : List ℕ) (to : ℕ) → FewOwedIn count rows to → FewOwed rows to (liveCount count)
 few-each Exhausted rows to s k l = absurd (omega arith)
 few-each (Live n) rows to s k l = s .1 k l
 
-pub few-live : (count : Count) (rows : List ℕ) (to : ℕ) → SmallIn count rows to → liveCount count ≤ 32
+pub few-live : (count : Status) (rows : List ℕ) (to : ℕ) → FewOwedIn count rows to → liveCount count ≤ 32
 few-live Exhausted rows to s = omega arith
 few-live (Live n) rows to s = s .0
 
-module _ (a b : List ℕ) (to : ℕ) (count : Count) (same : SameRows a b to (liveCount count)) (s : SmallIn count a to) where
-  pub small-same : SmallIn count b to
+module _ (a b : List ℕ) (to : ℕ) (count : Status) (same : SameRows a b to (liveCount count)) (s : FewOwedIn count a to) where
+  pub small-same : FewOwedIn count b to
   small-same = small-by a b to count (λ k l. same k 0 l (omega arith)) s
 
   pub found-same : (v : SheetValue) → foundIn v count b to ≡ foundIn v count a to
-  found-same v = found-by a b to v count (λ k l. ap (cut v) (row-same a b (to + k) (few-each count a to s k l) (λ q m. same k q l m)))
+  found-same v = found-by a b to v count (λ k l. ap (usedPart v) (row-same a b (to + k) (few-each count a to s k l) (λ q m. same k q l m)))
 
 -- the row after them is cleared
 module _ (to n : ℕ) {a b : List ℕ} (c : ClearedRows (to + n) 1 a b) where
   first-same : SameRows a b to n
   first-same k q l m = c .stays .same (to + k) q m (λ x y. omega arith)
 
-  pub small-first : Small a to n → Small b to n
+  pub small-first : FewOwed a to n → FewOwed b to n
   small-first small k l = rw (first-same k 0 l (omega arith)) (small k l)
 
-module _ {p : Plan} {to : ℕ} {count : Count} {a b : List ℕ} where
+module _ {p : Plan} {to : ℕ} {count : Status} {a b : List ℕ} where
   pub found-exhausted : count ≡ Exhausted → ClearedRows to 33 a b → ClearedFound p to count a b
   found-exhausted e c =
       rw e
       (record { stays = c .stays; small = tt; found = λ v lines planned. refl; others = λ h q l m k f. c .zero h q l m k; each = λ k l. absurd (omega arith) })
 
-  pub found-live : {n : ℕ} {m : List ℕ} → count ≡ Live n → n ≤ 32 → Small a to n → ClearedRows (to + n) 1 a m → ClearedEach p to n m b → ClearedFound p to count a b
+  pub found-live : {n : ℕ} {m : List ℕ} → count ≡ Live n → n ≤ 32 → FewOwed a to n → ClearedRows (to + n) 1 a m → ClearedEach p to n m b → ClearedFound p to count a b
   found-live {n} {m} e few small c w =
       let same = first-same to n c in
       rw e
@@ -180,14 +180,14 @@ module _ {from : ℕ} (side : Side from) where
       (λ x y. let e = first-side (omega arith) in let g : h < from + 33 → ⊥ = f (omega arith) in (omega arith, omega arith))
       (λ x. let y : from < 23 → ⊥ = x (omega arith) in let e = second-side (omega arith) in let g : from ≤ h → ⊥ = λ u. f u (omega arith) in (omega arith, omega arith))
 
-module _ (p : Plan) {from : ℕ} (count : Count) {n : ℕ} (e : n ≡ liveCount count) {a b c : List ℕ} (side : Side from) (small : SmallIn count a from)
+module _ (p : Plan) {from : ℕ} (count : Status) {n : ℕ} (e : n ≡ liveCount count) {a b c : List ℕ} (side : Side from) (small : FewOwedIn count a from)
     (x : ClearedRows (45 - from) 33 a b) (y : ClearedRows (from + n) (33 - n) b c) where
   same-held : SameRows a c from (liveCount count)
   same-held k q l m =
       let few = few-live count a from small in
       y .stays .same (from + k) q m (λ s t. omega arith) ∙ x .stays .same (from + k) q m (λ s t. side .apart k (from + k - (45 - from)) (omega arith) (omega arith) (omega arith))
 
-  pub small-beside : Small c from n
+  pub small-beside : FewOwed c from n
   small-beside k l = few-each count c from (small-same a c from count same-held small) k (omega arith)
 
   module _ {d : List ℕ} (z : ClearedEach p from n c d) where
@@ -210,13 +210,13 @@ module _ (p : Plan) {from : ℕ} (count : Count) {n : ℕ} (e : n ≡ liveCount 
         }
 
 -- ---- both sides
-worked-none : (was : Count) → liveCount was ≡ 0 → (count : Count) → workedRows was count ≡ 0
+worked-none : (was : Status) → liveCount was ≡ 0 → (count : Status) → workedRows was count ≡ 0
 worked-none was e count = rw (eq-eqb (liveCount was) 0 e)
 
-worked-some : (was : Count) → (liveCount was ≡ 0 → ⊥) → (count : Count) → workedRows was count ≡ builtRows count
+worked-some : (was : Status) → (liveCount was ≡ 0 → ⊥) → (count : Status) → workedRows was count ≡ builtRows count
 worked-some was f count = rw (ne-eqb (liveCount was) 0 f)
 
-module _ (p : Plan) (from : ℕ) (was count : Count) {a : List ℕ} (side : Side from) (small : SmallIn count a (45 - from)) where
+module _ (p : Plan) (from : ℕ) (was count : Status) {a : List ℕ} (side : Side from) (small : FewOwedIn count a (45 - from)) where
   -- none was held: all words are zero
   module _ (none : liveCount was ≡ 0) where
     all-zero : {before : List ℕ} → NothingBeside p was from before → RowsStay (45 - from) (workedRows was count) before a → (h q : ℕ) → 6 ≤ h → h < height → q < width → word a h q ≡ 0
@@ -241,7 +241,7 @@ module _ (p : Plan) (from : ℕ) (was count : Count) {a : List ℕ} (side : Side
     same-found : SameRows a b (45 - from) (liveCount count)
     same-found k q l m = x .stays .same (45 - from + k) q m (λ s t. side .apart (45 - from + k - from) k (omega arith) (omega (arith, few-live count a (45 - from) small)) (omega arith))
 
-    pub small-cleared : SmallIn count b (45 - from)
+    pub small-cleared : FewOwedIn count b (45 - from)
     small-cleared = small-same a b (45 - from) count same-found small
 
     module _ {c : List ℕ} (y : ClearedFound p (45 - from) count b c) where

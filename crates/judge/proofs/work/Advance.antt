@@ -20,8 +20,8 @@ use Rattle.theory.proofs.Respect.{sameObligation→eq, owed-equivalence, same-o
 use Rattle.theory.proofs.Tidy.{owes-more}
 use Rattle.judge.specs.Advanced.{Advanced, fails, over, onto}
 use Rattle.judge.specs.Questions.{carriedHolds}
-use Rattle.judge.specs.Owed.{owing, left, kept}
-use Rattle.judge.specs.Work.{carried, withBegun, withKept, advanced}
+use Rattle.judge.specs.Owed.{owing, left, stillOwed}
+use Rattle.judge.specs.Work.{carried, withBegun, withStillOwed, advanced}
 use Rattle.judge.proofs.work.Padded.{padded, goesOn, step-next}
 
 -- ---- a filled instant
@@ -55,14 +55,14 @@ with-begun (room h) = moves h
 with-begun (full h) = nine h
 
 advance-moves : (v : SheetValue) (f : Filled) (r : Remainder) → Moves v f r (goesOn v f r) (advanced v f (flatMap (owedFrom f) (v .lines)) r)
-unfolding advanced kept
+unfolding advanced stillOwed
 advance-moves v f r =
     by-tests (not (overlap (f .ticks) (r .stopped)) && linesOk (carriedHolds (f .ticks)) (v .lines) (r .leads)) (notLate (some (f .tags)) (left f (r .owed)))
   where
     begun : List Obligation
     begun = flatMap (owedFrom f) (v .lines)
 
-    by-tests : (a b : Bool) → Moves v f r (a && b) (cond a (withKept v (f .ticks) begun r (cond b (some (left f (r .owed))) none)) fails)
+    by-tests : (a b : Bool) → Moves v f r (a && b) (cond a (withStillOwed v (f .ticks) begun r (cond b (some (left f (r .owed))) none)) fails)
     by-tests false b = stays
     by-tests true false = stays
     by-tests true true = with-begun (earlier sameObligation 8 (λ o. refl) (left-room f (r .owed)) (left-once f (r .owed)) (added-all sameObligation owed-equivalence 8 begun (left f (r .owed))))

@@ -18,7 +18,7 @@ use Rattle.tesl.specs.Remainder.{Remainder}
 use Rattle.tesl.proofs.Tests.{and-l, and-r}
 use Rattle.theory.specs.Step.{bit, statesOk, nextStates, linesOk, nextLeads}
 use Rattle.theory.proofs.Lists.{table-ext}
-use Rattle.judge.specs.View.{inUse, cut}
+use Rattle.judge.specs.View.{inUse, usedPart}
 use Rattle.judge.specs.Questions.{tickIn, carriedHolds, leadAfter, stoppedAfter}
 use Rattle.judge.specs.Lines.{allStopped, smallLeads}
 use Rattle.judge.specs.Plan.{isRule, isPrecedes, Leading}
@@ -225,29 +225,29 @@ module _ (v : SheetValue) (ticks : List Bool) where
       ∙ take-all-stopped (v .clocks) ticks (v .lines) stopped
 
   -- a lead in use is small
-  pub small-lead : (raw : Remainder) → T (smallLeads (cut v raw)) → (k : ℕ) → isPrecedes (sheetLine v k) ≡ true → getD (raw .leads) k 0 < 65536
+  pub small-lead : (raw : Remainder) → T (smallLeads (usedPart v raw)) → (k : ℕ) → isPrecedes (sheetLine v k) ≡ true → getD (raw .leads) k 0 < 65536
   small-lead raw t k e = let h = in-use (sheetLine v k) (getD (raw .leads) k 0) e in omega (arith, h, used-small (v .lines) (raw .leads) t k)
 
-  module _ (reach : ℕ) (precede : List Bool) (leading : Leading v reach precede) (leads : List ℕ) where
+  module _ (leaders : ℕ) (precede : List Bool) (leading : Leading v leaders precede) (leads : List ℕ) where
     -- the lines hold if each lead is at least what its line needs
-    pub carried-holds : linesOk (carriedHolds ticks) (v .lines) (nextLeads inUse (v .lines) leads) ≡ below reach (λ k. leb (needOf ticks (sheetLine v k)) (getD leads k 0))
+    pub carried-holds : linesOk (carriedHolds ticks) (v .lines) (nextLeads inUse (v .lines) leads) ≡ below leaders (λ k. leb (needOf ticks (sheetLine v k)) (getD leads k 0))
     carried-holds =
         lines-hold ticks (v .lines) leads
         ∙ ok-places 0 (asks ticks) (v .lines) leads
-        ∙ below-either (needed v ticks leads) (length (v .lines)) reach past-lines past-reach
+        ∙ below-either (needed v ticks leads) (length (v .lines)) leaders past-lines past-leaders
       where
         past-lines : (k : ℕ) → length (v .lines) ≤ k → needed v ticks leads k ≡ true
         past-lines k h = rw (List·getD-eq-default (v .lines) blankLine {n = k} h) (leb·zero (getD leads k 0))
 
-        past-reach : (k : ℕ) → reach ≤ k → needed v ticks leads k ≡ true
-        past-reach k h = rw (no-need ticks (sheetLine v k) (leading .1 k ∙ rw (le-ltb k reach h))) (leb·zero (getD leads k 0))
+        past-leaders : (k : ℕ) → leaders ≤ k → needed v ticks leads k ≡ true
+        past-leaders k h = rw (no-need ticks (sheetLine v k) (leading .1 k ∙ rw (le-ltb k leaders h))) (leb·zero (getD leads k 0))
 
     -- leads with their gains and without their losses are those after the instant
     pub carried-leads : (r : List ℕ)
-        → ((k : ℕ) → k < reach → isPrecedes (sheetLine v k) ≡ true → getD r k 0 ≡ getD leads k 0 + gainOf ticks (sheetLine v k) - lossOf ticks (sheetLine v k))
+        → ((k : ℕ) → k < leaders → isPrecedes (sheetLine v k) ≡ true → getD r k 0 ≡ getD leads k 0 + gainOf ticks (sheetLine v k) - lossOf ticks (sheetLine v k))
         → nextLeads inUse (v .lines) r ≡ nextLeads (leadAfter ticks) (v .lines) (nextLeads inUse (v .lines) leads)
     carried-leads r h =
         next-places 0 inUse (v .lines) r
         ∙ table-ext (length (v .lines)) (λ k. inUse (sheetLine v k) (getD r k 0)) (λ k. leadAfter ticks (sheetLine v k) (inUse (sheetLine v k) (getD leads k 0)))
-        (λ k b. lead-moves ticks (sheetLine v k) (getD leads k 0) (getD r k 0) (λ e. h k (ltb-true k reach (both (ltb k reach) (sym (leading .1 k) ∙ e) .0)) e))
+        (λ k b. lead-moves ticks (sheetLine v k) (getD leads k 0) (getD r k 0) (λ e. h k (ltb-true k leaders (both (ltb k leaders) (sym (leading .1 k) ∙ e) .0)) e))
         ∙ sym (next-next 0 inUse (leadAfter ticks) (v .lines) leads ∙ next-places 0 (λ l n. leadAfter ticks l (inUse l n)) (v .lines) leads)

@@ -16,11 +16,11 @@ abbrev pub Once : Remainder → Type 0
 Once r = T (apart sameObligation (r .owed))
 
 -- three tests in another order
-turned : (a s l : Bool) → (a && (s && l)) ≡ (l && (s && a))
-turned a true true = and-true a
-turned a true false = and-false a
-turned a false true = and-false a
-turned a false false = and-false a
+reordered : (a s l : Bool) → (a && (s && l)) ≡ (l && (s && a))
+reordered a true true = and-true a
+reordered a true false = and-false a
+reordered a false true = and-false a
+reordered a false false = and-false a
 
 pub counted : (x r : Remainder) → Once x → Once r → sameCounted x r ≡ sameRemainder x r
 unfolding sameCounted sameRemainder
@@ -28,7 +28,7 @@ counted x r a b =
     let s = sameList Bool·beq (x .stopped) (r .stopped) in
     let l = sameList eqb (x .leads) (r .leads) in
     ap (λ (t : Bool). t && (s && l)) (by-count sameObligation owed-equivalence (x .owed) (r .owed) a b)
-    ∙ turned (within sameObligation (x .owed) (r .owed) && within sameObligation (r .owed) (x .owed)) s l
+    ∙ reordered (within sameObligation (x .owed) (r .owed) && within sameObligation (r .owed) (x .owed)) s l
 
 pub any-counted : (x : Remainder) (rs : List Remainder) → Once x → All Once rs → any (sameCounted x) rs ≡ any (sameRemainder x) rs
 any-counted x [] a b = refl

@@ -23,7 +23,7 @@ use Rattle.judge.specs.Work.{worked}
 use Rattle.judge.proofs.work.Padded.{lastIn}
 use Rattle.judge.proofs.work.Counted.{Once}
 use Rattle.judge.proofs.work.Gather.{Gathered, Gathering}
-use Rattle.judge.proofs.work.Settle.{reached, reached-are, worked-gathers}
+use Rattle.judge.proofs.work.Apply.{reached, reached-are, worked-gathers}
 
 -- a remainder of c clocks as the arrays have it
 pub record Shaped (c : ℕ) (r : Remainder) : Type 0 where

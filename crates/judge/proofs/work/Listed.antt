@@ -21,12 +21,12 @@ use Rattle.judge.specs.View.{seenOf}
 use Rattle.judge.specs.Questions.{tagsHold}
 use Rattle.judge.specs.Plan.{isRelation, isRule}
 use Rattle.judge.specs.Rules.{allowed}
-use Rattle.judge.specs.Fillings.{fillingsFrom, fillingsIn, takenBy, settling}
+use Rattle.judge.specs.Fillings.{fillingsFrom, fillingsIn, takenBy, byFilling}
 use Rattle.judge.specs.Fill.{fillingsLeft}
-use Rattle.judge.specs.Heed.{namedBy, flagged, heeds, heeded}
+use Rattle.judge.specs.Relevant.{namedBy, flagged, isRelevant, relevantOnly}
 use Rattle.judge.specs.Work.{filling, fillFrom, worked}
 use Rattle.judge.proofs.plan.Parts.{relations-enough, rules-enough}
-use Rattle.judge.proofs.work.Heed.{clocksOf, heeded-enough}
+use Rattle.judge.proofs.work.Relevant.{clocksOf, relevant-enough}
 
 -- ---- the fillings, one after the other
 module _ {R : Type 0} (g : R → List Bool → R) where
@@ -72,26 +72,26 @@ few (suc n) k (Unseen ∷ left) ticks h =
     let more = few n (k + 1) left (set ticks k true) (omega arith) in
     omega (arith, length-append (fillingsFrom (k + 1) left ticks) (fillingsFrom (k + 1) left (set ticks k true)), idle, more)
 
-length-heeded : (p : ℕ → Bool) (k : ℕ) (seen : List Tick) → length (heeded p k seen) ≡ length seen
-length-heeded p k [] = refl
-length-heeded p k (t ∷ seen) = ap suc (length-heeded p (k + 1) seen)
+length-relevant : (p : ℕ → Bool) (k : ℕ) (seen : List Tick) → length (relevantOnly p k seen) ≡ length seen
+length-relevant p k [] = refl
+length-relevant p k (t ∷ seen) = ap suc (length-relevant p (k + 1) seen)
 
 pub at-most-256 : (flags : List Bool) (seen : List TickSlot) (c : ℕ) (ticks : List Bool) → c ≤ 8 → 0 + length (fillingsLeft flags seen c 0 ticks) ≤ 256
 at-most-256 flags seen c ticks h =
     rw zero-add
-    (few 8 0 (heeded (λ j. getD flags j true) 0 (seenOf c seen)) ticks (omega (arith, length-heeded (λ j. getD flags j true) 0 (seenOf c seen), length-map (take c seen) (λ (t : TickSlot). t .tick), length-take c seen)))
+    (few 8 0 (relevantOnly (λ j. getD flags j true) 0 (seenOf c seen)) ticks (omega (arith, length-relevant (λ j. getD flags j true) 0 (seenOf c seen), length-map (take c seen) (λ (t : TickSlot). t .tick), length-take c seen)))
 
 pub few-listed : (flags : List Bool) (seen : List TickSlot) (c : ℕ) (ticks : List Bool) {m : ℕ} → c ≤ 8 → m ≤ 0 + length (fillingsLeft flags seen c 0 ticks) → m ≤ 256
 few-listed flags seen c ticks h l = le-trans l (at-most-256 flags seen c ticks h)
 
 -- ---- an instant
 module _ (room : ℕ) (v : SheetValue) (tags : List ℤ) (rs : List Remainder) where
-  filling-allowed : (found : Option (List Remainder)) (ticks : List Bool) → filling room v tags rs found ticks ≡ cond (allowed (filter isRule (v .lines)) ticks) (settling room v tags rs found ticks) found
+  filling-allowed : (found : Option (List Remainder)) (ticks : List Bool) → filling room v tags rs found ticks ≡ cond (allowed (filter isRule (v .lines)) ticks) (byFilling room v tags rs found ticks) found
   unfolding filling
   filling-allowed found ticks = rw (rules-enough (v .lines) ticks)
 
-  filled-listed : (seen : List Tick) (ticks : List Bool) (found : Option (List Remainder)) → fillFrom (filling room v tags rs) 0 seen ticks found ≡ takenBy (settling room v tags rs) (filter (allowed (filter isRule (v .lines))) (fillingsFrom 0 seen ticks)) found
-  filled-listed seen ticks found = fill-taken (filling room v tags rs) 0 seen ticks found ∙ taken-filter (filling room v tags rs) (settling room v tags rs) (allowed (filter isRule (v .lines))) filling-allowed (fillingsFrom 0 seen ticks) found
+  filled-listed : (seen : List Tick) (ticks : List Bool) (found : Option (List Remainder)) → fillFrom (filling room v tags rs) 0 seen ticks found ≡ takenBy (byFilling room v tags rs) (filter (allowed (filter isRule (v .lines))) (fillingsFrom 0 seen ticks)) found
+  filled-listed seen ticks found = fill-taken (filling room v tags rs) 0 seen ticks found ∙ taken-filter (filling room v tags rs) (byFilling room v tags rs) (allowed (filter isRule (v .lines))) filling-allowed (fillingsFrom 0 seen ticks) found
 
 module _ (room : ℕ) (v : SheetValue) (last : Option (List ℤ)) (ticks : List TickSlot) (tags : List ℤ) where
   abbrev seen : List Tick
@@ -117,11 +117,11 @@ module _ (room : ℕ) (v : SheetValue) (last : Option (List ℤ)) (ticks : List 
 
     pub worked-yes : q ≡ true → {owed : List ℕ} → flatMap clocksOf rs ≡ owed → {flags : List Bool} → flags ≡ flagged owed (flagged (flatMap namedBy (v .lines)) (replicate 8 false)) → {rules : List Line} → rules ≡ filter isRule (v .lines)
         → (list : List Bool) {fillings : List (List Bool)} → fillings ≡ fillingsIn list 0 ++ filter (allowed rules) (fillingsLeft flags ticks clocks 0 (replicate 8 false))
-        → {found : Option (List Remainder)} → found ≡ takenBy (settling room v tags rs) fillings (some []) → found ≡ worked room v last seen tags (some rs)
+        → {found : Option (List Remainder)} → found ≡ takenBy (byFilling room v tags rs) fillings (some []) → found ≡ worked room v last seen tags (some rs)
     unfolding listedFrom
     worked-yes g {owed = owed} o s k list l p =
         p
         ∙ rw (l, s, k, c)
         (sym
-        (by-tags g ∙ heeded-enough room v tags rs o seen (replicate 8 false) (some [])
-        ∙ filled-listed room v tags rs (heeded (heeds (v .lines) owed) 0 seen) (replicate 8 false) (some [])))
+        (by-tags g ∙ relevant-enough room v tags rs o seen (replicate 8 false) (some [])
+        ∙ filled-listed room v tags rs (relevantOnly (isRelevant (v .lines) owed) 0 seen) (replicate 8 false) (some [])))

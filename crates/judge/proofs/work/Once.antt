@@ -14,23 +14,23 @@ use Rattle.theory.proofs.Adding.{added-once}
 use Rattle.theory.proofs.Respect.{owed-equivalence}
 use Rattle.judge.specs.Advanced.{Advanced, fails}
 use Rattle.judge.specs.Questions.{carriedHolds}
-use Rattle.judge.specs.Owed.{kept}
-use Rattle.judge.specs.Work.{withBegun, withKept, advanced, took, settledAll}
+use Rattle.judge.specs.Owed.{stillOwed}
+use Rattle.judge.specs.Work.{withBegun, withStillOwed, advanced, took, allAdvanced}
 
 -- ---- a filled instant
 
 module _ (v : SheetValue) (f : Filled) (os : List Obligation) where
-  kept-once : (r : Remainder) (x : Option (List Obligation)) → withKept v (f .ticks) (onceEach sameObligation os) r x ≡ withKept v (f .ticks) os r x
-  kept-once r none = refl
-  kept-once r (some q) = ap (withBegun v (f .ticks) r) (added-once sameObligation owed-equivalence 8 os q)
+  still-owed-once : (r : Remainder) (x : Option (List Obligation)) → withStillOwed v (f .ticks) (onceEach sameObligation os) r x ≡ withStillOwed v (f .ticks) os r x
+  still-owed-once r none = refl
+  still-owed-once r (some q) = ap (withBegun v (f .ticks) r) (added-once sameObligation owed-equivalence 8 os q)
 
   advanced-once : (r : Remainder) → advanced v f (onceEach sameObligation os) r ≡ advanced v f os r
   unfolding advanced
   advanced-once r =
-      ap (λ (a : Advanced). cond (not (overlap (f .ticks) (r .stopped)) && linesOk (carriedHolds (f .ticks)) (v .lines) (r .leads)) a fails) (kept-once r (kept f (r .owed)))
+      ap (λ (a : Advanced). cond (not (overlap (f .ticks) (r .stopped)) && linesOk (carriedHolds (f .ticks)) (v .lines) (r .leads)) a fails) (still-owed-once r (stillOwed f (r .owed)))
 
-  pub settled-once : (room : ℕ) (rs : List Remainder) (found : Option (List Remainder)) → settledAll room v f (onceEach sameObligation os) rs found ≡ settledAll room v f os rs found
-  unfolding settledAll
-  settled-once room [] found = refl
-  settled-once room (r ∷ rs) found =
-      settled-once room rs (took room found (advanced v f (onceEach sameObligation os) r)) ∙ ap (λ (a : Advanced). settledAll room v f os rs (took room found a)) (advanced-once r)
+  pub all-advanced-once : (room : ℕ) (rs : List Remainder) (found : Option (List Remainder)) → allAdvanced room v f (onceEach sameObligation os) rs found ≡ allAdvanced room v f os rs found
+  unfolding allAdvanced
+  all-advanced-once room [] found = refl
+  all-advanced-once room (r ∷ rs) found =
+      all-advanced-once room rs (took room found (advanced v f (onceEach sameObligation os) r)) ∙ ap (λ (a : Advanced). allAdvanced room v f os rs (took room found a)) (advanced-once r)

@@ -19,7 +19,7 @@ use Rattle.records.specs.declared.instant.Tick.the-variants.{Idle}
 use Rattle.records.specs.declared.instant.TickSlot.{TickSlot}
 use Rattle.records.specs.declared.instant.Instant.{Instant}
 use Rattle.records.specs.declared.instant.InstantRead.{InstantRead}
-use Rattle.records.specs.declared.record.Answer.the-variants as answer
+use Rattle.records.specs.declared.record.Decision.the-variants as answer
 use Rattle.records.specs.declared.record.Record.{Record}
 use Rattle.records.specs.declared.record.Record.the-variants.{Whole, Torn}
 use Rattle.records.specs.declared.record.Written.the-variants as written
@@ -29,7 +29,7 @@ use Rattle.records.specs.Word.{at, wordAt, wordBytes, tagOf, rawOf}
 use Rattle.records.specs.Record.{isTorn, whole, cut, pieces, recordAt}
 use Rattle.records.specs.Sheet.{clockCount}
 use Rattle.records.specs.Store.{puts, wrote}
-use Rattle.records.specs.Instant.{Cell, RawCell, tickOf, tickByte, rawCells, tickAbove, cellOf, oneInstantChecks, instantIn, readInstant, tickSlot, tickAt, tagAt, cellAt, instantValue, instantOf, instantRead, cellBytes, instantBytes, writeInstant}
+use Rattle.records.specs.Instant.{Cell, RawCell, tickOf, tickByte, rawCells, tickAbove, cellOf, oneInstantChecks, instantIn, readInstant, tickSlot, tickAt, cellTag, cellAt, instantValue, instantOf, instantRead, cellBytes, instantBytes, writeInstant}
 use Rattle.records.specs.Inner.{withCell, cellsRead}
 use Rattle.records.proofs.Lists.{both, map-append, length-listed, listed-cons, listed-end, filled-set}
 use Rattle.records.proofs.Store.{puts-append, puts-both, puts-front}
@@ -170,7 +170,7 @@ storedFrom ticks tags n i b = puts b (4 + 3 * i) (cellsBytes (listedFrom (cellAt
 
 -- a turn of the loop that stores clocks
 module _ {w : List ℕ} (ticks : List TickSlot) (tags : List ℤ) (n i : ℕ) (b : List ℕ) (inv : w ≡ storedFrom ticks tags n i b) where
-  pub cell-more : i < n → (t : Tick) (z : ℤ) (b′ : List ℕ) → t ≡ tickAt ticks i → z ≡ tagAt tags i → mag z < 32768 → b′ ≡ puts b (4 + 3 * i) (cellBytes (record { tick = t; tag = toZ w16 (ofZ w16 z) }))
+  pub cell-more : i < n → (t : Tick) (z : ℤ) (b′ : List ℕ) → t ≡ tickAt ticks i → z ≡ cellTag tags i → mag z < 32768 → b′ ≡ puts b (4 + 3 * i) (cellBytes (record { tick = t; tag = toZ w16 (ofZ w16 z) }))
       → w ≡ storedFrom ticks tags n (i + 1) b′
   unfolding storedFrom
   cell-more h t z b′ p q f e =

@@ -5,7 +5,7 @@ use Prim.Native.Nat.{ℕ}
 use native.Mathlib.Omega.{arith}
 use lib.ListN.{length, take, length-map}
 use lib.Seq.{take-append-seam}
-use Rattle.records.specs.declared.record.Answer.the-variants.{Done, Refused}
+use Rattle.records.specs.declared.record.Decision.the-variants.{Done, Refused}
 use Rattle.records.specs.Outcome.{Outcome, taken, refused}
 use Rattle.records.specs.Lists.{filled}
 use Rattle.records.specs.Instant.{Cell, instantOf, instantRead}

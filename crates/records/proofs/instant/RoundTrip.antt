@@ -10,7 +10,7 @@ use lib.IntN.{pos}
 use borrow.Author.Tests.{not-false}
 use Rattle.records.specs.declared.instant.Tick.the-variants.{Idle}
 use Rattle.records.specs.declared.instant.Instant.{Instant}
-use Rattle.records.specs.declared.record.Answer.the-variants as answer
+use Rattle.records.specs.declared.record.Decision.the-variants as answer
 use Rattle.records.specs.declared.record.Written.the-variants as written
 use Rattle.records.specs.Outcome.{Outcome, taken, refused, _⇒_}
 use Rattle.records.specs.Record.{pieces}

@@ -11,7 +11,7 @@ use borrow.Author.Tests.{lt-ltb, le-ltb, le-leb, lt-leb, eq-eqb, ne-eqb, not-tru
 use Rattle.records.specs.declared.line.Line.{Line}
 use Rattle.records.specs.declared.line.Shape.{Shape}
 use Rattle.records.specs.declared.line.LineRead.the-variants.{Read, Refused}
-use Rattle.records.specs.declared.record.Answer.the-variants as answer
+use Rattle.records.specs.declared.record.Decision.the-variants as answer
 use Rattle.records.specs.Outcome.{decide}
 use Rattle.records.specs.Lists.{filled}
 use Rattle.records.specs.Word.{wordBytes}

@@ -14,7 +14,7 @@ use Rattle.records.specs.declared.sheet.Sheet.{Sheet}
 use Rattle.records.specs.declared.sheet.SheetRead.{SheetRead}
 use Rattle.records.specs.declared.record.Record.{Record}
 use Rattle.records.specs.declared.record.Record.the-variants.{Whole, Torn}
-use Rattle.records.specs.declared.record.Answer.the-variants as answer
+use Rattle.records.specs.declared.record.Decision.the-variants as answer
 use Rattle.records.specs.Outcome.{Outcome, taken, refused, Check, decide}
 use Rattle.records.specs.Lists.{filled}
 use Rattle.records.specs.Word.{at}

@@ -9,8 +9,8 @@ use lib.Dec.{leb, ltb}
 use borrow.Author.Tests.{le-ltb, lt-ltb, ltb-false, leb-true, not-true, not-false}
 use Rattle.records.specs.declared.line.Line.{Line}
 use Rattle.records.specs.declared.sheet.Sheet.{Sheet}
-use Rattle.records.specs.declared.record.Answer.{Answer}
-use Rattle.records.specs.declared.record.Answer.the-variants as answer
+use Rattle.records.specs.declared.record.Decision.{Decision}
+use Rattle.records.specs.declared.record.Decision.the-variants as answer
 use Rattle.records.specs.declared.record.Written.the-variants as written
 use Rattle.records.specs.Outcome.{Outcome, taken, refused, Check, _⇒_, decide}
 use Rattle.records.specs.Lists.{listedFrom, listed, joined}
@@ -89,7 +89,7 @@ module _ (s : Sheet) (i spent : ℕ) (c : Checking s i spent) where
       let k : s .count ≡ i = omega arith in
       record { answer = rw (c .left, listed-end (lineAt s) (s .count) i h); values = λ d. rw k (c .values) }
 
-  module _ (h : i < s .count) (l : Line) (e : l ≡ lineAt s i) (r : Answer) (f : (r ≡ answered (decide (valueLineChecks (s .clocks) spent (kindOf l) (bodyOf l)) l)) × IsLineValue l) where
+  module _ (h : i < s .count) (l : Line) (e : l ≡ lineAt s i) (r : Decision) (f : (r ≡ answered (decide (valueLineChecks (s .clocks) spent (kindOf l) (bodyOf l)) l)) × IsLineValue l) where
     -- the checks of line i, and of the lines after it
     abbrev these : List Check
     these = valueLineChecks (s .clocks) (sporadics (map kindOf (listed (lineAt s) i))) (kindOf (lineAt s i)) (bodyOf (lineAt s i))
@@ -168,7 +168,7 @@ module _ (s : Sheet) (t : Bool) (e : t ≡ clockCount (s .clocks)) where
     pub check-8 : 16 < s .count → Checked s (answer.Refused 8)
     check-8 g = record { answer = rw (sym e ∙ not-false t h, length-listed, lt-ltb 16 (s .count) g); value = λ d. refused-done d }
 
-    pub check-all : s .count ≤ 16 → {r : Answer} → LinesChecked s r → Checked s r
+    pub check-all : s .count ≤ 16 → {r : Decision} → LinesChecked s r → Checked s r
     unfolding linesFault
     check-all g {r} f = record {
       answer = f .answer ∙ rw (sym e ∙ not-false t h, length-listed, le-ltb 16 (s .count) g);
@@ -176,7 +176,7 @@ module _ (s : Sheet) (t : Bool) (e : t ≡ clockCount (s .clocks)) where
     }
 
 -- the answers of `write_sheet`
-module _ (s : Sheet) (r : Answer) (f : Checked s r) where
+module _ (s : Sheet) (r : Decision) (f : Checked s r) where
   abbrev checks : List Check
   checks = sheetValueChecks (sheetValue s)
 

@@ -10,7 +10,7 @@ use lib.IntN.{ℤ, pos}
 use lib.ListN.{length, take, drop, getD, length-append, drop-of-length-le}
 use lib.Seq.{take-suc}
 use borrow.Author.Tests.{le-leb, lt-leb}
-use Rattle.records.specs.declared.record.Answer.the-variants.{Done, Refused}
+use Rattle.records.specs.declared.record.Decision.the-variants.{Done, Refused}
 use Rattle.records.specs.declared.record.Record.{Record}
 use Rattle.records.specs.declared.record.Record.the-variants.{Whole, Torn}
 use Rattle.records.specs.declared.instant.Instant as code

@@ -17,7 +17,7 @@ use Rattle.theory.proofs.Log.{next-replies}
 use Rattle.judge.specs.declared.answer.Answer as code
 use Rattle.judge.specs.declared.answer.Reply.the-variants as reply
 use Rattle.judge.specs.declared.monitor.Monitor.{Monitor}
-use Rattle.judge.specs.declared.monitor.Given.{Given}
+use Rattle.judge.specs.declared.monitor.CallResult.{CallResult}
 use Rattle.judge.specs.Answer.{answerOf, replyOf}
 use Rattle.judge.specs.Monitor.{sheetBy}
 use Rattle.judge.specs.Promises.{Follows, Opened, Observed}
@@ -51,7 +51,7 @@ module _ {log out₀ out : List ℕ} {m₀ m : Monitor} {end at : ℕ} (w : Tell
   unfolding linesFrom machine
   told-end h = all-put (w .putting) (rw (drop-of-length-le log {i = at} h, no-pieces)) (ready .room)
 
-  module _ {p : List ℕ} (h : TheRecord log at p) {g : Given} (o : Observed m p g) where
+  module _ {p : List ℕ} (h : TheRecord log at p) {g : CallResult} (o : Observed m p g) where
     abbrev s : SheetValue
     s = sheetBy m₀
 
@@ -96,7 +96,7 @@ module _ {log out₀ out : List ℕ} {m₀ m : Monitor} {end at : ℕ} (w : Tell
 
 -- ---- the opening
 
-module _ (sheet log : List ℕ) (g : Given) (h : Opened readSheet sheet g) where
+module _ (sheet log : List ℕ) (g : CallResult) (h : Opened readSheet sheet g) where
   pub text-refused : {n : ℕ} → g .reply ≡ reply.Refused n → watchText sheet log ≡ refusalLine n
   unfolding watchText session
   text-refused {n} e = by-read (readSheet sheet) refl
@@ -104,7 +104,7 @@ module _ (sheet log : List ℕ) (g : Given) (h : Opened readSheet sheet g) where
       by-read : (o : Outcome SheetValue) → readSheet sheet ≡ o → watchText sheet log ≡ refusalLine n
       by-read (taken s) f = refused-taken (ap replyOf (sym e) ∙ h .opens s f .0)
       by-read (refused k) f =
-          let q : reply.Refused k ≡ reply.Refused n = sym (ap (λ (x : Given). x .reply) (h .refuses k f)) ∙ e in
+          let q : reply.Refused k ≡ reply.Refused n = sym (ap (λ (x : CallResult). x .reply) (h .refuses k f)) ∙ e in
           let z : k ≡ n = cc in
           rw (f, z)
 
@@ -118,7 +118,7 @@ module _ (sheet log : List ℕ) (g : Given) (h : Opened readSheet sheet g) where
     opens = by-read (readSheet sheet) refl
       where
         by-read : (o : Outcome SheetValue) → readSheet sheet ≡ o → Opens
-        by-read (refused k) f = refused-taken (sym (ap replyOf (sym e ∙ ap (λ (x : Given). x .reply) (h .refuses k f))))
+        by-read (refused k) f = refused-taken (sym (ap replyOf (sym e ∙ ap (λ (x : CallResult). x .reply) (h .refuses k f))))
         by-read (taken s) f =
             let q = h .opens s f .1 in
             record {

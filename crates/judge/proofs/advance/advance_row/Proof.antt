@@ -19,7 +19,7 @@ start c = c .before .before .before
 abbrev short : tie.After-is-barred → tie.Else1
 short c = c .before .before .before
 
-abbrev barred : tie.After-keep-row → tie.Else2
+abbrev barred : tie.After-put-still-owed → tie.Else2
 barred c = c .before .before .before
 
 abbrev late : tie.After-begin-row → tie.Else3
@@ -59,9 +59,9 @@ returns-3 c =
     let h = e .before in
     let s = start h in
     record {
-      stays = late-stays (s .pre .between .apart) (k .keep-row .ensures);
+      stays = late-stays (s .pre .between .apart) (k .put-still-owed .ensures);
       few = λ t. let z : _≡_ {A = ℕ} 0 1 = cc in absurd (omega arith);
-      row = λ v asked small. row-late asked (s .args .rows .now) (s .args .i) (h .leads-hold .ensures) (e .if1 .left) (b .is-barred .ensures) (l .if2 .left) (k .keep-row .ensures) (c .if3 .taken);
+      row = λ v asked small. row-late asked (s .args .rows .now) (s .args .i) (h .leads-hold .ensures) (e .if1 .left) (b .is-barred .ensures) (l .if2 .left) (k .put-still-owed .ensures) (c .if3 .taken);
     }
 
 begin-row-requires : tie.Need-begin-row-requires
@@ -69,7 +69,7 @@ begin-row-requires c κs =
     let e = c .before .before in
     let k = e .before in
     let s = start (short (barred k .before) .before) in
-    (record { size = k .keep-row .ensures .stays .size ∙ s .pre .between .size; row = s .pre .between .into; few = k .keep-row .ensures .few (not-false _ (e .if3 .left)) }, s .pre .begun)
+    (record { size = k .put-still-owed .ensures .stays .size ∙ s .pre .between .size; row = s .pre .between .into; few = k .put-still-owed .ensures .few (not-false _ (e .if3 .left)) }, s .pre .begun)
 
 returns-4 : tie.Need-returns-4
 returns-4 c =
@@ -82,23 +82,23 @@ returns-4 c =
     let h = e .before in
     let s = start h in
     record {
-      stays = over-stays (s .pre .between .apart) (k .keep-row .ensures) (n .begin-row .ensures);
+      stays = over-stays (s .pre .between .apart) (k .put-still-owed .ensures) (n .begin-row .ensures);
       few = λ t. let z : _≡_ {A = ℕ} 0 1 = cc in absurd (omega arith);
-      row = λ v asked small. row-over asked (s .args .rows .now) (s .args .i) (h .leads-hold .ensures) (e .if1 .left) (b .is-barred .ensures) (l .if2 .left) (k .keep-row .ensures) (m .if3 .left) (n .begin-row .ensures) (c .if4 .taken);
+      row = λ v asked small. row-over asked (s .args .rows .now) (s .args .i) (h .leads-hold .ensures) (e .if1 .left) (b .is-barred .ensures) (l .if2 .left) (k .put-still-owed .ensures) (m .if3 .left) (n .begin-row .ensures) (c .if4 .taken);
     }
 
 -- rows i and `to` are still there once the row's obligations are begun
 begun-size : (n : tie.After-begin-row) → length (n .begin-row .last .0) ≡ words
 begun-size n =
     let k = late n .before in
-    n .begin-row .ensures .stays .size ∙ k .keep-row .ensures .stays .size ∙ start (short (barred k .before) .before) .pre .between .size
+    n .begin-row .ensures .stays .size ∙ k .put-still-owed .ensures .stays .size ∙ start (short (barred k .before) .before) .pre .between .size
 
 leads-on-requires : tie.Need-leads-on-requires
 leads-on-requires c κs =
     let n = c .before .before .before .before in
     let s = start (short (barred (late n .before) .before) .before) in
     let b = s .pre .between in
-    (record { size = begun-size n; row = b .row; into = b .into; apart = b .apart }, s .pre .plan .reach)
+    (record { size = begun-size n; row = b .row; into = b .into; apart = b .apart }, s .pre .plan .leaders)
 
 stopped-on-requires : tie.Need-stopped-on-requires
 stopped-on-requires c κs =
@@ -120,14 +120,14 @@ returns-5 c =
     let h = e .before in
     let s = start h in
     let x = s .pre .between .apart in
-    let ks = k .keep-row .ensures in
+    let ks = k .put-still-owed .ensures in
     let ns = n .begin-row .ensures in
     let ds = d .leads-on .ensures in
     let cs = c .stopped-on .ensures in
     record {
       stays = built-stays x ks ns ds cs;
       few = λ t. built-few x ks ns ds cs;
-      row = λ v asked small. row-onto asked (s .args .rows .now) (s .args .i) (h .leads-hold .ensures) (e .if1 .left) (b .is-barred .ensures) (l .if2 .left) ks (m .if3 .left) ns (o .if4 .left) small (c .stopped-on .last .0) (built-owed x ks ns ds cs) (built-leads x ks ns ds cs (s .pre .plan .reach)) (built-stopped x ks ns ds cs);
+      row = λ v asked small. row-onto asked (s .args .rows .now) (s .args .i) (h .leads-hold .ensures) (e .if1 .left) (b .is-barred .ensures) (l .if2 .left) ks (m .if3 .left) ns (o .if4 .left) small (c .stopped-on .last .0) (built-owed x ks ns ds cs) (built-leads x ks ns ds cs (s .pre .plan .leaders)) (built-stopped x ks ns ds cs);
     }
 
 pub advance-row-spec : {M : Type 1} → statement M

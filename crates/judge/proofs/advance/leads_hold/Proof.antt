@@ -9,7 +9,7 @@ use lib.Dec.{leb}
 use lib.ListN.{getD}
 use Rattle.tesl.specs.Lists.{below}
 use Rattle.judge.specs.Rows.{rowLead}
-use Rattle.judge.proofs.among.Down.{below-end, below-no, below-more}
+use Rattle.judge.proofs.compare.Down.{below-end, below-no, below-more}
 use Rattle.judge.proofs.advance.leads_hold.Statement.{statement}
 use Rattle.judge.proofs.advance.leads_hold.Tie as tie
 
@@ -17,10 +17,10 @@ abbrev isEnough : List ℕ → List ℕ → ℕ → ℕ → Bool
 isEnough rows needs i k = leb (getD needs k 0) (rowLead rows i k)
 
 abbrev Inv-loop : tie.InvT-loop
-Inv-loop rows i reach needs k₀ k = (k ≤ reach) × (below reach (isEnough rows needs i) ≡ below k (isEnough rows needs i))
+Inv-loop rows i leaders needs k₀ k = (k ≤ leaders) × (below leaders (isEnough rows needs i) ≡ below k (isEnough rows needs i))
 
 abbrev μ-loop : tie.MeasureT-loop
-μ-loop rows i reach needs k₀ k = k
+μ-loop rows i leaders needs k₀ k = k
 
 -- what was found of a lead
 enough : (c : tie.After-is-enough Inv-loop μ-loop) → let at = c .before .before .before in c .is-enough .result ≡ isEnough (at .before .args .rows .now) (at .before .args .t4) (at .before .args .i) (at .loop .k - 1)

@@ -14,10 +14,10 @@ abbrev Next : List ℕ → List ℕ → List ℕ → ℕ → ℕ → ℕ → Typ
 Next rows gains losses i k w = rowLead rows i k < 65536 → w ≡ rowLead rows i k + getD gains k 0 - getD losses k 0
 
 abbrev Inv-loop : tie.InvT-loop
-Inv-loop was i to reach gains losses k₀ rows k = (k ≤ reach) × Storing (Next was gains losses i) to leadsPart stoppedPart was rows k
+Inv-loop was i to leaders gains losses k₀ rows k = (k ≤ leaders) × Storing (Next was gains losses i) to leadsPart stoppedPart was rows k
 
 abbrev μ-loop : tie.MeasureT-loop
-μ-loop was i to reach gains losses k₀ rows k = reach - k
+μ-loop was i to leaders gains losses k₀ rows k = leaders - k
 
 -- the lead that was read is row i's, which stays
 read : (c : tie.After-word-at Inv-loop μ-loop) → let at = c .before .before .before in c .word-at .result ≡ rowLead (at .before .args .rows .now) (at .before .args .i) (at .loop .k)

@@ -2,8 +2,8 @@
 use mathlib.Core.Path.{subst}
 use native.Mathlib.Omega.{arith}
 use borrow.Author.Needs.{needs}
-use Rattle.judge.specs.declared.held.Count.{Count}
-use Rattle.judge.specs.Settle.{SmallIn}
+use Rattle.judge.specs.declared.held.Status.{Status}
+use Rattle.judge.specs.Apply.{FewOwedIn}
 use Rattle.judge.proofs.answer.Laws.{rows-none, rows-some}
 use Rattle.judge.proofs.answer.say_rows.Statement.{statement}
 use Rattle.judge.proofs.answer.say_rows.Tie as tie
@@ -14,7 +14,7 @@ returns c v = let s = c .before .before .before .before in rows-none v (s .args 
 is-clear-in-requires : tie.Need-is-clear-in-requires
 is-clear-in-requires c κs =
     let s = c .before .before .before .before in
-    omega (arith, s .pre .0, subst (λ (k : Count). SmallIn k (s .args .rows .now) (s .args .from)) (c .before .before .count .given .1) (s .pre .1) .0)
+    omega (arith, s .pre .0, subst (λ (k : Status). FewOwedIn k (s .args .rows .now) (s .args .from)) (c .before .before .count .given .1) (s .pre .1) .0)
 
 returns-2 : tie.Need-returns-2
 returns-2 c = λ v. rw (c .enum-told .given .1)

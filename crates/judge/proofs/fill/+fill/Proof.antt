@@ -11,12 +11,12 @@ use borrow.Fn.Kinds.{In}
 use borrow.Fn.PlainCycle.{Measures, is, falls, and}
 use Rattle.records.specs.declared.instant.Tick.the-variants.{Idle, Ticks, Unseen}
 use Rattle.judge.specs.View.{seenOf}
-use Rattle.judge.specs.Heed.{heeded}
-use Rattle.judge.specs.Plan.{linesIn, rulesFrom}
+use Rattle.judge.specs.Relevant.{relevantOnly}
+use Rattle.judge.specs.Plan.{planLines, rulesFrom}
 use Rattle.judge.specs.Rules.{allowed}
 use Rattle.judge.specs.Fill.{fillingsLeft}
-use Rattle.judge.proofs.fill.Listed.{left-end, left-idle, left-ticks, left-unseen, left-unheeded, room-same, room-first, room-second, listed-none, listed-not, listed-one, listed-same, listed-both, flag-there}
-use Rattle.judge.proofs.fill.Cut.{cut-none}
+use Rattle.judge.proofs.fill.Listed.{left-end, left-idle, left-ticks, left-unseen, left-irrelevant, room-same, room-first, room-second, listed-none, listed-not, listed-one, listed-same, listed-both, flag-there}
+use Rattle.judge.proofs.fill.Forbidden.{forbidden-none}
 use Rattle.judge.proofs.fill.fill.Reads as fill
 use Rattle.judge.proofs.fill.fill.Kinds as fill-kinds
 use Rattle.judge.proofs.fill.+fill.Lts-fill as fill-lts
@@ -24,7 +24,7 @@ use Rattle.judge.proofs.fill.seen_at.Reads as seen-at-reads
 use Rattle.judge.proofs.fill.with_tick.Reads as with-tick-reads
 use Rattle.judge.proofs.list.put_flags.Reads as put-flags-reads
 use Rattle.judge.proofs.rules.all_hold.Reads as all-hold-reads
-use Rattle.judge.proofs.rules.is_cut.Reads as is-cut-reads
+use Rattle.judge.proofs.rules.is_forbidden.Reads as is-forbidden-reads
 use Rattle.judge.proofs.fill.+fill.{statement}
 use Rattle.judge.proofs.fill.+fill.Tie.{close}
 
@@ -39,7 +39,7 @@ fill-below t = and 2 fill-kinds.ps (falls 2 fill-kinds.ps _<_ μ-fill t) fill.Pr
 
 -- what each call asks and tells
 abbrev claims : ℕ → fill-lts.Claims
-claims t = (all-hold-reads.Asked, all-hold-reads.Learnt, put-flags-reads.Asked, put-flags-reads.Learnt, seen-at-reads.Asked, seen-at-reads.Learnt, fill-below t, fill.Post, with-tick-reads.Asked, with-tick-reads.Learnt, is-cut-reads.Asked, is-cut-reads.Learnt)
+claims t = (all-hold-reads.Asked, all-hold-reads.Learnt, put-flags-reads.Asked, put-flags-reads.Learnt, seen-at-reads.Asked, seen-at-reads.Learnt, fill-below t, fill.Post, with-tick-reads.Asked, with-tick-reads.Learnt, is-forbidden-reads.Asked, is-forbidden-reads.Learnt)
 
 module _ (t : ℕ) where
   abbrev Start : Type 0
@@ -56,7 +56,7 @@ module _ (t : ℕ) where
   then e ticks = left e (e .args .k + 1) ticks
 
   abbrev rules : Start → List Bool → Bool
-  rules e = allowed (linesIn (e .args .lines .now) rulesFrom (e .args .extent .rules))
+  rules e = allowed (planLines (e .args .lines .now) rulesFrom (e .args .extent .rules))
 
   -- all clocks are settled
   ended : (s : fill-lts.Then1 (claims t) (fill-at t) fill.Post) → now (s .before .before .before) ≡ s .before .before .before .args .ticks ∷ []
@@ -79,8 +79,8 @@ module _ (t : ℕ) where
     idle : s .seen-at .result ≡ Idle → now e ≡ then e (e .args .ticks)
     idle = left-idle (e .args .t3) (e .args .seen) (e .args .extent .clocks) (e .args .k) (e .args .ticks) next enough (s .seen-at .ensures)
 
-    unheeded : s .seen-at .result ≡ Unseen → getD (e .args .t3) (e .args .k) false ≡ false → now e ≡ then e (e .args .ticks)
-    unheeded f g = left-unheeded (e .args .t3) (e .args .seen) (e .args .extent .clocks) (e .args .k) (e .args .ticks) next enough (s .seen-at .ensures) f (flag ∙ g)
+    irrelevant : s .seen-at .result ≡ Unseen → getD (e .args .t3) (e .args .k) false ≡ false → now e ≡ then e (e .args .ticks)
+    irrelevant f g = left-irrelevant (e .args .t3) (e .args .seen) (e .args .extent .clocks) (e .args .k) (e .args .ticks) next enough (s .seen-at .ensures) f (flag ∙ g)
 
     module _ {more : List Bool} (p : more ≡ set (e .args .ticks) (e .args .k) true) where
       tick : s .seen-at .result ≡ Ticks → now e ≡ then e more
@@ -124,7 +124,7 @@ module _ (t : ℕ) where
   returns-3 c =
       let s = c .before .before .before .before in
       let a = e s .args in
-      listed-none (rules (e s)) (now (e s)) (a .n) (a .list .now) (cut-none (a .k) (a .ticks) (linesIn (a .lines .now) rulesFrom (a .extent .rules)) (c .before .is-cut .ensures) (c .if3 .taken) (heeded (λ j. getD (a .t3) j true) (a .k) (drop (a .k) (seenOf (a .extent .clocks) (a .seen))))) (e s .pre .1 .size)
+      listed-none (rules (e s)) (now (e s)) (a .n) (a .list .now) (forbidden-none (a .k) (a .ticks) (planLines (a .lines .now) rulesFrom (a .extent .rules)) (c .before .is-forbidden .ensures) (c .if3 .taken) (relevantOnly (λ j. getD (a .t3) j true) (a .k) (drop (a .k) (seenOf (a .extent .clocks) (a .seen))))) (e s .pre .1 .size)
 
   -- an unseen tick that is not cut
   abbrev told : fill-lts.Else3 (claims t) (fill-at t) fill.Post → fill-lts.After-enum-told3 (claims t) (fill-at t) fill.Post
@@ -136,14 +136,14 @@ module _ (t : ℕ) where
       let u = told (h .before) in
       let s = u .before .before in
       let p = e s .pre .1 in
-      (omega (arith, next s), record { size = p .size; few-clocks = p .few-clocks; few-rules = p .few-rules; clock = omega (arith, next s); room = room-same (e s .args .n) (unheeded s (u .enum-told3 .given .1) (not-true _ (h .if4 .taken))) (p .room) })
+      (omega (arith, next s), record { size = p .size; few-clocks = p .few-clocks; few-rules = p .few-rules; clock = omega (arith, next s); room = room-same (e s .args .n) (irrelevant s (u .enum-told3 .given .1) (not-true _ (h .if4 .taken))) (p .room) })
 
   returns-4 : fill-lts.Need-returns-4 (claims t) (fill-at t) fill.Post
   returns-4 c =
       let h = c .before .before in
       let u = told (h .before) in
       let s = u .before .before in
-      listed-same (rules (e s)) (unheeded s (u .enum-told3 .given .1) (not-true _ (h .if4 .taken))) (c .fill3 .ensures)
+      listed-same (rules (e s)) (irrelevant s (u .enum-told3 .given .1) (not-true _ (h .if4 .taken))) (c .fill3 .ensures)
 
   -- its clock has a flag: it branches
   module _ (h : fill-lts.Else4 (claims t) (fill-at t) fill.Post) where

@@ -10,13 +10,13 @@ use borrow.Author.Needs.{needs}
 use borrow.Author.Tests.{ne-eqb, not-true, not-false}
 use Rattle.records.specs.Sheet.{SheetValue}
 use Rattle.tesl.specs.Lists.{all}
-use Rattle.judge.specs.declared.held.Count.{Count}
-use Rattle.judge.specs.declared.held.Count.the-variants.{Live}
-use Rattle.judge.specs.View.{live}
+use Rattle.judge.specs.declared.held.Status.{Status}
+use Rattle.judge.specs.declared.held.Status.the-variants.{Live}
+use Rattle.judge.specs.View.{heldList}
 use Rattle.judge.specs.Lines.{smallLeads}
-use Rattle.judge.specs.Heed.{rowsClocks, flagged}
-use Rattle.judge.specs.Rows.{rowsOf, Small, RowsStay}
-use Rattle.judge.specs.Settle.{SmallIn, foundIn, builtRows}
+use Rattle.judge.specs.Relevant.{rowsClocks, flagged}
+use Rattle.judge.specs.Rows.{rowsOf, FewOwed, RowsStay}
+use Rattle.judge.specs.Apply.{FewOwedIn, foundIn, builtRows}
 use Rattle.judge.specs.Fill.{workedRows}
 use Rattle.judge.proofs.rows.Laws.{rows-stay-all}
 use Rattle.judge.proofs.work.Listed.{at-most-256, few-listed}
@@ -35,7 +35,7 @@ abbrev fits : tie.After-flag-rows → tie.Else2
 fits c = c .before .before .before .before .before .before
 
 -- where some are held, the rows that nothing was built in stay
-worked-stays : {count : Count} {n : ℕ} → count ≡ Live n → (n ≡ 0 → ⊥) → (r : Count) {first : ℕ} {a b : List ℕ} → RowsStay first (builtRows r) a b → RowsStay first (workedRows count r) a b
+worked-stays : {count : Status} {n : ℕ} → count ≡ Live n → (n ≡ 0 → ⊥) → (r : Status) {first : ℕ} {a b : List ℕ} → RowsStay first (builtRows r) a b → RowsStay first (workedRows count r) a b
 worked-stays {n = n} e f r s = rw (e, ne-eqb n 0 f) s
 
 -- those held
@@ -46,11 +46,11 @@ module _ (k : tie.After-known-told) where
   counted : start k .args .count ≡ Live (k .before .count .given .0 .0)
   counted = k .before .count .given .1
 
-  small : (k .before .count .given .0 .0 ≤ 32) × Small (start k .args .rows .now) (start k .args .from) (k .before .count .given .0 .0)
-  small = subst (λ (r : Count). SmallIn r (start k .args .rows .now) (start k .args .from)) counted (start k .pre .small)
+  small : (k .before .count .given .0 .0 ≤ 32) × FewOwed (start k .args .rows .now) (start k .args .from) (k .before .count .given .0 .0)
+  small = subst (λ (r : Status). FewOwedIn r (start k .args .rows .now) (start k .args .from)) counted (start k .pre .small)
 
-  leads : (v : SheetValue) → T (all smallLeads (live (foundIn v (start k .args .count) (start k .args .rows .now) (start k .args .from)))) → T (all smallLeads (rowsOf v (start k .args .rows .now) (start k .args .from) (k .before .count .given .0 .0)))
-  leads v = subst (λ (r : Count). T (all smallLeads (live (foundIn v r (start k .args .rows .now) (start k .args .from))))) counted
+  leads : (v : SheetValue) → T (all smallLeads (heldList (foundIn v (start k .args .count) (start k .args .rows .now) (start k .args .from)))) → T (all smallLeads (rowsOf v (start k .args .rows .now) (start k .args .from) (k .before .count .given .0 .0)))
+  leads v = subst (λ (r : Status). T (all smallLeads (heldList (foundIn v r (start k .args .rows .now) (start k .args .from))))) counted
 
 returns : tie.Need-returns
 returns c =
@@ -93,8 +93,8 @@ fill-requires c κs =
     let s = start (some (fits f .before) .before) in
     record { size = s .pre .lists; few-clocks = s .pre .plan .clocks; few-rules = s .pre .plan .few-rules; clock = omega arith; room = at-most-256 (f .flag-rows .result) (s .args .instant .ticks) (s .args .plan .clocks) (replicate 8 false) (s .pre .plan .clocks) }
 
-settle-all-requires : tie.Need-settle-all-requires
-settle-all-requires c κs =
+apply-all-requires : tie.Need-apply-all-requires
+apply-all-requires c κs =
     let l = c .before .before in
     let f = l .before .before in
     let k = some (fits f .before) .before in
@@ -116,15 +116,15 @@ returns-4 c =
     let e = some t in
     let k = e .before in
     let a = start k .args in
-    let r = c .settle-all .ensures in
+    let r = c .apply-all .ensures in
     record {
-      stays = worked-stays (counted k) (e .if1 .left) (c .settle-all .result) (r .stays);
+      stays = worked-stays (counted k) (e .if1 .left) (c .apply-all .result) (r .stays);
       small = r .small;
       lists = l .fill .ensures .size;
       works = λ v planned long. work-yes 32 v _ _ _ (a .count) (a .rows .now) (a .from) (counted k) (e .if1 .left) (planned .as-many) (planned .relations) (t .tags-fit .ensures) (not-false _ (x .if2 .left))
-          (f .flag-rows .ensures ∙ ap (flagged (rowsClocks (a .rows .now) (a .from) (n k))) (planned .named)) (planned .rules) (a .list .now) (l .fill .ensures .listed) (r .settled v planned (leads k v long));
+          (f .flag-rows .ensures ∙ ap (flagged (rowsClocks (a .rows .now) (a .from) (n k))) (planned .named)) (planned .rules) (a .list .now) (l .fill .ensures .listed) (r .applied v planned (leads k v long));
     }
 
 pub work-rows-spec : {M : Type 1} → statement M
 work-rows-spec =
-    tie.close (tie.spec (λ c. search needs) (λ c. search needs) returns tags-fit-requires returns-2 (λ c. omega (arith, start (some (c .before .before) .before) .pre .plan .clocks)) (λ c. omega (arith, start (some (c .before .before .before) .before) .pre .plan .few-rules)) flag-rows-requires fill-requires settle-all-requires returns-3 returns-4)
+    tie.close (tie.spec (λ c. search needs) (λ c. search needs) returns tags-fit-requires returns-2 (λ c. omega (arith, start (some (c .before .before) .before) .pre .plan .clocks)) (λ c. omega (arith, start (some (c .before .before .before) .before) .pre .plan .few-rules)) flag-rows-requires fill-requires apply-all-requires returns-3 returns-4)

@@ -23,16 +23,16 @@ returns c =
     record {
       ticked = refl;
       tagged = refl;
-      few = e .begin-all .ensures .0;
+      few = e .begin-delays .ensures .0;
       asked = λ v planned. record {
         as-many = planned .as-many;
         few-clocks = planned .few-clocks;
         leading = planned .leading;
-        begins = e .begin-all .ensures .1 ∙ ap (λ ls. onceEach sameObligation (flatMap (owedFrom (filledOf (a .ticks) (a .tags))) ls)) (planned .delays) ∙ ap (onceEach sameObligation) (delays-enough (filledOf (a .ticks) (a .tags)) (v .lines));
+        begins = e .begin-delays .ensures .1 ∙ ap (λ ls. onceEach sameObligation (flatMap (owedFrom (filledOf (a .ticks) (a .tags))) ls)) (planned .delays) ∙ ap (onceEach sameObligation) (delays-enough (filledOf (a .ticks) (a .tags)) (v .lines));
         ends = s .all-stops .ensures ∙ ap (λ ls. allStopped (a .ticks) ls (replicate 8 false)) (planned .rules);
-        needed = λ k h. l .ask-leads .ensures .needed k h ∙ ap (needOf (a .ticks)) (planned .all k h);
-        gained = λ k h. l .ask-leads .ensures .gained k h ∙ ap (gainOf (a .ticks)) (planned .all k h);
-        lost = λ k h. l .ask-leads .ensures .lost k h ∙ ap (lossOf (a .ticks)) (planned .all k h);
+        needed = λ k h. l .lead-changes .ensures .needed k h ∙ ap (needOf (a .ticks)) (planned .all k h);
+        gained = λ k h. l .lead-changes .ensures .gained k h ∙ ap (gainOf (a .ticks)) (planned .all k h);
+        lost = λ k h. l .lead-changes .ensures .lost k h ∙ ap (lossOf (a .ticks)) (planned .all k h);
       };
     }
 

@@ -9,17 +9,17 @@ use borrow.Author.Tests.{not-true, not-false}
 use Rattle.records.specs.declared.line.Line.{Line}
 use Rattle.tesl.specs.Lists.{all}
 use Rattle.judge.specs.Questions.{tagsHold}
-use Rattle.judge.specs.Plan.{lineIn, linesIn, relationsFrom}
+use Rattle.judge.specs.Plan.{planLine, planLines, relationsFrom}
 use Rattle.judge.proofs.lines.Laws.{allFrom, all-end, all-no, all-more}
 use Rattle.judge.proofs.lines.all_tags_hold.Statement.{statement}
 use Rattle.judge.proofs.lines.all_tags_hold.Tie as tie
 
 -- relation i
 abbrev relationIn : List ℕ → ℕ → Line
-relationIn lines i = lineIn lines (relationsFrom + i)
+relationIn lines i = planLine lines (relationsFrom + i)
 
 abbrev Inv-loop : tie.InvT-loop
-Inv-loop lines n tags i₀ i = (i ≤ n) × (all (tagsHold tags) (linesIn lines relationsFrom n) ≡ allFrom (tagsHold tags) (relationIn lines) n i)
+Inv-loop lines n tags i₀ i = (i ≤ n) × (all (tagsHold tags) (planLines lines relationsFrom n) ≡ allFrom (tagsHold tags) (relationIn lines) n i)
 
 abbrev μ-loop : tie.MeasureT-loop
 μ-loop lines n tags i₀ i = n - i
@@ -31,13 +31,13 @@ returns : tie.Need-returns Inv-loop μ-loop
 returns c =
     let at = c .before .before .before .before in
     let a = at .before .args in
-    all-no (tagsHold (a .tags)) (relationIn (a .lines .now)) (a .n) (at .loop .i) (at .loop .inv .1) (omega arith) _ (c .before .before .line-in .ensures) _ (c .before .tags-hold .ensures) (not-true _ (c .if1 .taken))
+    all-no (tagsHold (a .tags)) (relationIn (a .lines .now)) (a .n) (at .loop .i) (at .loop .inv .1) (omega arith) _ (c .before .before .plan-line .ensures) _ (c .before .tags-hold .ensures) (not-true _ (c .if1 .taken))
 
 loop-again : tie.Need-loop-again Inv-loop μ-loop
 loop-again c =
     let at = c .before .before .before .before in
     let a = at .before .args in
-    (omega arith, all-more (tagsHold (a .tags)) (relationIn (a .lines .now)) (a .n) (at .loop .i) (at .loop .inv .1) (omega arith) _ (c .before .before .line-in .ensures) _ (c .before .tags-hold .ensures) (not-false _ (c .if1 .left)))
+    (omega arith, all-more (tagsHold (a .tags)) (relationIn (a .lines .now)) (a .n) (at .loop .i) (at .loop .inv .1) (omega arith) _ (c .before .before .plan-line .ensures) _ (c .before .tags-hold .ensures) (not-false _ (c .if1 .left)))
 
 pub all-tags-hold-spec : {M : Type 1} → statement M
 all-tags-hold-spec =

@@ -4,7 +4,7 @@ use mathlib.Core.Path.{_∙_}
 use Prim.Native.Nat.{_*_, _-_, _≤_}
 use native.Mathlib.Omega.{arith}
 use borrow.Author.Needs.{needs}
-use Rattle.judge.proofs.Listing.{Copied, copied-start, copied-more, copied-all, places-kept}
+use Rattle.judge.proofs.Listing.{Copied, copied-start, copied-more, copied-all, places-stay}
 use Rattle.judge.proofs.list.Laws.{filling-more}
 use Rattle.judge.proofs.list.put_flags.Statement.{statement}
 use Rattle.judge.proofs.list.put_flags.Tie as tie
@@ -27,7 +27,7 @@ returns c =
     let w = c .before .loop .inv .1 in (
       w .0 ∙ s .pre .0,
       filling-more (s .args .n) (s .args .list .now) (c .before .loop .list) (s .args .t3)
-          (λ h l. places-kept false (8 * s .args .n) (8 * h) 8 (s .args .list .now) (c .before .loop .list) (omega arith) (w .2))
+          (λ h l. places-stay false (8 * s .args .n) (8 * h) 8 (s .args .list .now) (c .before .loop .list) (omega arith) (w .2))
           (copied-all false (8 * s .args .n) (s .args .list .now) (s .args .t3) (c .before .loop .list) (c .before .loop .k) w 8 (s .good .1 .1 .0 .1 .0 .1) (omega arith)),
     )
 

@@ -19,7 +19,7 @@ returns : tie.Need-returns
 returns c =
     let t = c .before in
     let i = t .before in
-    found-none (start i .args .state .now) (long i) (i .before .kept-in .ensures) (i .is-state .ensures) (t .if1 .taken) (c .nothing-found .ensures)
+    found-none (start i .args .state .now) (long i) (i .before .progress-in .ensures) (i .is-state .ensures) (t .if1 .taken) (c .nothing-found .ensures)
 
 -- ---- where the sheet was looked at
 abbrev test : tie.After-check-sheet → tie.Else1
@@ -31,28 +31,28 @@ returns-2 c =
     let e = t .before in
     let h = e .before .before in
     let i = test h .before in
-    found-many (start i .args .state .now) (long i) (i .before .kept-in .ensures) (h .before .sheet-in .ensures) (h .check-sheet .ensures) (e .enum-told2 .given .1) (t .if2 .taken) (c .nothing-found3 .ensures)
+    found-many (start i .args .state .now) (long i) (i .before .progress-in .ensures) (h .before .sheet-in .ensures) (h .check-sheet .ensures) (e .enum-told2 .given .1) (t .if2 .taken) (c .nothing-found3 .ensures)
 
 returns-3 : tie.Need-returns-3
 returns-3 c =
     let e = c .before in
     let h = e .before .before in
     let i = test h .before in
-    found-refused (start i .args .state .now) (long i) (i .before .kept-in .ensures) (h .before .sheet-in .ensures) (h .check-sheet .ensures) (e .enum-told .given .1) (c .nothing-found2 .ensures)
+    found-refused (start i .args .state .now) (long i) (i .before .progress-in .ensures) (h .before .sheet-in .ensures) (h .check-sheet .ensures) (e .enum-told .given .1) (c .nothing-found2 .ensures)
 
 plan-of-requires : tie.Need-plan-of-requires
 plan-of-requires c κs =
     let e = c .before .before in
     let h = e .before .before in
     let i = test h .before in
-    found-prepares (start i .args .state .now) (long i) (i .before .kept-in .ensures) (h .before .sheet-in .ensures) (h .check-sheet .ensures) (e .enum-told2 .given .1) (start i .pre)
+    found-prepares (start i .args .state .now) (long i) (i .before .progress-in .ensures) (h .before .sheet-in .ensures) (h .check-sheet .ensures) (e .enum-told2 .given .1) (start i .pre)
 
 rows-within-requires : tie.Need-rows-within-requires
 rows-within-requires c κs =
     let e = c .before .before .before in
     let h = e .before .before in
     let i = test h .before in
-    found-tests (start i .args .state .now) (long i) (i .before .kept-in .ensures) (h .before .sheet-in .ensures) (h .check-sheet .ensures) (e .enum-told2 .given .1) (i .is-state .ensures) (test h .if1 .left) (c .plan-of .ensures)
+    found-tests (start i .args .state .now) (long i) (i .before .progress-in .ensures) (h .before .sheet-in .ensures) (h .check-sheet .ensures) (e .enum-told2 .given .1) (i .is-state .ensures) (test h .if1 .left) (c .plan-of .ensures)
 
 returns-4 : tie.Need-returns-4
 returns-4 c =
@@ -61,7 +61,7 @@ returns-4 c =
     let e = f .before in
     let h = e .before .before in
     let i = test h .before in
-    found-held (start i .args .state .now) (long i) (i .before .kept-in .ensures) (h .before .sheet-in .ensures) (h .check-sheet .ensures) (e .enum-told2 .given .1) (i .is-state .ensures) (test h .if1 .left) (p .plan-of .ensures) (omega (arith, f .if2 .left)) (c .rows-within .ensures)
+    found-held (start i .args .state .now) (long i) (i .before .progress-in .ensures) (h .before .sheet-in .ensures) (h .check-sheet .ensures) (e .enum-told2 .given .1) (i .is-state .ensures) (test h .if1 .left) (p .plan-of .ensures) (omega (arith, f .if2 .left)) (c .rows-within .ensures)
 
 pub find-state-spec : {M : Type 1} → statement M
 find-state-spec =

@@ -80,11 +80,11 @@ put-sheet-requires c κs = let f = c .before in (long-formatted f, prepared (rea
 abbrev formatted : tie.After-put-sheet → tie.After-put-format
 formatted h = h .before .before
 
-put-kept-requires : tie.Need-put-kept-requires
-put-kept-requires c κs = let h = c .before .before in first-put (c .first-kept .ensures) (h .put-sheet .ensures .size ∙ long-formatted (formatted h))
+put-progress-requires : tie.Need-put-progress-requires
+put-progress-requires c κs = let h = c .before .before in first-put (c .first-progress .ensures) (h .put-sheet .ensures .size ∙ long-formatted (formatted h))
 
 -- ---- all stored
-abbrev sheeted : tie.After-put-kept → tie.After-put-sheet
+abbrev sheeted : tie.After-put-progress → tie.After-put-sheet
 sheeted b = b .before .before .before
 
 say-rows-requires : tie.Need-say-rows-requires
@@ -97,7 +97,7 @@ say-rows-requires c κs =
     let z = cleared g in
     let p = planned z in
     let r = read (p .before) in
-    (omega arith, small-opened (start r .args .bytes .now) (r .read-sheet .result) (r .read-sheet .ensures) (p .plan-of .ensures) (z .clear-rows .ensures) (g .begin-rows .ensures) (d .clear-beside .ensures) (f .put-format .ensures) (h .put-sheet .ensures) (b .before .first-kept .ensures) (b .put-kept .ensures))
+    (omega arith, small-opened (start r .args .bytes .now) (r .read-sheet .result) (r .read-sheet .ensures) (p .plan-of .ensures) (z .clear-rows .ensures) (g .begin-rows .ensures) (d .clear-beside .ensures) (f .put-format .ensures) (h .put-sheet .ensures) (b .before .first-progress .ensures) (b .put-progress .ensures))
 
 returns-2 : tie.Need-returns-2
 returns-2 c =
@@ -109,9 +109,9 @@ returns-2 c =
     let z = cleared g in
     let p = planned z in
     let r = read (p .before) in
-    opened-state (start r .args .bytes .now) (r .read-sheet .result) (r .read-sheet .ensures) (p .plan-of .ensures) (z .clear-rows .ensures) (g .begin-rows .ensures) (d .clear-beside .ensures) (f .put-format .ensures) (h .put-sheet .ensures) (b .before .first-kept .ensures) (b .put-kept .ensures)
+    opened-state (start r .args .bytes .now) (r .read-sheet .result) (r .read-sheet .ensures) (p .plan-of .ensures) (z .clear-rows .ensures) (g .begin-rows .ensures) (d .clear-beside .ensures) (f .put-format .ensures) (h .put-sheet .ensures) (b .before .first-progress .ensures) (b .put-progress .ensures)
     (read-bytes r) (told (p .before) .enum-told .given .1) (c .say-rows .ensures)
 
 pub open-state-spec : {M : Type 1} → statement M
 open-state-spec =
-    tie.close (tie.spec (λ c κs. search needs) (λ c. search needs) (λ c. search needs) (λ c κs. search needs) plan-of-requires (λ c. search needs) (λ c κs. search needs) begin-rows-requires clear-beside-requires put-format-requires put-sheet-requires (λ c κs. search needs) put-kept-requires say-rows-requires returns returns-2)
+    tie.close (tie.spec (λ c κs. search needs) (λ c. search needs) (λ c. search needs) (λ c κs. search needs) plan-of-requires (λ c. search needs) (λ c κs. search needs) begin-rows-requires clear-beside-requires put-format-requires put-sheet-requires (λ c κs. search needs) put-progress-requires say-rows-requires returns returns-2)

@@ -6,14 +6,14 @@ use lib.ListN.{length-replicate}
 use borrow.Author.Needs.{needs}
 use Rattle.records.specs.Sheet.{SheetValue}
 use Rattle.records.specs.Types.{IsBytes}
-use Rattle.judge.specs.declared.held.Count.the-variants.{Live}
-use Rattle.judge.specs.declared.kept.Kept.{Kept}
+use Rattle.judge.specs.declared.held.Status.the-variants.{Live}
+use Rattle.judge.specs.declared.progress.Progress.{Progress}
 use Rattle.judge.specs.declared.answer.Reply.the-variants.{Answered}
 use Rattle.judge.specs.Plan.{numbers}
 use Rattle.judge.specs.Rows.{width, words, headRows}
 use Rattle.judge.specs.Answer.{answerOf, saidBy}
-use Rattle.judge.specs.Settle.{SmallIn, foundIn}
-use Rattle.judge.specs.Kept.{keptFirst}
+use Rattle.judge.specs.Apply.{FewOwedIn, foundIn}
+use Rattle.judge.specs.Progress.{firstProgress}
 use Rattle.judge.specs.Records.{ObservedRecords}
 use Rattle.judge.proofs.rows.Placing.{blank-at}
 use Rattle.judge.proofs.monitor.Bytes.{all-bytes}
@@ -41,21 +41,21 @@ plan-of-requires c κs = let r = read (c .before) in prepares-read _ (r .read-sh
 begin-rows-requires : tie.Need-begin-rows-requires
 begin-rows-requires c κs = record { size = length-replicate {A = ℕ} words 0; blank = λ p h. blank-at {A = ℕ} 0 words (width * headRows + p) }
 
-abbrev planned : tie.After-first-kept → tie.After-plan-of
+abbrev planned : tie.After-first-progress → tie.After-plan-of
 planned f = f .before .before .before
 
 -- the rows hold one remainder
-held : (f : tie.After-first-kept) → SmallIn (f .first-kept .result .count) (f .before .begin-rows .last .0) headRows
-held f = rw (f .first-kept .ensures) (f .before .begin-rows .ensures .small)
+held : (f : tie.After-first-progress) → FewOwedIn (f .first-progress .result .count) (f .before .begin-rows .last .0) headRows
+held f = rw (f .first-progress .ensures) (f .before .begin-rows .ensures .small)
 
-abbrev first : tie.After-say-rows → tie.After-first-kept
+abbrev first : tie.After-say-rows → tie.After-first-progress
 first s = s .before .before
 
 observe-records-requires : tie.Need-observe-records-requires
 observe-records-requires c κs =
     let f = first (c .before .before .before .before) in
     let b = f .before .begin-rows .ensures in
-    rw (f .first-kept .ensures)
+    rw (f .first-progress .ensures)
     (record {
       size = b .stays .size ∙ length-replicate {A = ℕ} words 0;
       side = record { one = omega arith; other = omega arith; past = omega arith; apart = λ k l h j e. omega arith };
@@ -69,7 +69,7 @@ module _ (o : tie.After-observe-records) where
   abbrev said : tie.After-say-rows
   said = o .before .before .before .before .before
 
-  abbrev begun : tie.After-first-kept
+  abbrev begun : tie.After-first-progress
   begun = first said
 
   abbrev plan : tie.After-plan-of
@@ -78,13 +78,13 @@ module _ (o : tie.After-observe-records) where
   abbrev entry : tie.Start
   entry = read (plan .before .before) .before .before .before .before
 
-  observed : ObservedRecords (entry .args .log .now) (Answered (said .say-rows .result)) keptFirst (plan .plan-of .result) (plan .plan-of .last .1 .0) (o .observe-records .result) (begun .before .begin-rows .last .0) (o .observe-records .last .1 .1 .1 .1 .1 .0) (o .observe-records .last .1 .1 .1 .1 .1 .1 .0) (entry .args .out .now) (o .observe-records .last .1 .1 .1 .1 .1 .1 .1 .0)
+  observed : ObservedRecords (entry .args .log .now) (Answered (said .say-rows .result)) firstProgress (plan .plan-of .result) (plan .plan-of .last .1 .0) (o .observe-records .result) (begun .before .begin-rows .last .0) (o .observe-records .last .1 .1 .1 .1 .1 .0) (o .observe-records .last .1 .1 .1 .1 .1 .1 .0) (entry .args .out .now) (o .observe-records .last .1 .1 .1 .1 .1 .1 .1 .0)
   observed =
-      subst (λ (k : Kept). ObservedRecords (entry .args .log .now) (Answered (said .say-rows .result)) k (plan .plan-of .result) (plan .plan-of .last .1 .0) (o .observe-records .result) (begun .before .begin-rows .last .0) (o .observe-records .last .1 .1 .1 .1 .1 .0) (o .observe-records .last .1 .1 .1 .1 .1 .1 .0) (entry .args .out .now) (o .observe-records .last .1 .1 .1 .1 .1 .1 .1 .0)) (begun .first-kept .ensures)
+      subst (λ (k : Progress). ObservedRecords (entry .args .log .now) (Answered (said .say-rows .result)) k (plan .plan-of .result) (plan .plan-of .last .1 .0) (o .observe-records .result) (begun .before .begin-rows .last .0) (o .observe-records .last .1 .1 .1 .1 .1 .0) (o .observe-records .last .1 .1 .1 .1 .1 .1 .0) (entry .args .out .now) (o .observe-records .last .1 .1 .1 .1 .1 .1 .1 .0)) (begun .first-progress .ensures)
       (o .observe-records .ensures)
 
   answered : (v : SheetValue) → answerOf (said .say-rows .result) ≡ saidBy (foundIn v (Live 1) (begun .before .begin-rows .last .0) headRows)
-  answered = subst (λ (k : Kept). (v : SheetValue) → answerOf (said .say-rows .result) ≡ saidBy (foundIn v (k .count) (begun .before .begin-rows .last .0) headRows)) (begun .first-kept .ensures) (said .say-rows .ensures)
+  answered = subst (λ (k : Progress). (v : SheetValue) → answerOf (said .say-rows .result) ≡ saidBy (foundIn v (k .count) (begun .before .begin-rows .last .0) headRows)) (begun .first-progress .ensures) (said .say-rows .ensures)
 
 abbrev records : tie.After-rows4 → tie.After-observe-records
 records c = c .before .before .before .before

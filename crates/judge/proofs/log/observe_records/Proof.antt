@@ -11,10 +11,10 @@ use Rattle.judge.proofs.log.observe_records.Statement.{statement}
 use Rattle.judge.proofs.log.observe_records.Tie as tie
 
 abbrev Inv-loop : tie.InvT-loop
-Inv-loop log plan lines rows₀ list₀ out₀ kept₀ reply₀ instants₀ end₀ at₀ rows list out kept reply instants end at = Turns log out₀ kept₀ rows₀ reply₀ plan lines kept reply instants at end rows list out
+Inv-loop log plan lines rows₀ list₀ out₀ progress₀ reply₀ instants₀ end₀ at₀ rows list out progress reply instants end at = Turns log out₀ progress₀ rows₀ reply₀ plan lines progress reply instants at end rows list out
 
 abbrev μ-loop : tie.MeasureT-loop
-μ-loop log plan lines rows₀ list₀ out₀ kept₀ reply₀ instants₀ end₀ at₀ rows list out kept reply instants end at = length log - at
+μ-loop log plan lines rows₀ list₀ out₀ progress₀ reply₀ instants₀ end₀ at₀ rows list out progress reply instants end at = length log - at
 
 loop-holds : tie.Need-loop-holds Inv-loop μ-loop
 loop-holds c =

@@ -4,13 +4,13 @@ use mathlib.Core.Path.{subst, sym}
 use Prim.Native.Nat.{ℕ}
 use lib.ListN.{replicate, length-replicate}
 use borrow.Author.Needs.{needs}
-use Rattle.judge.specs.declared.kept.Kept.{Kept}
+use Rattle.judge.specs.declared.progress.Progress.{Progress}
 use Rattle.judge.specs.declared.monitor.Monitor.{Monitor}
 use Rattle.judge.specs.Limits.{Limited}
 use Rattle.judge.specs.Plan.{numbers}
 use Rattle.judge.specs.Fill.{Working}
-use Rattle.judge.specs.Kept.{keptOf, Takes}
-use Rattle.judge.proofs.kept.Laws.{room-stored, inside, has-room, prepares}
+use Rattle.judge.specs.Progress.{progressOf, Takes}
+use Rattle.judge.proofs.progress.Laws.{room-stored, inside, has-room, prepares}
 use Rattle.judge.proofs.monitor.Called.{observed-outside}
 use Rattle.judge.proofs.monitor.InRows.{refused-rows, found-next, answered-rows}
 use Rattle.judge.proofs.monitor.observe.Statement.{statement}
@@ -44,30 +44,30 @@ planned c = c .before .before .before
 abbrev test : tie.After-plan-of → tie.Else1
 test c = c .before .before .before
 
-keep-held-requires : tie.Need-keep-held-requires
-keep-held-requires c κs = let e = test (planned c) in has-room (monitor e) (within e) (length-replicate {A = ℕ} 4608 0)
+store-held-requires : tie.Need-store-held-requires
+store-held-requires c κs = let e = test (planned c) in has-room (monitor e) (within e) (length-replicate {A = ℕ} 4608 0)
 
 observe-rows-requires : tie.Need-observe-rows-requires
 observe-rows-requires c κs =
     let k = c .before .before .before in
     let h = k .before in
     let p = planned (h .before) in
-    subst (λ (x : Kept). Working (h .keep-held .last .0) (x .from) (x .count) (p .plan-of .result) (replicate 2048 false)) (sym (k .kept-of .ensures)) (room-stored (monitor (test p)) (h .keep-held .ensures) (p .plan-of .ensures) (length-replicate 2048 false))
+    subst (λ (x : Progress). Working (h .store-held .last .0) (x .from) (x .count) (p .plan-of .result) (replicate 2048 false)) (sym (k .progress-of .ensures)) (room-stored (monitor (test p)) (h .store-held .ensures) (p .plan-of .ensures) (length-replicate 2048 false))
 
 -- ---- the instant observed
 module _ (o : tie.After-observe-rows) where
-  abbrev kept : tie.After-kept-of
-  kept = o .before .before .before .before
+  abbrev progress : tie.After-progress-of
+  progress = o .before .before .before .before
 
   abbrev plan : tie.After-plan-of
-  plan = planned (kept .before .before)
+  plan = planned (progress .before .before)
 
   abbrev entry : tie.Start
   entry = start (test plan)
 
-  takes : Takes (keptOf (entry .args .monitor)) (plan .plan-of .result) (entry .args .bytes .now) (plan .plan-of .last .1 .0) (o .observe-rows .result) (kept .before .keep-held .last .0) (o .observe-rows .last .1 .1 .1 .1 .0) (o .observe-rows .last .1 .1 .1 .1 .1 .0)
+  takes : Takes (progressOf (entry .args .monitor)) (plan .plan-of .result) (entry .args .bytes .now) (plan .plan-of .last .1 .0) (o .observe-rows .result) (progress .before .store-held .last .0) (o .observe-rows .last .1 .1 .1 .1 .0) (o .observe-rows .last .1 .1 .1 .1 .1 .0)
   takes =
-      subst (λ (x : Kept). Takes x (plan .plan-of .result) (entry .args .bytes .now) (plan .plan-of .last .1 .0) (o .observe-rows .result) (kept .before .keep-held .last .0) (o .observe-rows .last .1 .1 .1 .1 .0) (o .observe-rows .last .1 .1 .1 .1 .1 .0)) (kept .kept-of .ensures)
+      subst (λ (x : Progress). Takes x (plan .plan-of .result) (entry .args .bytes .now) (plan .plan-of .last .1 .0) (o .observe-rows .result) (progress .before .store-held .last .0) (o .observe-rows .last .1 .1 .1 .1 .0) (o .observe-rows .last .1 .1 .1 .1 .1 .0)) (progress .progress-of .ensures)
       (o .observe-rows .ensures)
 
 returns-2 : tie.Need-returns-2
@@ -76,7 +76,7 @@ returns-2 c =
     let o = r .before .before in
     let p = plan o in
     let e = test p in
-    refused-rows (monitor e) (within e) (p .plan-of .ensures) (kept o .before .keep-held .ensures) (takes o) (r .reply .given .1) (c .refuse2 .ensures)
+    refused-rows (monitor e) (within e) (p .plan-of .ensures) (progress o .before .store-held .ensures) (takes o) (r .reply .given .1) (c .refuse2 .ensures)
 
 abbrev answered : tie.After-rows3 → tie.After-enum-told
 answered c = c .before .before
@@ -86,7 +86,7 @@ read-back-requires c κs =
     let o = answered c .before .before in
     let p = plan o in
     let e = test p in
-    found-next (monitor e) (within e) (p .plan-of .ensures) (kept o .before .keep-held .ensures) (takes o)
+    found-next (monitor e) (within e) (p .plan-of .ensures) (progress o .before .store-held .ensures) (takes o)
 
 returns-3 : tie.Need-returns-3
 returns-3 c =
@@ -94,9 +94,9 @@ returns-3 c =
     let o = a .before .before in
     let p = plan o in
     let e = test p in
-    answered-rows (monitor e) (within e) (p .plan-of .ensures) (kept o .before .keep-held .ensures) (takes o) (a .enum-told .given .1) (c .read-back .ensures)
+    answered-rows (monitor e) (within e) (p .plan-of .ensures) (progress o .before .store-held .ensures) (takes o) (a .enum-told .given .1) (c .read-back .ensures)
 
 pub observe-spec : {M : Type 1} → statement M
 observe-spec =
-    tie.close (tie.spec (λ c κs. search needs) (λ c κs. search needs) returns plan-of-requires keep-held-requires (λ c κs. search needs) observe-rows-requires
+    tie.close (tie.spec (λ c κs. search needs) (λ c κs. search needs) returns plan-of-requires store-held-requires (λ c κs. search needs) observe-rows-requires
     (λ c. search needs) (λ c κs. search needs) (λ c. search needs) read-back-requires returns-2 returns-3)

@@ -7,7 +7,7 @@ use borrow.Author.Needs.{needs}
 use Rattle.records.specs.Types.{IsBytes}
 use Rattle.judge.specs.Plan.{numbers}
 use Rattle.judge.specs.Rows.{width, words, headRows}
-use Rattle.judge.specs.Settle.{SmallIn}
+use Rattle.judge.specs.Apply.{FewOwedIn}
 use Rattle.judge.specs.Monitor.{refusal}
 use Rattle.judge.proofs.rows.Placing.{blank-at}
 use Rattle.judge.proofs.monitor.Bytes.{all-bytes}
@@ -37,12 +37,12 @@ abbrev planned : tie.After-begin-rows → tie.After-plan-of
 planned b = b .before .before
 
 -- the rows hold one remainder
-module _ (f : tie.After-first-kept) where
+module _ (f : tie.After-first-progress) where
   abbrev begun : tie.After-begin-rows
   begun = f .before
 
-  held : SmallIn (f .first-kept .result .count) (f .before .begin-rows .last .0) headRows
-  held = rw (f .first-kept .ensures) (begun .begin-rows .ensures .small)
+  held : FewOwedIn (f .first-progress .result .count) (f .before .begin-rows .last .0) headRows
+  held = rw (f .first-progress .ensures) (begun .begin-rows .ensures .small)
 
 say-rows-requires : tie.Need-say-rows-requires
 say-rows-requires c κs = (omega arith, held (c .before))
@@ -51,7 +51,7 @@ read-back-requires : tie.Need-read-back-requires
 read-back-requires c κs =
     let f = c .before .before .before in
     let p = planned (begun f) in
-    rw (f .first-kept .ensures) (record { side = omega arith; small = begun f .begin-rows .ensures .small; plan = p .plan-of .ensures .fits })
+    rw (f .first-progress .ensures) (record { side = omega arith; small = begun f .begin-rows .ensures .small; plan = p .plan-of .ensures .fits })
 
 returns-2 : tie.Need-returns-2
 returns-2 c =
@@ -61,8 +61,8 @@ returns-2 c =
     let p = planned b in
     let t = p .before .before in
     let r = read t in
-    let o = opened-rows _ (r .read-sheet .result) (r .read-sheet .ensures) (p .plan-of .ensures) (b .begin-rows .ensures) (read-bytes (r .before)) (t .enum-told .given .1) (rw (f .first-kept .ensures) at (s .say-rows .ensures)) in
-    opened-done _ (r .read-sheet .result) (r .read-sheet .ensures) o (rw (f .first-kept .ensures) at (c .read-back .ensures))
+    let o = opened-rows _ (r .read-sheet .result) (r .read-sheet .ensures) (p .plan-of .ensures) (b .begin-rows .ensures) (read-bytes (r .before)) (t .enum-told .given .1) (rw (f .first-progress .ensures) at (s .say-rows .ensures)) in
+    opened-done _ (r .read-sheet .result) (r .read-sheet .ensures) o (rw (f .first-progress .ensures) at (c .read-back .ensures))
 
 pub open-spec : {M : Type 1} → statement M
 open-spec =

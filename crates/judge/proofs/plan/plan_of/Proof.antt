@@ -10,11 +10,11 @@ use Rattle.judge.proofs.plan.plan_of.Statement.{statement}
 use Rattle.judge.proofs.plan.plan_of.Tie as tie
 
 abbrev Inv-loop : tie.InvT-loop
-Inv-loop lines₀ s clocks n relations₀ rules₀ delays₀ reach₀ precede₀ named₀ i₀ lines relations rules delays reach precede named i =
-    (i ≤ n) × Sorted (listed (lineAt s) i) i (planBy clocks relations rules delays reach precede named) lines
+Inv-loop lines₀ s clocks n relations₀ rules₀ delays₀ leaders₀ precede₀ named₀ i₀ lines relations rules delays leaders precede named i =
+    (i ≤ n) × Sorted (listed (lineAt s) i) i (planBy clocks relations rules delays leaders precede named) lines
 
 abbrev μ-loop : tie.MeasureT-loop
-μ-loop lines₀ s clocks n relations₀ rules₀ delays₀ reach₀ precede₀ named₀ i₀ lines relations rules delays reach precede named i = n - i
+μ-loop lines₀ s clocks n relations₀ rules₀ delays₀ leaders₀ precede₀ named₀ i₀ lines relations rules delays leaders precede named i = n - i
 
 loop-holds : tie.Need-loop-holds Inv-loop μ-loop
 loop-holds c = let s = c .before in (omega arith, sorted-none (s .args .t1) (c .clocks-of .result) (s .args .lines .now) (s .pre .size))
@@ -32,7 +32,7 @@ loop-again c =
     let more = sorted-more (m .inv .1) (omega (arith, s .pre .few-lines)) (words .words-of-line .ensures .line)
     (row .put-words .ensures) (relations .put-part .ensures) (rules .put-part2 .ensures) (delays .put-part3 .ensures)
     (relations .before .is-relation .ensures) (rules .before .is-rule .ensures) (delays .before .is-delay .ensures)
-    (c .before .before .precedes .ensures) (c .before .reach-with .ensures) (c .flag-line .ensures) in
+    (c .before .before .precedes .ensures) (c .before .leaders-with .ensures) (c .flag-line .ensures) in
     (omega arith, sorted-next (s .args .t1) (m .i) more)
 
 returns : tie.Need-returns Inv-loop μ-loop

@@ -13,10 +13,10 @@ use Rattle.judge.proofs.rows_limits.row_leads_within.Statement.{stateme
 use Rattle.judge.proofs.rows_limits.row_leads_within.Tie as tie
 
 abbrev Inv-loop : tie.InvT-loop
-Inv-loop rows i reach instants precede k₀ k = (k ≤ reach) × (below k (leadFits precede instants rows i) ≡ true)
+Inv-loop rows i leaders instants precede k₀ k = (k ≤ leaders) × (below k (leadFits precede instants rows i) ≡ true)
 
 abbrev μ-loop : tie.MeasureT-loop
-μ-loop rows i reach instants precede k₀ k = reach - k
+μ-loop rows i leaders instants precede k₀ k = leaders - k
 
 abbrev fits : tie.Start Inv-loop μ-loop → ℕ → Bool
 fits s k = leadFits (s .args .t4) (s .args .instants) (s .args .rows .now) (s .args .i) k
@@ -35,12 +35,12 @@ loop-again c =
 returns : tie.Need-returns Inv-loop μ-loop
 returns c =
     let at = c .before .before .before .before in
-    sym (below-miss (fits (at .before)) (at .before .args .reach) (at .loop .k) (omega arith) (tested (c .before) ∙ c .if1 .left))
+    sym (below-miss (fits (at .before)) (at .before .args .leaders) (at .loop .k) (omega arith) (tested (c .before) ∙ c .if1 .left))
 
 returns-2 : tie.Need-returns-2 Inv-loop μ-loop
 returns-2 c =
     let at = c .before in
-    let e : at .before .args .reach ≡ at .loop .k = omega arith in
+    let e : at .before .args .leaders ≡ at .loop .k = omega arith in
     sym (ap (λ (n : ℕ). below n (fits (at .before))) e ∙ at .loop .inv .1)
 
 pub row-leads-within-spec : {M : Type 1} → statement M

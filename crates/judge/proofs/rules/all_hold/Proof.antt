@@ -6,7 +6,7 @@ use native.Mathlib.Omega.{arith}
 use borrow.Author.Needs.{needs}
 use borrow.Author.Tests.{not-true, not-false}
 use Rattle.judge.specs.Questions.{ticksHold}
-use Rattle.judge.specs.Plan.{linesIn, rulesFrom}
+use Rattle.judge.specs.Plan.{planLines, rulesFrom}
 use Rattle.judge.specs.Rules.{allowed}
 use Rattle.judge.proofs.lines.Laws.{allFrom, all-end, all-no, all-more}
 use Rattle.judge.proofs.rules.Laws.{ruleIn}
@@ -14,7 +14,7 @@ use Rattle.judge.proofs.rules.all_hold.Statement.{statement}
 use Rattle.judge.proofs.rules.all_hold.Tie as tie
 
 abbrev Inv-loop : tie.InvT-loop
-Inv-loop lines n ticks i₀ i = (i ≤ n) × (allowed (linesIn lines rulesFrom n) ticks ≡ allFrom (ticksHold ticks) (ruleIn lines) n i)
+Inv-loop lines n ticks i₀ i = (i ≤ n) × (allowed (planLines lines rulesFrom n) ticks ≡ allFrom (ticksHold ticks) (ruleIn lines) n i)
 
 abbrev μ-loop : tie.MeasureT-loop
 μ-loop lines n ticks i₀ i = n - i
@@ -26,13 +26,13 @@ returns : tie.Need-returns Inv-loop μ-loop
 returns c =
     let at = c .before .before .before .before in
     let a = at .before .args in
-    all-no (ticksHold (a .ticks)) (ruleIn (a .lines .now)) (a .n) (at .loop .i) (at .loop .inv .1) (omega arith) _ (c .before .before .line-in .ensures) _ (c .before .ticks-hold .ensures) (not-true _ (c .if1 .taken))
+    all-no (ticksHold (a .ticks)) (ruleIn (a .lines .now)) (a .n) (at .loop .i) (at .loop .inv .1) (omega arith) _ (c .before .before .plan-line .ensures) _ (c .before .ticks-hold .ensures) (not-true _ (c .if1 .taken))
 
 loop-again : tie.Need-loop-again Inv-loop μ-loop
 loop-again c =
     let at = c .before .before .before .before in
     let a = at .before .args in
-    (omega arith, all-more (ticksHold (a .ticks)) (ruleIn (a .lines .now)) (a .n) (at .loop .i) (at .loop .inv .1) (omega arith) _ (c .before .before .line-in .ensures) _ (c .before .ticks-hold .ensures) (not-false _ (c .if1 .left)))
+    (omega arith, all-more (ticksHold (a .ticks)) (ruleIn (a .lines .now)) (a .n) (at .loop .i) (at .loop .inv .1) (omega arith) _ (c .before .before .plan-line .ensures) _ (c .before .ticks-hold .ensures) (not-false _ (c .if1 .left)))
 
 pub all-hold-spec : {M : Type 1} → statement M
 all-hold-spec =

@@ -9,14 +9,14 @@ use borrow.Author.Needs.{needs}
 use Rattle.records.specs.Lists.{listedFrom}
 use Rattle.judge.specs.Questions.{stoppedAfter}
 use Rattle.judge.specs.Lines.{allStopped}
-use Rattle.judge.specs.Plan.{linesIn, rulesFrom}
+use Rattle.judge.specs.Plan.{planLines, rulesFrom}
 use Rattle.judge.proofs.rules.Laws.{ruleIn}
 use Rattle.judge.proofs.rules.Folds.{fold-end, fold-more}
 use Rattle.judge.proofs.rules.all_stops.Statement.{statement}
 use Rattle.judge.proofs.rules.all_stops.Tie as tie
 
 abbrev Inv-loop : tie.InvT-loop
-Inv-loop lines n ticks stops₀ i₀ stops i = (i ≤ n) × (allStopped ticks (linesIn lines rulesFrom n) (replicate 8 false) ≡ allStopped ticks (listedFrom (ruleIn lines) i (n - i)) stops)
+Inv-loop lines n ticks stops₀ i₀ stops i = (i ≤ n) × (allStopped ticks (planLines lines rulesFrom n) (replicate 8 false) ≡ allStopped ticks (listedFrom (ruleIn lines) i (n - i)) stops)
 
 abbrev μ-loop : tie.MeasureT-loop
 μ-loop lines n ticks stops₀ i₀ stops i = n - i
@@ -26,7 +26,7 @@ loop-holds c = (omega arith, rw sub-zero)
 
 loop-again : tie.Need-loop-again Inv-loop μ-loop
 loop-again c =
-    let l = c .before .line-in in
+    let l = c .before .plan-line in
     let at = c .before .before .before in
     let a = at .before .args in
     (omega arith, fold-more (stoppedAfter (a .ticks)) (allStopped (a .ticks)) (λ x. refl) (λ l ls x. refl) (ruleIn (a .lines .now)) (a .n) (at .loop .i) (at .loop .stops) (at .loop .inv .1) (omega arith) (l .result) (l .ensures) (c .stopped-after .result) (c .stopped-after .ensures))

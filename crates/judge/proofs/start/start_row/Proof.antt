@@ -12,7 +12,7 @@ use Rattle.judge.specs.View.{obligationOf}
 use Rattle.judge.specs.Work.{addedAll}
 use Rattle.judge.specs.Rows.{leadsPart, rowCount, rowOwed, Stays}
 use Rattle.judge.proofs.advance.Adding.{rest-end, rest-over, rest-more}
-use Rattle.judge.proofs.begun.Laws.{begunFrom, begun-start, begun-end, begun-nothing, begun-one}
+use Rattle.judge.proofs.delays.Laws.{begunFrom, begun-start, begun-end, begun-nothing, begun-one}
 use Rattle.judge.proofs.rows.Laws.{stays-all, stays-on}
 use Rattle.judge.proofs.start.start_row.Statement.{statement}
 use Rattle.judge.proofs.start.start_row.Tie as tie

@@ -15,10 +15,10 @@ abbrev Used : List ℕ → ℕ → List Bool → ℕ → ℕ → Type 0
 Used rows i precede k x = x ≡ cond (getD precede k false) (rowLead rows i k % 65536) 0
 
 abbrev Inv-loop : tie.InvT-loop
-Inv-loop rows i reach precede all₀ k₀ all k = (k ≤ reach) × Placing (Used rows i precede) 0 16 all k
+Inv-loop rows i leaders precede all₀ k₀ all k = (k ≤ leaders) × Placing (Used rows i precede) 0 16 all k
 
 abbrev μ-loop : tie.MeasureT-loop
-μ-loop rows i reach precede all₀ k₀ all k = reach - k
+μ-loop rows i leaders precede all₀ k₀ all k = leaders - k
 
 loop-again : tie.Need-loop-again Inv-loop μ-loop
 loop-again c =

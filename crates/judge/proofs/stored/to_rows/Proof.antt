@@ -4,12 +4,12 @@ use Prim.Native.Nat.{_-_, _≤_}
 use native.Mathlib.Omega.{arith}
 use lib.ListN.{length}
 use borrow.Author.Needs.{needs}
-use Rattle.judge.proofs.stored.Held.{Keeping, keeping-start, keeping-more, kept-rows, owes-few}
+use Rattle.judge.proofs.stored.Held.{PuttingRows, rows-start, rows-more, rows-put, owes-few}
 use Rattle.judge.proofs.stored.to_rows.Statement.{statement}
 use Rattle.judge.proofs.stored.to_rows.Tie as tie
 
 abbrev Inv-loop : tie.InvT-loop
-Inv-loop was n remainders k₀ rows k = (k ≤ n) × Keeping remainders was rows k
+Inv-loop was n remainders k₀ rows k = (k ≤ n) × PuttingRows remainders was rows k
 
 abbrev μ-loop : tie.MeasureT-loop
 μ-loop was n remainders k₀ rows k = n - k
@@ -28,16 +28,16 @@ loop-again : tie.Need-loop-again Inv-loop μ-loop
 loop-again c =
     let at = c .before .before .before .before in
     let s = at .before in
-    (omega arith, keeping-more (s .args .t3) (at .loop .inv .1) (c .put-remainder .ensures) (owes-few (s .args .t3) (s .args .n) (at .loop .k) (omega arith) (omega (arith, many s)) (s .pre .few)))
+    (omega arith, rows-more (s .args .t3) (at .loop .inv .1) (c .put-remainder .ensures) (owes-few (s .args .t3) (s .args .n) (at .loop .k) (omega arith) (omega (arith, many s)) (s .pre .few)))
 
 returns : tie.Need-returns Inv-loop μ-loop
 returns c =
     let at = c .before in
     let s = at .before in
-    kept-rows (s .args .t3) (at .loop .inv .1) (omega arith) (omega (arith, many s))
+    rows-put (s .args .t3) (at .loop .inv .1) (omega arith) (omega (arith, many s))
 
 pub to-rows-spec : {M : Type 1} → statement M
 to-rows-spec =
     tie.close (tie.spec Inv-loop μ-loop
-    (λ c. (omega arith, keeping-start _ (c .pre .size))) (λ c. search needs) (λ c. search needs) (λ c. search needs)
+    (λ c. (omega arith, rows-start _ (c .pre .size))) (λ c. search needs) (λ c. search needs) (λ c. search needs)
     put-remainder-requires (λ c. search needs) (λ c. search needs) loop-again returns)

@@ -2,7 +2,7 @@
 use Prim.Native.Nat.{ℕ, _≤_}
 use native.Mathlib.Omega.{arith}
 use borrow.Author.Needs.{needs}
-use Rattle.judge.specs.Rows.{Small}
+use Rattle.judge.specs.Rows.{FewOwed}
 use Rattle.judge.proofs.stored.Held.{small-live}
 use Rattle.judge.proofs.unused.Sides.{small-first, found-exhausted, found-live}
 use Rattle.judge.proofs.unused.clear_found.Statement.{statement}
@@ -16,7 +16,7 @@ module _ (k : tie.After-known-told) where
   abbrev n : ℕ
   n = k .before .count .given .0 .0
 
-  small : (k .before .count .given .0 .0 ≤ 32) × Small (start .args .rows .now) (start .args .to) (k .before .count .given .0 .0)
+  small : (k .before .count .given .0 .0 ≤ 32) × FewOwed (start .args .rows .now) (start .args .to) (k .before .count .given .0 .0)
   small = small-live (start .args .rows .now) (start .args .to) (k .before .count .given .1) (start .pre .small)
 
 add-clear-rows : tie.Need-add-clear-rows

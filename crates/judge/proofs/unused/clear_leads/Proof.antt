@@ -2,20 +2,20 @@
 use Prim.Native.Nat.{_-_}
 use native.Mathlib.Omega.{arith}
 use borrow.Author.Needs.{needs}
-use Rattle.judge.proofs.unused.Laws.{Leads, leads-start, leads-kept, leads-more, leads-cleared}
+use Rattle.judge.proofs.unused.Laws.{Leads, leads-start, leads-stay, leads-more, leads-cleared}
 use Rattle.judge.proofs.unused.clear_leads.Statement.{statement}
 use Rattle.judge.proofs.unused.clear_leads.Tie as tie
 
 abbrev Inv-loop : tie.InvT-loop
-Inv-loop was i reach precede k₀ rows k = Leads reach precede i was rows k
+Inv-loop was i leaders precede k₀ rows k = Leads leaders precede i was rows k
 
 abbrev μ-loop : tie.MeasureT-loop
-μ-loop was i reach precede k₀ rows k = reach - k
+μ-loop was i leaders precede k₀ rows k = leaders - k
 
 loop-again : tie.Need-loop-again Inv-loop μ-loop
 loop-again c =
     let at = c .before .before in
-    leads-kept _ (at .before .pre .1) (at .loop .inv) (omega arith) (c .if1 .taken)
+    leads-stay _ (at .before .pre .1) (at .loop .inv) (omega arith) (c .if1 .taken)
 
 loop-again-2 : tie.Need-loop-again-2 Inv-loop μ-loop
 loop-again-2 c =

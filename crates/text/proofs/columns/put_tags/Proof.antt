@@ -4,7 +4,7 @@ use native.Mathlib.Omega.{arith}
 use Prim.Native.Nat.{_-_}
 use lib.ListN.{length}
 use borrow.Author.Needs.{needs}
-use Rattle.records.specs.Instant.{tagAt}
+use Rattle.records.specs.Instant.{cellTag}
 use Rattle.records.proofs.word.Laws.{back}
 use Rattle.text.specs.Text.{textOf, columnLine}
 use Rattle.text.proofs.put.Laws.{put-bytes, put-end}
@@ -22,7 +22,7 @@ abbrev turn : tie.After-column-line Inv-loop μ-loop → tie.In-loop Inv-loop μ
 turn c = c .before .before .before
 
 -- the line is that of the tag at this clock
-line : (c : tie.After-column-line Inv-loop μ-loop) → textOf (c .column-line .result) ≡ columnLine (tagAt (c .before .before .before .before .before .before .args .tags) (c .before .before .before .before .loop .i))
+line : (c : tie.After-column-line Inv-loop μ-loop) → textOf (c .column-line .result) ≡ columnLine (cellTag (c .before .before .before .before .before .before .args .tags) (c .before .before .before .before .loop .i))
 line c = c .column-line .ensures .1 ∙ ap columnLine (back (c .before .tag-at .ok) (c .before .tag-at .ensures))
 
 loop-holds : tie.Need-loop-holds Inv-loop μ-loop

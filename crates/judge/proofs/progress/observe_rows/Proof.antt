@@ -1,0 +1,108 @@
+-- `observe_rows` meets its contract: the refusals are tried in turn, and an accepted instant is worked on. Assumes nothing.
+use mathlib.Core.Bool.{true}
+use mathlib.Core.Path.{_≡_, refl, sym, ap, _∙_}
+use Prim.Native.Nat.{ℕ}
+use native.Mathlib.Omega.{arith}
+use borrow.Author.Needs.{needs}
+use Rattle.records.specs.declared.sheet.Sheet.{Sheet}
+use Rattle.records.specs.Instant.{readInstant, instantRead}
+use Rattle.records.specs.Types.{IsBytes}
+use Rattle.judge.specs.declared.monitor.Monitor.{Monitor}
+use Rattle.judge.specs.Limits.{Limited}
+use Rattle.judge.specs.Progress.{rowsMonitor, given, Ready}
+use Rattle.judge.specs.Promises.{Called}
+use Rattle.judge.proofs.monitor.Bytes.{all-bytes}
+use Rattle.judge.proofs.monitor.Called.{called-unread, called-full, blank-tags, called}
+use Rattle.judge.proofs.monitor.InRows.{answered-refused, answered-within}
+use Rattle.judge.proofs.progress.Laws.{limited, eight-rows}
+use Rattle.judge.proofs.progress.observe_rows.Statement.{statement}
+use Rattle.judge.proofs.progress.observe_rows.Tie as tie
+
+-- ---- where the instant was read
+module _ (r : tie.After-read-instant) where
+  abbrev known : tie.After-shared-slice-known
+  known = r .before .before
+
+  abbrev first : tie.Start
+  first = known .before
+
+  -- by a sheet that the plan is of
+  module _ (s : Sheet) (ready : Ready s (first .args .progress) (first .args .plan) (first .args .lines .now) (first .args .rows .now)) where
+    abbrev start : Monitor
+    start = rowsMonitor s (first .args .progress) (first .args .rows .now)
+
+    within : Limited (rowsMonitor s (first .args .progress) (first .args .rows .now)) true
+    within = limited s (first .args .progress) (first .args .rows .now) (ready .value) (ready .limits)
+
+    reads : r .read-instant .result ≡ instantRead (readInstant (s .clocks) (first .args .bytes .now))
+    reads = r .read-instant .ensures ∙ ap (λ (n : ℕ). instantRead (readInstant n (first .args .bytes .now))) (ready .planned .as-many)
+
+returns : tie.Need-returns
+returns c =
+    let e = c .before in
+    let r = e .before .before in
+    record {
+      room = first r .pre;
+      refused = λ n f. (refl, refl);
+      moved = λ x f. answered-refused (sym f);
+      called = λ s ready. called-full (start r s ready) (first r .args .bytes .now) (within r s ready) refl (reads r s ready) (e .enum-told .given .1) (c .if1 .taken) refl;
+      tags = λ s ready x f. answered-refused (sym f);
+      ready = λ s ready. ready;
+    }
+
+returns-2 : tie.Need-returns-2
+returns-2 c =
+    let a = c .before in
+    let r = a .before .before in
+    record {
+      room = first r .pre;
+      refused = λ n f. (refl, refl);
+      moved = λ x f. answered-refused (sym f);
+      called = λ s ready. called-unread (start r s ready) (first r .args .bytes .now) (within r s ready) refl (reads r s ready) (a .answer .given .1) refl;
+      tags = λ s ready x f. answered-refused (sym f);
+      ready = λ s ready. ready;
+    }
+
+-- ---- where there is room for an instant
+abbrev room : tie.After-work-instant-arg2 → tie.Else1
+room c = c .before .before .before
+
+abbrev read : tie.Else1 → tie.After-read-instant
+read e = e .before .before .before
+
+work-instant-requires : tie.Need-work-instant-requires
+work-instant-requires c κs = let e = room c in (first (read e) .pre, omega (arith, e .if1 .left))
+
+module _ (c : tie.After-work-instant) where
+  abbrev few : tie.Else1
+  few = room (c .before)
+
+  abbrev was-read : tie.After-read-instant
+  was-read = read (room (c .before))
+
+  abbrev entry : tie.Start
+  entry = first (read (room (c .before)))
+
+  bytes : IsBytes (entry .args .bytes .now)
+  bytes = all-bytes (entry .args .bytes .now) (λ i. known was-read .shared-slice-known .given i .fits)
+
+  observes : (s : Sheet) (ready : Ready s (entry .args .progress) (entry .args .plan) (entry .args .lines .now) (entry .args .rows .now)) → Called (rowsMonitor s (entry .args .progress) (entry .args .rows .now)) (entry .args .bytes .now) (given (c .work-instant .result .reply) (rowsMonitor s (c .work-instant .result .progress) (c .work-instant .last .1 .1 .1 .1 .0)))
+  observes s ready =
+      let k = entry .args .progress in
+      called (start was-read s ready) (entry .args .bytes .now) (within was-read s ready) refl (reads was-read s ready) (few .before .enum-told .given .1)
+      bytes (eight-rows (entry .args .rows .now) (k .from) (k .count)) (omega (arith, few .if1 .left)) (c .work-instant .ensures .accepts s ready)
+
+returns-3 : tie.Need-returns-3
+returns-3 c = record {
+  room = c .work-instant .ensures .room;
+  refused = λ n f. absurd (c .work-instant .ensures .answered n f);
+  moved = λ x f. c .work-instant .ensures .moved;
+  called = observes c;
+  tags = λ s ready x f. rw (c .work-instant .ensures .accepts s ready .tags) (blank-tags (start (was-read c) s ready) (entry c .args .bytes .now) (within (was-read c) s ready) refl (reads (was-read c) s ready) (few c .before .enum-told .given .1) (bytes c));
+  ready = λ s ready. record { value = ready .value; planned = ready .planned; limits = answered-within (observes c s ready) (c .work-instant .ensures .accepts s ready .said) };
+}
+
+pub observe-rows-spec : {M : Type 1} → statement M
+observe-rows-spec =
+    tie.close (tie.spec (λ c. omega (arith, c .before .before .pre .plan .clocks)) (λ c κs. search needs) (λ c. search needs) (λ c. search needs)
+    returns work-instant-requires returns-2 returns-3)

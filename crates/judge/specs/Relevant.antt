@@ -1,0 +1,52 @@
+-- The ticks of an instant that its work asks about: those of the clocks that a line or an obligation held names. An unseen tick of another clock counts as idle.
+use mathlib.Core.Bool.{Bool, true, false}
+use mathlib.Core.List.{List, [], _∷_}
+use Prim.Native.Nat.{ℕ, _+_, _%_}
+use lib.ListN.{getD, set, replicate}
+use Rattle.records.specs.declared.line.Line.{Line}
+use Rattle.records.specs.declared.line.Line.the-variants.{Sporadic, Relation, Implies, Excludes, Delayed, Weakly, Strictly, Kills}
+use Rattle.records.specs.declared.instant.Tick.{Tick}
+use Rattle.records.specs.declared.instant.Tick.the-variants.{Idle, Ticks, Unseen}
+use Rattle.records.specs.Lists.{listed}
+use Rattle.tesl.specs.Lists.{flatMap}
+use Rattle.judge.specs.Rows.{word, rowCount}
+
+-- the clocks whose ticks a line asks about; a sporadic or delayed line asks for a tick by an obligation
+abbrev pub namedBy : Line → List ℕ
+namedBy (Implies A B) = A ∷ B ∷ []
+namedBy (Excludes A B) = A ∷ B ∷ []
+namedBy (Weakly A B) = A ∷ B ∷ []
+namedBy (Strictly A B) = A ∷ B ∷ []
+namedBy (Kills A B) = A ∷ B ∷ []
+namedBy (Delayed A B D d) = A ∷ []
+namedBy (Sporadic A B t) = []
+namedBy (Relation A B p q) = []
+
+-- the clocks that row i owes a tick of; that n rows from `from` on do
+abbrev pub rowClocks : List ℕ → ℕ → List ℕ
+rowClocks rows i = listed (λ j. word rows i (1 + j) % 256) (rowCount rows i)
+
+abbrev pub rowsClocks : List ℕ → ℕ → ℕ → List ℕ
+rowsClocks rows from n = flatMap (λ k. rowClocks rows (from + k)) (listed (λ k. k) n)
+
+-- a flag for each clock of a list besides
+abbrev pub flagged : List ℕ → List Bool → List Bool
+flagged [] flags = flags
+flagged (k ∷ ks) flags = flagged ks (set flags k true)
+
+-- clock k has a flag, by the lines or by what is owed
+abbrev pub isRelevant : List Line → List ℕ → ℕ → Bool
+isRelevant ls owed k = getD (flagged owed (flagged (flatMap namedBy ls) (replicate 8 false))) k true
+
+-- ---- ticks
+
+abbrev pub tickIfRelevant : Bool → Tick → Tick
+tickIfRelevant true t = t
+tickIfRelevant false Idle = Idle
+tickIfRelevant false Ticks = Ticks
+tickIfRelevant false Unseen = Idle
+
+-- the ticks of the clocks from k on
+abbrev pub relevantOnly : (ℕ → Bool) → ℕ → List Tick → List Tick
+relevantOnly p k [] = []
+relevantOnly p k (t ∷ left) = tickIfRelevant (p k) t ∷ relevantOnly p (k + 1) left

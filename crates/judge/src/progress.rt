@@ -1,0 +1,134 @@
+// An instant taken by a monitor whose remainders stand in rows: for `observe`, and for the loop over a log, where they stay there from one instant to the next.
+use crate::answer::Reply;
+use crate::answer::say_rows;
+use crate::fill::Before;
+use crate::fill::work_rows;
+use crate::held::Status;
+use crate::list::LIST;
+use crate::monitor::Monitor;
+use crate::plan::NUMBERS;
+use crate::plan::Plan;
+use crate::rows::HEAD;
+use crate::rows::SIDES;
+use crate::rows::SIZE;
+use records::instant::Instant;
+use records::instant::read_instant;
+use records::number;
+use records::record::Decision;
+ghost use mathlib.Core.Path.{_≡_};
+ghost use Prim.Native.Nat.{_<_};
+ghost use Rattle.judge.specs.Fill.{Working};
+ghost use Rattle.judge.specs.Progress.{progressOf, firstProgress, Works, Takes};
+
+// A monitor beside its sheet and its rows: the number of instants and the last tags, how many are held and the first of their rows.
+pub struct Progress {
+    pub instants: usize,
+    pub tags: [i16; 8],
+    pub count: Status,
+    pub from: usize,
+}
+
+// What an instant gives: the reply, and the monitor to call next.
+pub struct InstantResult {
+    pub reply: Reply,
+    pub progress: Progress,
+}
+
+// A monitor as it is kept once its remainders are stored.
+pub(crate) fn progress_of(monitor: Monitor) -> Progress
+    ensures { λ k. ⌜ k ≡ progressOf monitor ⌝ }
+{
+    let instants = monitor.instants;
+    let tags = monitor.tags;
+    let held = monitor.held;
+    let count = held.count;
+    Progress {
+        instants,
+        tags,
+        count,
+        from: HEAD,
+    }
+}
+
+// Of no instant: one remainder, in the first row of the first side.
+pub(crate) fn first_progress() -> Progress
+    ensures { λ k. ⌜ k ≡ firstProgress ⌝ }
+{
+    let tags = [0i16; 8];
+    Progress {
+        instants: 0,
+        tags,
+        count: Status::Live(1),
+        from: HEAD,
+    }
+}
+
+// Works on an instant that was read: the answer, with those held after it on the other side. What is promised holds of every sheet that the plan is of.
+fn work_instant(
+    progress: Progress,
+    plan: Plan,
+    lines: &[u32; NUMBERS],
+    instant: Instant,
+    rows: &mut [u32; SIZE],
+    list: &mut [bool; LIST],
+) -> InstantResult
+    requires { ⌜ Working (now rows) (progress .from) (progress .count) plan (now list) × (progress .instants < 4000) ⌝ }
+    ensures { λ t. ⌜ Works progress plan instant (now (lines .entry)) t (now (rows .entry)) (now (rows .exit)) (now (list .exit)) ⌝ }
+{
+    let from = progress.from;
+    let instants = progress.instants;
+    let was = progress.tags;
+    let before = Before {
+        first: instants == 0,
+        tags: was,
+    };
+    let count = progress.count;
+    let next = work_rows(rows, from, count, plan, lines, before, instant, list);
+    let to = SIDES - from;
+    let said = say_rows(rows, to, next);
+    let tags = instant.tags;
+    let progress = Progress {
+        instants: instants + 1,
+        tags,
+        count: next,
+        from: to,
+    };
+    InstantResult {
+        reply: Reply::Answered(said),
+        progress,
+    }
+}
+
+// Takes an instant: refused, the number and the monitor as it came; accepted, the answer and the monitor after it.
+pub(crate) fn observe_rows(
+    progress: Progress,
+    plan: Plan,
+    lines: &[u32; NUMBERS],
+    bytes: &[u8],
+    rows: &mut [u32; SIZE],
+    list: &mut [bool; LIST],
+) -> InstantResult
+    requires { ⌜ Working (now rows) (progress .from) (progress .count) plan (now list) ⌝ }
+    ensures { λ t. ⌜ Takes progress plan (now (bytes .entry)) (now (lines .entry)) t (now (rows .entry)) (now (rows .exit)) (now (list .exit)) ⌝ }
+{
+    let clocks = plan.clocks as u8;
+    let read = read_instant(bytes, clocks);
+    let answer = read.answer;
+    match answer {
+        Decision::Refused(n) => InstantResult {
+            reply: Reply::Refused(n),
+            progress,
+        },
+        Decision::Done => {
+            let instants = progress.instants;
+            if number::MAX_INSTANTS <= instants {
+                return InstantResult {
+                    reply: Reply::Refused(number::INSTANTS_HELD),
+                    progress,
+                };
+            }
+            let instant = read.instant;
+            work_instant(progress, plan, lines, instant, rows, list)
+        }
+    }
+}
