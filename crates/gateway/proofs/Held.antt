@@ -11,10 +11,11 @@ use Rattle.records.proofs.Lists.{both}
 use Rattle.tesl.specs.Remainder.{Remainder}
 use Rattle.tesl.specs.Answer.{judged}
 use Rattle.tesl.proofs.Tests.{≡→T}
+use Rattle.work.specs.View.{heldList}
 use Rattle.judge.specs.declared.held.Status.{Status}
 use Rattle.judge.specs.declared.held.Status.the-variants.{Exhausted, Live}
 use Rattle.judge.specs.declared.monitor.Monitor.{Monitor}
-use Rattle.judge.specs.View.{viewOf, heldIn, heldList}
+use Rattle.judge.specs.View.{viewOf, heldIn}
 use Rattle.judge.specs.Answer.{saidBy}
 use Rattle.judge.specs.Entry.{liveCode}
 use Rattle.judge.specs.Limits.{sheetWithin, heldWithin, monitorWithin}

@@ -15,11 +15,11 @@ use Rattle.tesl.specs.Run.{Instant}
 use Rattle.tesl.specs.Answer.{Answer, answer}
 use Rattle.tesl.specs.Machine.{accepts, listAfter, reply, listAfterCalls}
 use Rattle.theory.specs.Session.{Observing}
+use Rattle.work.specs.View.{heldList}
 use Rattle.judge.specs.declared.answer.Reply.{Reply}
 use Rattle.judge.specs.declared.live.Replied.{Replied}
 use Rattle.judge.specs.declared.monitor.Monitor.{Monitor}
 use Rattle.judge.specs.declared.monitor.CallResult.{CallResult}
-use Rattle.judge.specs.View.{heldList}
 use Rattle.judge.specs.Answer.{replyOf, saidBy}
 use Rattle.judge.specs.Entry.{liveCode}
 use Rattle.judge.specs.Limits.{monitorWithin}

@@ -11,15 +11,15 @@ use Rattle.records.specs.Sheet.{SheetValue}
 use Rattle.tesl.specs.Lists.{all}
 use Rattle.tesl.specs.Remainder.{Remainder}
 use Rattle.tesl.specs.Answer.{mostLive}
+use Rattle.work.specs.Lines.{smallLeads}
+use Rattle.work.specs.Fillings.{mostFillings, takenBy, byFilling}
 use Rattle.judge.specs.declared.filling.Filling.{Filling}
 use Rattle.judge.specs.declared.plan.Plan.{Plan}
 use Rattle.judge.specs.declared.held.Status.{Status}
 use Rattle.judge.specs.declared.held.Status.the-variants.{Exhausted, Live}
-use Rattle.judge.specs.Lines.{smallLeads}
 use Rattle.judge.specs.Plan.{PlanFits, Planned}
 use Rattle.judge.specs.Rows.{sides, secondSide, headRows, words, rowsOf, FewOwed, RowsStay}
 use Rattle.judge.specs.Filling.{GatheredFor}
-use Rattle.judge.specs.Fillings.{mostFillings, takenBy, byFilling}
 
 -- rows of a side: 32, and one to build the next in
 abbrev pub sideRows : ℕ

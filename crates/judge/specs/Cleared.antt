@@ -6,9 +6,10 @@ use Prim.Native.Nat.{ℕ, _+_, _-_, _≤_, _<_}
 use lib.ListN.{length}
 use Rattle.records.specs.Sheet.{SheetValue}
 use Rattle.tesl.specs.Answer.{mostLive}
+use Rattle.work.specs.View.{usedPart}
 use Rattle.judge.specs.declared.plan.Plan.{Plan}
 use Rattle.judge.specs.declared.held.Status.{Status}
-use Rattle.judge.specs.View.{usedPart, liveCount}
+use Rattle.judge.specs.View.{liveCount}
 use Rattle.judge.specs.Plan.{PlanFits, Planned}
 use Rattle.judge.specs.Rows.{width, sides, word, rowCount, rowObligation, rowLead, rowOf, Stays, HeadStays, RowsStay}
 use Rattle.judge.specs.Apply.{Side, foundIn, FewOwedIn, builtRows}

@@ -1,31 +1,28 @@
 -- The fillings listed of an instant, and what the rows held become by it.
-use mathlib.Core.Bool.{Bool, true, cond}
+use mathlib.Core.Bool.{Bool, cond}
 use mathlib.Core.List.{List, _++_}
 use mathlib.Core.Path.{_≡_}
 use Prim.Native.Nat.{ℕ, _+_, _-_, _≤_}
 use lib.Dec.{T, eqb}
-use lib.ListN.{length, getD, drop}
+use lib.ListN.{length}
 use Rattle.records.specs.declared.instant.TickSlot.{TickSlot}
 use Rattle.records.specs.declared.instant.Instant.{Instant}
 use Rattle.records.specs.Sheet.{SheetValue}
 use Rattle.tesl.specs.Lists.{all, filter}
 use Rattle.tesl.specs.Answer.{mostLive}
+use Rattle.work.specs.Relevant.{fillingsLeft}
+use Rattle.work.specs.View.{heldList, seenOf, tagsBefore}
+use Rattle.work.specs.Lines.{smallLeads}
+use Rattle.work.specs.Fillings.{mostFillings, listSize, fillingsIn}
+use Rattle.work.specs.Work.{worked}
 use Rattle.judge.specs.declared.fill.Before.{Before}
 use Rattle.judge.specs.declared.fill.Extent.{Extent}
 use Rattle.judge.specs.declared.plan.Plan.{Plan}
 use Rattle.judge.specs.declared.held.Status.{Status}
-use Rattle.judge.specs.View.{liveCount, heldList, seenOf, tagsBefore}
-use Rattle.judge.specs.Lines.{smallLeads}
-use Rattle.judge.specs.Relevant.{relevantOnly}
+use Rattle.judge.specs.View.{liveCount}
 use Rattle.judge.specs.Plan.{PlanFits, Planned}
 use Rattle.judge.specs.Rows.{sides, words, RowsStay}
 use Rattle.judge.specs.Apply.{Side, FewOwedIn, foundIn, builtRows}
-use Rattle.judge.specs.Fillings.{mostFillings, listSize, fillingsFrom, fillingsIn}
-use Rattle.judge.specs.Work.{worked}
-
--- of the clocks from k on; an unseen tick of a clock without a flag counts as idle
-abbrev pub fillingsLeft : List Bool → List TickSlot → ℕ → ℕ → List Bool → List (List Bool)
-fillingsLeft flags seen clocks k ticks = fillingsFrom k (relevantOnly (λ j. getD flags j true) k (drop k (seenOf clocks seen))) ticks
 
 -- room for the fillings left, after the first n
 pub record Listing (list : List Bool) (x : Extent) (flags : List Bool) (k : ℕ) (seen : List TickSlot) (ticks : List Bool) (n : ℕ) : Type 0 where

@@ -14,17 +14,19 @@ use Rattle.tesl.specs.Run.{Filled}
 use Rattle.tesl.specs.Fits.{Obligation, owedFrom}
 use Rattle.tesl.specs.Remainder.{sameObligation}
 use Rattle.theory.specs.Adding.{onceEach}
+use Rattle.work.specs.Advanced.{Advanced, fails, over, onto}
+use Rattle.work.specs.View.{filledOf, usedPart}
+use Rattle.work.specs.Lines.{allStopped, smallLeads}
+use Rattle.work.specs.Carried.{needOf, gainOf, lossOf}
+use Rattle.work.specs.Parts.{isRule, Leading}
+use Rattle.work.specs.Work.{advanced}
 use Rattle.judge.specs.declared.advance.Next.{Next}
 use Rattle.judge.specs.declared.advance.Next.the-variants.{Fails, Over, Onto}
 use Rattle.judge.specs.declared.filling.Filling.{Filling}
 use Rattle.judge.specs.declared.plan.Plan.{Plan}
-use Rattle.judge.specs.Advanced.{Advanced, fails, over, onto}
-use Rattle.judge.specs.View.{filledOf, firstOf, usedPart}
-use Rattle.judge.specs.Lines.{allStopped, smallLeads}
-use Rattle.judge.specs.Carried.{needOf, gainOf, lossOf}
-use Rattle.judge.specs.Plan.{isRule, planLine, Leading, PlanFits, Planned}
+use Rattle.judge.specs.View.{firstOf}
+use Rattle.judge.specs.Plan.{planLine, PlanFits, Planned}
 use Rattle.judge.specs.Rows.{width, rowCount, rowOf, Between, Stays}
-use Rattle.judge.specs.Work.{advanced}
 
 -- the instant, and what its delay lines begin
 abbrev pub filledInstant : Filling → Filled

@@ -20,22 +20,9 @@ pub mod Log
 -- demands 2 and 3
 pub mod Demands
 -- ---- for inner contracts and proofs only: nothing public cites these
--- what a line asks of an instant and makes of what a remainder carries; and all lines
-pub mod Questions
-pub mod Lines
--- the same by what depends on a filling alone
-pub mod Rules
-pub mod Carried
--- obligations: those that a filling begins, and what becomes of those owed
-pub mod Owed
--- the work on an instant: one remainder, all of them, and filling by filling
-pub mod Advanced
-pub mod Work
-pub mod Fillings
 -- what is kept in arrays: words, remainders in rows, the ticks asked about, a line's words, a sheet's lines
 pub mod Word
 pub mod Rows
-pub mod Relevant
 pub mod LineWords
 pub mod Plan
 -- an instant: what depends on a filling alone, the rows by a filling and by all of them, the fillings listed; the remainder of no instant; remainders stored in rows and read back; words that no remainder uses, and how they are cleared; and a monitor kept in rows

@@ -13,13 +13,14 @@ use Rattle.records.specs.Outcome.{taken}
 use Rattle.records.specs.Sheet.{SheetValue, sheetValue, sheetOf}
 use Rattle.tesl.specs.Lists.{all}
 use Rattle.tesl.specs.Remainder.{Remainder}
+use Rattle.work.specs.View.{seenOf, tagsBefore}
+use Rattle.work.specs.Lines.{smallLeads}
+use Rattle.work.specs.Work.{worked}
 use Rattle.judge.specs.declared.held.Status.the-variants.{Live}
 use Rattle.judge.specs.declared.answer.Reply.the-variants as reply
 use Rattle.judge.specs.declared.monitor.Monitor.{Monitor}
 use Rattle.judge.specs.declared.monitor.CallResult.{CallResult}
-use Rattle.judge.specs.View.{blankRemainder, heldOf, liveOf, seenOf, tagsBefore, sized}
-use Rattle.judge.specs.Lines.{smallLeads}
-use Rattle.judge.specs.Work.{worked}
+use Rattle.judge.specs.View.{blankRemainder, heldOf, liveOf, sized}
 use Rattle.judge.specs.Answer.{replyOf, saidBy}
 
 -- the sheet's value, the remainders held, and what they say: the last answer

@@ -1,42 +1,19 @@
 -- A sheet's lines in an array of words, a row to each, and what is found out about a sheet once.
-use mathlib.Core.Bool.{Bool, true, false, cond, _&&_}
+use mathlib.Core.Bool.{Bool, false, cond}
 use mathlib.Core.List.{List, [], _∷_, _++_}
 use mathlib.Core.Path.{_≡_}
 use Prim.Native.Nat.{ℕ, _+_, _*_, _≤_, _<_}
-use lib.Dec.{ltb}
 use lib.ListN.{length, getD, replicate}
 use Rattle.records.specs.declared.line.Line.{Line}
-use Rattle.records.specs.declared.line.Line.the-variants.{Sporadic, Relation, Implies, Excludes, Delayed, Weakly, Strictly, Kills}
 use Rattle.records.specs.declared.sheet.Sheet.{Sheet}
 use Rattle.records.specs.Lists.{listed}
-use Rattle.records.specs.Line.{blankLine, ofRelation, ofDelayed, ofPrecedes}
+use Rattle.records.specs.Line.{blankLine}
 use Rattle.records.specs.Sheet.{SheetValue, sheetValue}
 use Rattle.tesl.specs.Lists.{filter, flatMap}
+use Rattle.work.specs.Parts.{isRelation, isRule, isDelay, Leading}
+use Rattle.work.specs.Relevant.{namedBy, flagged}
 use Rattle.judge.specs.declared.plan.Plan.{Plan}
 use Rattle.judge.specs.LineWords.{wordsAt, lineOfWords}
-use Rattle.judge.specs.Relevant.{namedBy, flagged}
-
--- ---- the parts of a sheet
-
-abbrev pub isRelation : Line → Bool
-isRelation l = ofRelation false (λ A B p q. true) l
-
--- implies, excludes and kills: what they ask of the ticks of an instant is asked once per filling
-abbrev pub isRule : Line → Bool
-isRule (Implies A B) = true
-isRule (Excludes A B) = true
-isRule (Kills A B) = true
-isRule (Sporadic A B t) = false
-isRule (Relation A B p q) = false
-isRule (Delayed A B D d) = false
-isRule (Weakly A B) = false
-isRule (Strictly A B) = false
-
-abbrev pub isDelay : Line → Bool
-isDelay l = ofDelayed false (λ A B D d. true) l
-
-abbrev pub isPrecedes : Line → Bool
-isPrecedes l = ofPrecedes false (λ A B. true) l
 
 -- ---- lines in words
 
@@ -69,10 +46,6 @@ abbrev pub planLines : List ℕ → ℕ → ℕ → List Line
 planLines lines from n = listed (λ j. planLine lines (from + j)) n
 
 -- ---- the plan
-
--- the precedes lines of a sheet stand before place `leaders`, where `precede` has a flag
-abbrev pub Leading : SheetValue → ℕ → List Bool → Type 0
-Leading v leaders precede = (leaders ≤ 16) × ((i : ℕ) → isPrecedes (getD (v .lines) i blankLine) ≡ (ltb i leaders && getD precede i false))
 
 -- what the code asks of a plan, whatever the sheet
 pub record PlanFits (p : Plan) : Type 0 where

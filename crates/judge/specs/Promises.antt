@@ -16,9 +16,9 @@ use Rattle.tesl.specs.Remainder.{Remainder, sameObligation, sameRemainder}
 use Rattle.tesl.specs.Answer.{exhausted, remainders, answer}
 use Rattle.tesl.specs.Machine.{unlessFull, Reader}
 use Rattle.theory.specs.Sets.{apart, EachOnce}
+use Rattle.work.specs.View.{heldList}
 use Rattle.judge.specs.declared.monitor.Monitor.{Monitor}
 use Rattle.judge.specs.declared.monitor.CallResult.{CallResult}
-use Rattle.judge.specs.View.{heldList}
 use Rattle.judge.specs.Answer.{replyOf, saidBy}
 use Rattle.judge.specs.Limits.{monitorWithin}
 use Rattle.judge.specs.Unused.{KeepsNothing}

@@ -10,13 +10,15 @@ use Rattle.records.specs.Sheet.{SheetValue}
 use Rattle.tesl.specs.Run.{Filled}
 use Rattle.tesl.specs.Fits.{Obligation}
 use Rattle.tesl.specs.Remainder.{Remainder}
+use Rattle.tesl.specs.Lists.{flatMap}
+use Rattle.work.specs.View.{usedPart}
+use Rattle.work.specs.Owed.{added, stillOwed}
+use Rattle.work.specs.Carried.{either}
+use Rattle.work.specs.Work.{addedAll}
 use Rattle.judge.specs.declared.obligation.Obligation as code
 use Rattle.judge.specs.Word.{dueOf, flagOf}
-use Rattle.judge.specs.View.{firstOf, blankObligation, usedPart}
+use Rattle.judge.specs.View.{firstOf, blankObligation}
 use Rattle.judge.specs.Unused.{BlankFrom}
-use Rattle.judge.specs.Owed.{added, stillOwed}
-use Rattle.judge.specs.Carried.{either}
-use Rattle.judge.specs.Work.{addedAll}
 
 -- words of a row, rows, words in all
 abbrev pub width : ℕ
@@ -88,6 +90,13 @@ rowsOf v rows first n = listed (λ k. usedPart v (rowOf rows (first + k))) n
 -- each of n rows from `first` on has at most eight obligations
 abbrev pub FewOwed : List ℕ → ℕ → ℕ → Type 0
 FewOwed rows first n = (k : ℕ) → k < n → rowCount rows (first + k) ≤ 8
+
+-- the clocks that row i owes a tick of; that n rows from `from` on do
+abbrev pub rowClocks : List ℕ → ℕ → List ℕ
+rowClocks rows i = listed (λ j. word rows i (1 + j) % 256) (rowCount rows i)
+
+abbrev pub rowsClocks : List ℕ → ℕ → ℕ → List ℕ
+rowsClocks rows from n = flatMap (λ k. rowClocks rows (from + k)) (listed (λ k. k) n)
 
 -- x, if there is one
 abbrev pub provided : {A : Type 0} → Bool → A → Option A

@@ -8,9 +8,9 @@ use Rattle.records.specs.Sheet.{SheetValue}
 use Rattle.tesl.specs.Lists.{flatMap}
 use Rattle.tesl.specs.Fits.{Obligation, owedAtStart}
 use Rattle.tesl.specs.Remainder.{remainder}
+use Rattle.work.specs.Owed.{owing}
+use Rattle.work.specs.Work.{addedAll}
 use Rattle.judge.specs.declared.held.Status.the-variants.{Live}
-use Rattle.judge.specs.Owed.{owing}
-use Rattle.judge.specs.Work.{addedAll}
 use Rattle.judge.specs.Rows.{leadsPart, width, words, headRows, word, rowsOf, Stays}
 use Rattle.judge.specs.Apply.{FewOwedIn}
 

@@ -8,12 +8,13 @@ use lib.ListN.{length, getD, take}
 use Rattle.records.specs.Sheet.{SheetValue}
 use Rattle.tesl.specs.Lists.{all}
 use Rattle.tesl.specs.Fits.{Obligation}
+use Rattle.work.specs.View.{usedPart, heldList}
+use Rattle.work.specs.Lines.{smallLeads}
 use Rattle.judge.specs.declared.plan.Plan.{Plan}
 use Rattle.judge.specs.declared.remainder.Remainder as arrays
 use Rattle.judge.specs.declared.held.Status.{Status}
-use Rattle.judge.specs.View.{remainderOf, blankRemainder, usedPart, viewOf, liveCount, heldIn, heldList, sizedIn}
+use Rattle.judge.specs.View.{remainderOf, blankRemainder, viewOf, liveCount, heldIn, sizedIn}
 use Rattle.judge.specs.Unused.{BlankFrom, NothingUnused}
-use Rattle.judge.specs.Lines.{smallLeads}
 use Rattle.judge.specs.Plan.{PlanFits, Planned}
 use Rattle.judge.specs.Rows.{leadsPart, stoppedPart, partsEnd, secondSide, headRows, height, words, rowCount, rowOwed, rowLead, rowLeads, rowStop, rowStopped, rowOf, rowsOf, FewOwed, Stays, HeadStays}
 use Rattle.judge.specs.Apply.{foundIn, FewOwedIn}

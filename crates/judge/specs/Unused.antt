@@ -7,9 +7,10 @@ use lib.IntN.{pos}
 use lib.ListN.{getD}
 use Rattle.records.specs.Line.{blankLine}
 use Rattle.records.specs.Sheet.{SheetValue, sheetValue}
+use Rattle.work.specs.View.{inUse}
 use Rattle.judge.specs.declared.remainder.Remainder.{Remainder}
 use Rattle.judge.specs.declared.monitor.Monitor.{Monitor}
-use Rattle.judge.specs.View.{blankObligation, blankRemainder, inUse, liveCount}
+use Rattle.judge.specs.View.{blankObligation, blankRemainder, liveCount}
 
 -- from place n on an array holds the blank d
 abbrev pub BlankFrom : {A : Type 0} → ℕ → A → List A → Type 0

@@ -6,8 +6,8 @@ use Prim.Native.Nat.{ℕ, _+_, _≤_, _<_}
 use lib.ListN.{getD}
 use Rattle.records.specs.Line.{blankLine}
 use Rattle.records.specs.Sheet.{SheetValue, sheetValue}
+use Rattle.work.specs.Parts.{isPrecedes}
 use Rattle.judge.specs.View.{liveCount}
-use Rattle.judge.specs.Plan.{isPrecedes}
 use Rattle.judge.specs.Rows.{width, height, headRows, word, rowCount, rowLead}
 use Rattle.judge.specs.State.{stateWords, stateSheet, stateProgress, noWords}
 

@@ -25,7 +25,8 @@ ghost use Rattle.records.specs.Lists.{listed};
 ghost use Rattle.tesl.specs.Lists.{any, below};
 ghost use Rattle.tesl.specs.Remainder.{sameObligation};
 ghost use Rattle.theory.specs.Step.{overlap};
-ghost use Rattle.judge.specs.View.{obligationOf, firstOf, filledOf};
+ghost use Rattle.work.specs.View.{filledOf};
+ghost use Rattle.judge.specs.View.{obligationOf, firstOf};
 ghost use Rattle.judge.specs.Rows.{height, rowCount, rowOwed, rowLead, rowStop, Row, Between, StillOwedRow, AddedRow, BegunRow, LeadsOn, StoppedOn};
 ghost use Rattle.judge.specs.Filling.{Advancing, AdvancedRow};
 

@@ -8,7 +8,7 @@ use crate::plan::NUMBERS;
 use crate::plan::Plan;
 use crate::rows::SIDES;
 use crate::rows::SIZE;
-ghost use Rattle.judge.specs.Fillings.{fillingsIn};
+ghost use Rattle.work.specs.Fillings.{fillingsIn};
 ghost use Rattle.judge.specs.Apply.{ApplyingAll, AppliedAll};
 
 // What n rows from row `from` on become by m listed fillings.

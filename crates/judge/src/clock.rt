@@ -3,7 +3,7 @@ ghost use mathlib.Core.Path.{_≡_};
 ghost use mathlib.Core.Bool.{true};
 ghost use lib.ListN.{set};
 ghost use Rattle.tesl.specs.Run.{tagIn};
-ghost use Rattle.judge.specs.Questions.{tickIn};
+ghost use Rattle.work.specs.Questions.{tickIn};
 
 fn place(k: u8) -> usize
     ensures { λ r. ⌜ r ≡ k ⌝ }

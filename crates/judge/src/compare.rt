@@ -17,10 +17,11 @@ ghost use lib.ListN.{getD};
 ghost use Rattle.records.specs.Sheet.{SheetValue};
 ghost use Rattle.tesl.specs.Lists.{any, below};
 ghost use Rattle.tesl.specs.Remainder.{sameObligation};
-ghost use Rattle.judge.specs.View.{obligationOf, firstOf, usedPart};
-ghost use Rattle.judge.specs.Work.{sameCounted};
+ghost use Rattle.work.specs.View.{usedPart};
+ghost use Rattle.work.specs.Work.{sameCounted};
+ghost use Rattle.work.specs.Parts.{Leading};
+ghost use Rattle.judge.specs.View.{obligationOf, firstOf};
 ghost use Rattle.judge.specs.Rows.{height, rowLead, rowStop, rowOf, rowsOf, FewOwed};
-ghost use Rattle.judge.specs.Plan.{Leading};
 
 // Rows i and x lead alike; only the leads of precedes lines are in use.
 fn same_leads(rows: &[u32; SIZE], i: usize, x: usize, leaders: usize, precede: [bool; 16]) -> bool

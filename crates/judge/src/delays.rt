@@ -12,7 +12,8 @@ ghost use Rattle.tesl.specs.Lists.{any, flatMap};
 ghost use Rattle.tesl.specs.Fits.{owedFrom};
 ghost use Rattle.tesl.specs.Remainder.{sameObligation};
 ghost use Rattle.theory.specs.Adding.{onceEach};
-ghost use Rattle.judge.specs.View.{obligationOf, firstOf, filledOf};
+ghost use Rattle.work.specs.View.{filledOf};
+ghost use Rattle.judge.specs.View.{obligationOf, firstOf};
 ghost use Rattle.judge.specs.Plan.{planLines, delaysFrom};
 
 pub(crate) struct NewObligations {

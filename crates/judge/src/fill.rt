@@ -21,11 +21,12 @@ ghost use lib.ListN.{set};
 ghost use Rattle.records.specs.Instant.{tickAt};
 ghost use Rattle.tesl.specs.Lists.{all};
 ghost use Rattle.tesl.specs.Fits.{noneFalls};
-ghost use Rattle.judge.specs.View.{tagsBefore};
-ghost use Rattle.judge.specs.Questions.{tagsHold};
-ghost use Rattle.judge.specs.Rules.{allowed};
+ghost use Rattle.work.specs.View.{tagsBefore};
+ghost use Rattle.work.specs.Questions.{tagsHold};
+ghost use Rattle.work.specs.Rules.{allowed};
+ghost use Rattle.work.specs.Relevant.{fillingsLeft};
 ghost use Rattle.judge.specs.Plan.{planLines, relationsFrom, rulesFrom};
-ghost use Rattle.judge.specs.Fill.{fillingsLeft, Listing, Listed, Working, Worked};
+ghost use Rattle.judge.specs.Fill.{Listing, Listed, Working, Worked};
 
 // What went before an instant: nothing, or the last tags.
 pub struct Before {

@@ -6,7 +6,7 @@ use records::line::Line;
 ghost use mathlib.Core.Path.{_≡_};
 ghost use Prim.Native.Nat.{_-_, _≤_};
 ghost use Rattle.theory.specs.Step.{bit};
-ghost use Rattle.judge.specs.Plan.{isPrecedes};
+ghost use Rattle.work.specs.Parts.{isPrecedes};
 ghost use Rattle.judge.specs.Filling.{AskedLead, LeadChangesOf};
 
 pub(crate) fn precedes(l: Line) -> bool

@@ -19,7 +19,8 @@ ghost use lib.Signed.{leZ};
 ghost use Rattle.records.specs.Sheet.{sheetValue};
 ghost use Rattle.tesl.specs.Lists.{all};
 ghost use Rattle.theory.specs.Step.{nextLeads};
-ghost use Rattle.judge.specs.View.{obligationOf, owedOf, inUse};
+ghost use Rattle.work.specs.View.{inUse};
+ghost use Rattle.judge.specs.View.{obligationOf, owedOf};
 ghost use Rattle.judge.specs.Limits.{obligationWithin, remainderWithin, heldWithin, Limited};
 
 // From the least tag to the greatest and the longest delay after it.

@@ -10,8 +10,9 @@ ghost use mathlib.Core.Path.{_≡_};
 ghost use mathlib.Core.Bool.{not, _&&_, _||_};
 ghost use lib.IntN.{_+ℤ_, _*ℤ_};
 ghost use Rattle.tesl.specs.Fits.{eqZ, owedFrom};
-ghost use Rattle.judge.specs.View.{filledOf, newObligation};
-ghost use Rattle.judge.specs.Questions.{tagsHold, ticksHold, stoppedAfter};
+ghost use Rattle.work.specs.View.{filledOf};
+ghost use Rattle.work.specs.Questions.{tagsHold, ticksHold, stoppedAfter};
+ghost use Rattle.judge.specs.View.{newObligation};
 
 // What a line begins at an instant.
 pub(crate) enum NewObligation {

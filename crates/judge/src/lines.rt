@@ -8,7 +8,7 @@ ghost use Prim.Native.Nat.{ℕ, _≤_};
 ghost use lib.Signed.{leZ};
 ghost use Rattle.tesl.specs.Lists.{all, below};
 ghost use Rattle.tesl.specs.Run.{tagIn};
-ghost use Rattle.judge.specs.Questions.{tagsHold};
+ghost use Rattle.work.specs.Questions.{tagsHold};
 ghost use Rattle.judge.specs.Plan.{planLines, relationsFrom};
 
 // What n relations ask of the tags.

@@ -3,7 +3,7 @@ ghost use mathlib.Core.Path.{_≡_};
 ghost use mathlib.Core.List.{_∷_, [], _++_};
 ghost use Prim.Native.Nat.{_+_, _<_};
 ghost use lib.ListN.{length};
-ghost use Rattle.judge.specs.Fillings.{mostFillings, listSize, flagsIn, fillingsIn};
+ghost use Rattle.work.specs.Fillings.{mostFillings, listSize, flagsIn, fillingsIn};
 
 pub const LIST: usize = 2048;
 

@@ -9,7 +9,8 @@ ghost use lib.Signed.{leZ};
 ghost use Rattle.tesl.specs.Run.{tagIn};
 ghost use Rattle.tesl.specs.Fits.{eqZ, meets};
 ghost use Rattle.tesl.specs.Remainder.{sameObligation};
-ghost use Rattle.judge.specs.View.{obligationOf, filledOf};
+ghost use Rattle.work.specs.View.{filledOf};
+ghost use Rattle.judge.specs.View.{obligationOf};
 
 pub struct Obligation {
     pub clock: u8,

@@ -10,8 +10,9 @@ use records::sheet::Sheet;
 ghost use mathlib.Core.Bool.{cond};
 ghost use mathlib.Core.Path.{_≡_};
 ghost use Prim.Native.Nat.{_+_, _<_};
+ghost use Rattle.work.specs.Parts.{isRelation, isRule, isDelay};
 ghost use Rattle.judge.specs.LineWords.{lineOfWords};
-ghost use Rattle.judge.specs.Plan.{isRelation, isRule, isDelay, planRows, planLine, LineRow, PutPlanLine, PutPart, Preparing, PlanOf};
+ghost use Rattle.judge.specs.Plan.{planRows, planLine, LineRow, PutPlanLine, PutPart, Preparing, PlanOf};
 
 // Words of a row, six of them used; rows; words in all.
 const LINE_WIDTH: usize = 8;

@@ -9,8 +9,8 @@ use records::line::Line;
 ghost use mathlib.Core.Path.{_≡_};
 ghost use mathlib.Core.List.{_∷_, []};
 ghost use Prim.Native.Nat.{_+_, _≤_, _<_};
-ghost use Rattle.judge.specs.Rows.{height, rowCount, FewOwed};
-ghost use Rattle.judge.specs.Relevant.{namedBy, rowClocks, rowsClocks, flagged};
+ghost use Rattle.work.specs.Relevant.{namedBy, flagged};
+ghost use Rattle.judge.specs.Rows.{height, rowCount, FewOwed, rowClocks, rowsClocks};
 
 fn flag_both(flags: [bool; 8], a: u8, b: u8) -> [bool; 8]
     ensures { λ r. ⌜ r ≡ flagged (a ∷ b ∷ []) flags ⌝ }

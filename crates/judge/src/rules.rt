@@ -11,9 +11,9 @@ ghost use Prim.Native.Nat.{_≤_};
 ghost use lib.Dec.{ltb};
 ghost use lib.ListN.{replicate};
 ghost use Rattle.tesl.specs.Lists.{any};
-ghost use Rattle.judge.specs.Lines.{allStopped};
+ghost use Rattle.work.specs.Lines.{allStopped};
+ghost use Rattle.work.specs.Rules.{allowed, isSettled, forbids};
 ghost use Rattle.judge.specs.Plan.{planLines, rulesFrom};
-ghost use Rattle.judge.specs.Rules.{allowed, isSettled, forbids};
 
 // What the rules ask of the ticks.
 pub(crate) fn all_hold(lines: &[u32; NUMBERS], n: usize, ticks: [bool; 8]) -> bool

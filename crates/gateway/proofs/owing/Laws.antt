@@ -12,20 +12,20 @@ use Rattle.tesl.specs.Lists.{count}
 use Rattle.tesl.specs.Run.{Instant}
 use Rattle.tesl.specs.Answer.{Answer, exhausted, broken, holding, remainders, answer}
 use Rattle.tesl.specs.Machine.{listAfterCalls, session, LogResult, callsOf, judgeLog}
+use Rattle.work.specs.View.{heldList}
 use Rattle.judge.specs.declared.answer.Answer as code
 use Rattle.judge.specs.declared.answer.Reply.the-variants as reply
 use Rattle.judge.specs.declared.monitor.Monitor.{Monitor}
-use Rattle.judge.specs.View.{heldList}
 use Rattle.judge.specs.Answer.{replyOf}
 use Rattle.judge.specs.Limits.{monitorWithin}
 use Rattle.judge.specs.Monitor.{heldBy}
 use Rattle.judge.specs.Promises.{Follows}
 use Rattle.judge.specs.Log.{FollowsLog}
+use Rattle.judge.specs.declared.log.LastMonitor.{LastMonitor}
 use Rattle.panel.specs.declared.Panel.{Panel}
 use Rattle.panel.specs.declared.Panel.the-variants as shown
 use Rattle.panel.specs.Panel.{owesClock, panelOf, panelCount}
 use Rattle.panel.proofs.Run.{within-count, panel-of-run}
-use Rattle.judge.specs.declared.log.LastMonitor.{LastMonitor}
 use Rattle.gateway.specs.Result.{numberOf, packed, unlessRefused, shownCount, unlessExhausted, owingIn, owingOf, shownCode}
 use Rattle.gateway.specs.Inner.{OwingAfter}
 use Rattle.gateway.proofs.Held.{held-few}

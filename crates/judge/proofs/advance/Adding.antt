@@ -7,7 +7,7 @@ use Prim.Native.Nat.{ℕ}
 use borrow.Author.Tests.{not-true, not-false}
 use Rattle.tesl.specs.Fits.{Obligation}
 use Rattle.theory.specs.Adding.{onward}
-use Rattle.judge.specs.Work.{addedAll}
+use Rattle.work.specs.Work.{addedAll}
 use Rattle.judge.specs.Rows.{rowOwed, provided, AddedRow}
 
 module _ (rest : List Obligation) (i : ℕ) (rows : List ℕ) {whole : Option (List Obligation)} (w : whole ≡ addedAll rest (rowOwed rows i)) where

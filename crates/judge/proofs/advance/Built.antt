@@ -7,10 +7,10 @@ use native.Mathlib.Omega.{arith}
 use lib.ListN.{getD}
 use Rattle.tesl.specs.Run.{Filled}
 use Rattle.tesl.specs.Fits.{Obligation}
+use Rattle.work.specs.Carried.{either}
+use Rattle.work.proofs.Listing.{listed-same}
 use Rattle.judge.specs.Word.{flagOf}
-use Rattle.judge.specs.Carried.{either}
 use Rattle.judge.specs.Rows.{leadsPart, stoppedPart, width, rowCount, rowOwed, rowLead, rowStopped, Stays, StillOwedRow, BegunRow, LeadsOn, StoppedOn}
-use Rattle.judge.proofs.Listing.{listed-same}
 use Rattle.judge.proofs.rows.Laws.{stays-wide, stays-on, owed-stays}
 
 module _ {i to : ℕ} (apart : i ≡ to → ⊥) {f : Filled} {k : Bool} {a b : List ℕ} (left-owed : StillOwedRow f i to k a b) where

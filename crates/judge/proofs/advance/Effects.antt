@@ -10,8 +10,8 @@ use lib.Seq.{drop-cons, ext-getD}
 use Rattle.records.specs.Lists.{listedFrom, listed}
 use Rattle.records.proofs.Lists.{listed-cons, listed-end, length-listed}
 use Rattle.theory.specs.Step.{overlap}
-use Rattle.judge.specs.Carried.{either}
-use Rattle.judge.proofs.Listing.{listed-at}
+use Rattle.work.specs.Carried.{either}
+use Rattle.work.proofs.Listing.{listed-at}
 
 -- ---- a clock in both, from place k on
 module _ (xs : List Bool) (f : ℕ → Bool) (n k : ℕ) {whole : Bool} (w : whole ≡ overlap (drop k xs) (listedFrom f k (n - k))) where

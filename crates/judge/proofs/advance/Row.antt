@@ -14,21 +14,21 @@ use Rattle.tesl.specs.Lists.{below}
 use Rattle.tesl.specs.Fits.{Obligation}
 use Rattle.tesl.specs.Remainder.{Remainder}
 use Rattle.theory.specs.Step.{overlap, linesOk, nextLeads}
+use Rattle.work.specs.Advanced.{Advanced, fails, over, onto}
+use Rattle.work.specs.View.{inUse, usedPart}
+use Rattle.work.specs.Questions.{carriedHolds, leadAfter}
+use Rattle.work.specs.Lines.{allStopped, smallLeads}
+use Rattle.work.specs.Owed.{owing, stillOwed}
+use Rattle.work.specs.Carried.{either}
+use Rattle.work.specs.Parts.{isPrecedes}
+use Rattle.work.specs.Work.{carried, withBegun, withStillOwed, advanced}
+use Rattle.work.proofs.Below.{below-ext}
+use Rattle.work.proofs.Listing.{listed-at}
+use Rattle.work.proofs.Carried.{sheetLine, small-lead, carried-holds, carried-stopped, carried-leads}
 use Rattle.judge.specs.declared.filling.Filling.{Filling}
 use Rattle.judge.specs.declared.plan.Plan.{Plan}
-use Rattle.judge.specs.Advanced.{Advanced, fails, over, onto}
-use Rattle.judge.specs.View.{inUse, usedPart}
-use Rattle.judge.specs.Questions.{carriedHolds, leadAfter}
-use Rattle.judge.specs.Lines.{allStopped, smallLeads}
-use Rattle.judge.specs.Owed.{owing, stillOwed}
-use Rattle.judge.specs.Carried.{either}
-use Rattle.judge.specs.Plan.{isPrecedes}
 use Rattle.judge.specs.Rows.{rowOwed, rowLead, rowLeads, rowStop, rowStopped, rowOf, provided, StillOwedRow, BegunRow}
 use Rattle.judge.specs.Filling.{filledInstant, begunIn, GatheredFor}
-use Rattle.judge.specs.Work.{carried, withBegun, withStillOwed, advanced}
-use Rattle.judge.proofs.Below.{below-ext}
-use Rattle.judge.proofs.Listing.{listed-at}
-use Rattle.judge.proofs.work.Carried.{sheetLine, small-lead, carried-holds, carried-stopped, carried-leads}
 
 pub same-remainder : {o o′ : List Obligation} {l l′ : List ℕ} {s s′ : List Bool} → o ≡ o′ → l ≡ l′ → s ≡ s′ → _≡_ {A = Remainder} (record { owed = o; leads = l; stopped = s }) (record { owed = o′; leads = l′; stopped = s′ })
 same-remainder a b c = rw (a, b, c)

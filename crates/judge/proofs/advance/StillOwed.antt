@@ -7,7 +7,7 @@ use lib.Signed.{leZ}
 use borrow.Author.Tests.{not-true, not-false}
 use Rattle.tesl.specs.Run.{Filled, tagIn}
 use Rattle.tesl.specs.Fits.{Obligation, meets, notLate}
-use Rattle.judge.specs.Owed.{left, stillOwed}
+use Rattle.work.specs.Owed.{left, stillOwed}
 
 module _ (f : Filled) where
   unfoldable pub stillOwedFrom : List Obligation → List Obligation → Option (List Obligation)

@@ -14,13 +14,13 @@ use Rattle.tesl.specs.Lists.{any, distinct}
 use Rattle.tesl.specs.Remainder.{Remainder, sameObligation, owes, isClear}
 use Rattle.tesl.specs.Answer.{broken, holding, clear, owed, standing, judged}
 use Rattle.theory.proofs.Lists.{any-snoc}
+use Rattle.work.specs.View.{usedPart}
+use Rattle.work.proofs.Listing.{any-of}
 use Rattle.judge.specs.declared.held.Status.{Status}
 use Rattle.judge.specs.declared.held.Status.the-variants.{Live}
-use Rattle.judge.specs.View.{usedPart}
 use Rattle.judge.specs.Answer.{saidBy}
 use Rattle.judge.specs.Rows.{rowCount, rowObligation, rowOwed, rowOf, rowsOf}
 use Rattle.judge.specs.Apply.{foundIn}
-use Rattle.judge.proofs.Listing.{any-of}
 
 -- one of each of a list is none only of the empty list
 distinct-none : {A : Type 0} (same : A → A → Bool) (xs : List A) → eqb (length (distinct same xs)) 0 ≡ eqb (length xs) 0

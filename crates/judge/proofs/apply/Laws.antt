@@ -14,15 +14,15 @@ use Rattle.tesl.specs.Run.{Filled}
 use Rattle.tesl.specs.Fits.{Obligation, owedFrom}
 use Rattle.tesl.specs.Remainder.{Remainder, sameObligation}
 use Rattle.theory.specs.Adding.{addedTo, onceEach}
+use Rattle.work.specs.Advanced.{Advanced, fails, over, onto}
+use Rattle.work.specs.Work.{sameCounted, inserted, took, advanced, allAdvanced}
+use Rattle.work.proofs.Listing.{listed-same}
+use Rattle.work.proofs.Relevant.{took-none}
+use Rattle.work.proofs.Once.{all-advanced-once}
 use Rattle.judge.specs.Word.{flagOf}
-use Rattle.judge.specs.Advanced.{Advanced, fails, over, onto}
-use Rattle.judge.specs.Work.{sameCounted, inserted, took, advanced, allAdvanced}
 use Rattle.judge.specs.Rows.{leadsPart, stoppedPart, width, word, rowCount, rowOf, Stays, RowsStay, HeadStays}
 use Rattle.judge.specs.Apply.{Sides}
-use Rattle.judge.proofs.Listing.{listed-same}
 use Rattle.judge.proofs.rows.Laws.{obligation-same}
-use Rattle.judge.proofs.work.Relevant.{took-none}
-use Rattle.judge.proofs.work.Once.{all-advanced-once}
 use Rattle.judge.proofs.advance.Row.{same-remainder}
 
 -- a row whose words are the same

@@ -12,8 +12,8 @@ use Rattle.records.proofs.Lists.{listed-cons, listed-end}
 use Rattle.tesl.specs.Lists.{flatMap}
 use Rattle.tesl.specs.Fits.{owedFrom}
 use Rattle.tesl.specs.Remainder.{Remainder}
-use Rattle.judge.specs.View.{filledOf}
-use Rattle.judge.specs.Fillings.{flagsIn, fillingsIn, takenBy, byFilling}
+use Rattle.work.specs.View.{filledOf}
+use Rattle.work.specs.Fillings.{flagsIn, fillingsIn, takenBy, byFilling}
 use Rattle.judge.proofs.apply.Laws.{none-more}
 
 -- what was gathered is of these tags and ticks, and the rows held are the same

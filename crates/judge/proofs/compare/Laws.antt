@@ -18,12 +18,12 @@ use Rattle.tesl.specs.Lists.{any, below, sameList}
 use Rattle.tesl.specs.Fits.{Obligation}
 use Rattle.tesl.specs.Remainder.{sameObligation}
 use Rattle.theory.specs.Step.{nextLeads}
-use Rattle.judge.specs.View.{inUse, usedPart}
-use Rattle.judge.specs.Work.{sameCounted}
+use Rattle.work.specs.View.{inUse, usedPart}
+use Rattle.work.specs.Work.{sameCounted}
+use Rattle.work.specs.Parts.{isPrecedes, Leading}
+use Rattle.work.proofs.Below.{below-ext, below-miss, below-front, below-either}
+use Rattle.work.proofs.Listing.{listed-at, all-listed, any-listed}
 use Rattle.judge.specs.Rows.{rowCount, rowObligation, rowOwed, rowLead, rowStop, rowOf, rowsOf}
-use Rattle.judge.specs.Plan.{isPrecedes, Leading}
-use Rattle.judge.proofs.Below.{below-ext, below-miss, below-front, below-either}
-use Rattle.judge.proofs.Listing.{listed-at, all-listed, any-listed}
 
 -- ---- lists compared place by place
 module _ {A : Type 0} (same : A → A → Bool) (d : A) where

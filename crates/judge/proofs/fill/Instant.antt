@@ -15,21 +15,20 @@ use Rattle.records.proofs.Lists.{length-listed}
 use Rattle.tesl.specs.Lists.{all, filter, flatMap}
 use Rattle.tesl.specs.Fits.{Obligation, noneFalls}
 use Rattle.tesl.specs.Remainder.{Remainder}
+use Rattle.work.specs.View.{usedPart, seenOf}
+use Rattle.work.specs.Questions.{tagsHold}
+use Rattle.work.specs.Parts.{isRelation, isRule}
+use Rattle.work.specs.Rules.{allowed}
+use Rattle.work.specs.Fillings.{fillingsIn, takenBy, byFilling}
+use Rattle.work.specs.Relevant.{fillingsLeft, namedBy, flagged}
+use Rattle.work.specs.Work.{worked}
+use Rattle.work.proofs.Listing.{map-listed}
+use Rattle.work.proofs.Relevant.{clocksOf}
+use Rattle.work.proofs.Listed.{worked-no, worked-yes}
 use Rattle.judge.specs.declared.held.Status.{Status}
 use Rattle.judge.specs.declared.held.Status.the-variants.{Exhausted, Live}
-use Rattle.judge.specs.View.{usedPart, seenOf}
-use Rattle.judge.specs.Questions.{tagsHold}
-use Rattle.judge.specs.Plan.{isRelation, isRule}
-use Rattle.judge.specs.Rules.{allowed}
-use Rattle.judge.specs.Fillings.{fillingsIn, takenBy, byFilling}
-use Rattle.judge.specs.Rows.{rowObligation, rowCount, rowOf, rowsOf}
+use Rattle.judge.specs.Rows.{rowObligation, rowCount, rowOf, rowsOf, rowClocks, rowsClocks}
 use Rattle.judge.specs.Apply.{foundIn}
-use Rattle.judge.specs.Fill.{fillingsLeft}
-use Rattle.judge.specs.Relevant.{namedBy, rowClocks, rowsClocks, flagged}
-use Rattle.judge.specs.Work.{worked}
-use Rattle.judge.proofs.Listing.{map-listed}
-use Rattle.judge.proofs.work.Relevant.{clocksOf}
-use Rattle.judge.proofs.work.Listed.{worked-no, worked-yes}
 
 -- ---- the clocks that rows owe a tick of
 flat-listed : {A B : Type 0} (f : A → List B) (g : ℕ → List B) (at : ℕ → A) → ((i : ℕ) → f (at i) ≡ g i) → (i n : ℕ) → flatMap f (listedFrom at i n) ≡ flatMap g (listedFrom (λ j. j) i n)

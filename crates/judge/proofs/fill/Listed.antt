@@ -11,9 +11,10 @@ use Rattle.records.specs.declared.instant.TickSlot.{TickSlot}
 use Rattle.records.specs.Instant.{tickAt, tickSlot}
 use Rattle.tesl.specs.Lists.{filter}
 use Rattle.theory.proofs.Lists.{filter-append}
-use Rattle.judge.specs.View.{seenOf}
-use Rattle.judge.specs.Fillings.{fillingsIn}
-use Rattle.judge.specs.Fill.{fillingsLeft, Listed}
+use Rattle.work.specs.View.{seenOf}
+use Rattle.work.specs.Fillings.{fillingsIn}
+use Rattle.work.specs.Relevant.{fillingsLeft}
+use Rattle.judge.specs.Fill.{Listed}
 use Rattle.judge.proofs.Places.{rest-end, rest-cons}
 
 -- ---- the clocks from k on

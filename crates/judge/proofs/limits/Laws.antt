@@ -13,8 +13,8 @@ use Rattle.records.specs.Sheet.{lineAt, sheetValue}
 use Rattle.records.proofs.Lists.{listed-take, length-listed}
 use Rattle.tesl.specs.Lists.{all}
 use Rattle.theory.specs.Step.{linesOk, nextLeads}
-use Rattle.judge.specs.View.{inUse}
-use Rattle.judge.specs.Lines.{leadIn}
+use Rattle.work.specs.View.{inUse}
+use Rattle.work.specs.Lines.{leadIn}
 use Rattle.judge.proofs.lines.Laws.{okFrom, ok-start}
 
 -- a line without a lead reads 0

@@ -12,7 +12,7 @@ use Rattle.records.specs.Sheet.{lineAt, sheetValue}
 use Rattle.records.proofs.Lists.{listed-cons, listed-end}
 use Rattle.tesl.specs.Lists.{all, any, below}
 use Rattle.theory.specs.Step.{linesOk}
-use Rattle.judge.specs.Lines.{leadIn}
+use Rattle.work.specs.Lines.{leadIn}
 
 -- ---- a question of what stands at each of n places: whether all answer yes is whether those from i on do
 module _ {A : Type 0} (p : A → Bool) (at : ℕ → A) (n i : ℕ) where

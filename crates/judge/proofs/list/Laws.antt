@@ -3,8 +3,8 @@ use mathlib.Core.Bool.{Bool}
 use mathlib.Core.List.{List, [], _∷_, _++_}
 use mathlib.Core.Path.{_≡_, refl}
 use Prim.Native.Nat.{ℕ, _+_, _<_}
-use Rattle.judge.specs.Fillings.{flagsIn, fillingsIn}
-use Rattle.judge.proofs.Listing.{listed-next}
+use Rattle.work.specs.Fillings.{flagsIn, fillingsIn}
+use Rattle.work.proofs.Listing.{listed-next}
 
 -- stored, and those before it as before
 pub filling-more : (n : ℕ) (was list ticks : List Bool) → ((f : ℕ) → f < n → flagsIn list f ≡ flagsIn was f) → flagsIn list n ≡ ticks → fillingsIn list (n + 1) ≡ fillingsIn was n ++ (ticks ∷ [])

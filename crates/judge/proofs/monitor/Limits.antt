@@ -18,15 +18,16 @@ use Rattle.tesl.proofs.Tests.{and-l, and-r, ≡→T, T→≡}
 use Rattle.theory.specs.Limits.{SheetLimits, clocksOk, dueOk, withinLimits}
 use Rattle.theory.proofs.Lists.{all-imp}
 use Rattle.theory.proofs.Opened.{checked-limits}
+use Rattle.work.specs.View.{heldList}
+use Rattle.work.specs.Lines.{smallLeads}
+use Rattle.work.proofs.Found.{Shaped}
 use Rattle.judge.specs.declared.remainder.Remainder as arrays
 use Rattle.judge.specs.declared.held.Status.{Status}
 use Rattle.judge.specs.declared.held.Status.the-variants.{Exhausted, Live}
 use Rattle.judge.specs.declared.monitor.Monitor.{Monitor}
-use Rattle.judge.specs.View.{obligationOf, owedOf, viewOf, heldIn, heldList, sizedIn, sized}
-use Rattle.judge.specs.Lines.{smallLeads}
+use Rattle.judge.specs.View.{obligationOf, owedOf, viewOf, heldIn, sizedIn, sized}
 use Rattle.judge.specs.Limits.{isTaken, sheetWithin, obligationWithin, remainderWithin, heldWithin, monitorWithin}
 use Rattle.judge.specs.Monitor.{sheetBy, heldBy, Workable}
-use Rattle.judge.proofs.work.Found.{Shaped}
 
 -- ---- tests of a list
 

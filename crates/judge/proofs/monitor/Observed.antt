@@ -28,15 +28,15 @@ use Rattle.theory.specs.Limits.{SheetLimits, withinLimits}
 use Rattle.theory.specs.Tracks.{Tracks, Finding, every}
 use Rattle.theory.proofs.Limits.{successors-within}
 use Rattle.theory.proofs.Tracks.{tracks-exhausted, tracks-next}
+use Rattle.work.specs.View.{heldList, tagsBefore, seenOf}
+use Rattle.work.specs.Work.{worked}
+use Rattle.work.proofs.Found.{Shaped, Proper, Every, worked-among, worked-every, worked-none}
 use Rattle.judge.specs.declared.monitor.Monitor.{Monitor}
 use Rattle.judge.specs.declared.monitor.CallResult.{CallResult}
-use Rattle.judge.specs.View.{heldList, tagsBefore, seenOf}
-use Rattle.judge.specs.Work.{worked}
 use Rattle.judge.specs.Answer.{saidBy}
 use Rattle.judge.specs.Limits.{sheetWithin, monitorWithin}
 use Rattle.judge.specs.Monitor.{sheetBy, heldBy, lastBy, Accepts}
 use Rattle.judge.specs.Promises.{Follows, Accepted}
-use Rattle.judge.proofs.work.Found.{Shaped, Proper, Every, worked-among, worked-every, worked-none}
 use Rattle.judge.proofs.monitor.Limits.{Limits, within-limits}
 
 -- ---- what the work makes of those held, found or not

@@ -30,6 +30,9 @@ use Rattle.theory.proofs.Tidy.{owes-more}
 use Rattle.theory.proofs.Held.{held-start}
 use Rattle.theory.proofs.Limits.{same-within, start-within}
 use Rattle.theory.proofs.Opened.{read-limits, opening-owes, opening-answer}
+use Rattle.work.specs.View.{heldList}
+use Rattle.work.specs.Owed.{owing}
+use Rattle.work.specs.Work.{addedAll}
 use Rattle.judge.specs.declared.answer.Answer as code
 use Rattle.judge.specs.declared.answer.Reply.the-variants as reply
 use Rattle.judge.specs.declared.remainder.Remainder as arrays
@@ -37,9 +40,7 @@ use Rattle.judge.specs.declared.held.Status.the-variants.{Live}
 use Rattle.judge.specs.declared.plan.Plan.{Plan}
 use Rattle.judge.specs.declared.monitor.Monitor.{Monitor}
 use Rattle.judge.specs.declared.monitor.CallResult.{CallResult}
-use Rattle.judge.specs.View.{heldList, sized}
-use Rattle.judge.specs.Owed.{owing}
-use Rattle.judge.specs.Work.{addedAll}
+use Rattle.judge.specs.View.{sized}
 use Rattle.judge.specs.Answer.{answerOf, saidBy}
 use Rattle.judge.specs.Limits.{isTaken, sheetWithin, monitorWithin}
 use Rattle.judge.specs.Plan.{numbers, Preparing, PlanOf}

@@ -6,10 +6,10 @@ use Prim.Native.Nat.{ℕ, _+_, _*_, _<_}
 use native.Mathlib.Omega.{arith}
 use lib.ListN.{length, getD}
 use Rattle.records.specs.declared.line.Line.{Line}
+use Rattle.work.proofs.Listing.{listed-same, listed-next}
 use Rattle.judge.specs.declared.line_words.LineWords.{LineWords}
 use Rattle.judge.specs.LineWords.{lineOfWords}
 use Rattle.judge.specs.Plan.{lineWidth, numbers, planLines, LineRow, LinesStay, PutPlanLine, PutPart}
-use Rattle.judge.proofs.Listing.{listed-same, listed-next}
 use Rattle.judge.proofs.line_words.Stored.{stored, stored-length, stored-other, stored-there}
 
 -- six words stored in row j

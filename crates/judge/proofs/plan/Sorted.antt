@@ -16,9 +16,10 @@ use Rattle.records.specs.Sheet.{lineAt, sheetValue}
 use Rattle.records.proofs.Lists.{listed-snoc}
 use Rattle.tesl.specs.Lists.{filter, flatMap}
 use Rattle.theory.proofs.Lists.{filter-append}
+use Rattle.work.specs.Relevant.{namedBy, flagged}
+use Rattle.work.specs.Parts.{isRelation, isRule, isDelay, isPrecedes}
 use Rattle.judge.specs.declared.plan.Plan.{Plan}
-use Rattle.judge.specs.Relevant.{namedBy, flagged}
-use Rattle.judge.specs.Plan.{isRelation, isRule, isDelay, isPrecedes, numbers, relationsFrom, rulesFrom, delaysFrom, planLine, planLines, PutPlanLine, PutPart, Preparing, PlanOf}
+use Rattle.judge.specs.Plan.{numbers, relationsFrom, rulesFrom, delaysFrom, planLine, planLines, PutPlanLine, PutPart, Preparing, PlanOf}
 use Rattle.judge.proofs.relevant.Laws.{flagged-append}
 use Rattle.judge.proofs.rows.Placing.{blank-at}
 use Rattle.judge.proofs.plan.Rows.{rows-stay}

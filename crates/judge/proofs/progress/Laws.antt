@@ -24,6 +24,10 @@ use Rattle.tesl.specs.Run as tesl
 use Rattle.tesl.proofs.Tests.{and-l, and-r, and-i, ≡→T}
 use Rattle.theory.specs.Limits.{withinLimits}
 use Rattle.tesl.specs.Answer.{mostLive}
+use Rattle.work.specs.View.{usedPart, heldList, seenOf, tagsBefore}
+use Rattle.work.specs.Lines.{smallLeads}
+use Rattle.work.specs.Work.{worked}
+use Rattle.work.proofs.Listing.{map-listed, one-of, all-of}
 use Rattle.judge.specs.declared.answer.Answer as code
 use Rattle.judge.specs.declared.answer.Reply.the-variants as reply
 use Rattle.judge.specs.declared.remainder.Remainder as arrays
@@ -33,10 +37,8 @@ use Rattle.judge.specs.declared.held.Held.{Held}
 use Rattle.judge.specs.declared.plan.Plan.{Plan}
 use Rattle.judge.specs.declared.progress.Progress.{Progress}
 use Rattle.judge.specs.declared.monitor.Monitor.{Monitor}
-use Rattle.judge.specs.View.{obligationOf, owedOf, viewOf, usedPart, heldOf, liveCount, heldList, seenOf, tagsBefore, sized}
+use Rattle.judge.specs.View.{obligationOf, owedOf, viewOf, heldOf, liveCount, sized}
 use Rattle.judge.specs.Unused.{BlankFrom, KeepsNothing}
-use Rattle.judge.specs.Lines.{smallLeads}
-use Rattle.judge.specs.Work.{worked}
 use Rattle.judge.specs.Answer.{answerOf, saidBy}
 use Rattle.judge.specs.Limits.{sheetWithin, monitorWithin, Limited}
 use Rattle.judge.specs.Plan.{numbers, Preparing, PlanOf}
@@ -47,7 +49,6 @@ use Rattle.judge.specs.Monitor.{sheetBy, heldBy, Accepts}
 use Rattle.judge.specs.Fill.{Working}
 use Rattle.judge.specs.Progress.{asStruct, rowRemainder, rowsHeld, rowsMonitor, progressOf, given, readBack, Ready}
 use Rattle.judge.specs.Promises.{Follows}
-use Rattle.judge.proofs.Listing.{map-listed, one-of, all-of}
 use Rattle.judge.proofs.monitor.Limits.{held-limits, limits-of, within-limits, leads-small}
 
 -- ---- places listed

@@ -8,7 +8,7 @@ use lib.ListN.{set}
 use Rattle.records.specs.Lists.{listedFrom, listed}
 use Rattle.records.proofs.Lists.{listed-cons, listed-end}
 use Rattle.tesl.specs.Lists.{flatMap}
-use Rattle.judge.specs.Relevant.{flagged}
+use Rattle.work.specs.Relevant.{flagged}
 
 -- ---- the flags of the clocks at i and after: place by place, and those that each place names
 module _ (at : ℕ → ℕ) (n i : ℕ) (flags : List Bool) where

@@ -8,9 +8,9 @@ use lib.ListN.{length, getD, set, length-set}
 use lib.Seq.{getD-set-same, getD-set-other}
 use Rattle.records.specs.Lists.{listed}
 use Rattle.tesl.specs.Fits.{Obligation}
+use Rattle.work.proofs.Listing.{listed-same, listed-next}
 use Rattle.judge.specs.Word.{dueOf}
 use Rattle.judge.specs.Rows.{leadsPart, width, words, word, rowCount, rowObligation, rowOwed, Stays, RowsStay, PutObligation}
-use Rattle.judge.proofs.Listing.{listed-same, listed-next}
 
 -- ---- one word
 module _ (a : List ℕ) (i p w : ℕ) where

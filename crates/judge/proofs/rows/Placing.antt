@@ -13,8 +13,8 @@ use lib.Seq.{getD-append-add, getD-set-same, getD-set-other, ext-getD}
 use borrow.Author.Tests.{ltb-true, ltb-false}
 use Rattle.records.specs.Lists.{listedFrom, listed, filled}
 use Rattle.records.proofs.Lists.{length-listed}
+use Rattle.work.proofs.Listing.{listed-at, listed-next}
 use Rattle.judge.proofs.Places.{first-more}
-use Rattle.judge.proofs.Listing.{listed-at, listed-next}
 
 pub blank-at : {A : Type 0} (d : A) (n k : ℕ) → getD (replicate n d) k d ≡ d
 blank-at d zero k = refl

@@ -14,18 +14,19 @@ use Rattle.records.specs.Sheet.{SheetValue}
 use Rattle.records.proofs.Lists.{length-listed}
 use Rattle.tesl.specs.Lists.{all, below, table}
 use Rattle.theory.specs.Step.{nextLeads}
+use Rattle.work.specs.View.{inUse}
+use Rattle.work.proofs.Below.{below-ext, below-front, below-either}
+use Rattle.work.proofs.Listing.{listed-at, map-listed, all-listed}
+use Rattle.work.proofs.Carried.{sheetLine, next-places, used-by}
 use Rattle.judge.specs.declared.held.Status.{Status}
 use Rattle.judge.specs.declared.held.Status.the-variants.{Exhausted, Live}
 use Rattle.judge.specs.declared.plan.Plan.{Plan}
-use Rattle.judge.specs.View.{obligationOf, owedOf, inUse, viewOf}
+use Rattle.judge.specs.View.{obligationOf, owedOf, viewOf}
 use Rattle.judge.specs.Limits.{obligationWithin, remainderWithin, heldWithin}
 use Rattle.judge.specs.Plan.{Planned}
 use Rattle.judge.specs.Rows.{rowCount, rowObligation, rowOwed, rowLead, rowLeads}
 use Rattle.judge.specs.Progress.{asStruct, rowRemainder}
 use Rattle.judge.specs.RowsLimits.{owedFits, leadFits, RowWithin, EachRowWithin, RowsWithin}
-use Rattle.judge.proofs.Below.{below-ext, below-front, below-either}
-use Rattle.judge.proofs.Listing.{listed-at, map-listed, all-listed}
-use Rattle.judge.proofs.work.Carried.{sheetLine, next-places, used-by}
 
 all-table : {A : Type 0} (p : A → Bool) (n : ℕ) (f : ℕ → A) → all p (table n f) ≡ below n (λ k. p (f k))
 all-table p zero f = refl

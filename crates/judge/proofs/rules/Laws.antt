@@ -5,9 +5,9 @@ use mathlib.Core.Path.{_≡_, sym, _∙_}
 use Prim.Native.Nat.{ℕ, _+_}
 use borrow.Author.Tests.{not-true, not-false}
 use Rattle.records.specs.declared.line.Line.{Line}
-use Rattle.judge.specs.Questions.{ticksHold}
+use Rattle.work.specs.Questions.{ticksHold}
+use Rattle.work.specs.Rules.{isSettled, forbids}
 use Rattle.judge.specs.Plan.{planLine, rulesFrom}
-use Rattle.judge.specs.Rules.{isSettled, forbids}
 
 -- rule i
 abbrev pub ruleIn : List ℕ → ℕ → Line

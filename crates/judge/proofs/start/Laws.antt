@@ -16,10 +16,10 @@ use Rattle.tesl.specs.Fits.{Obligation, owedAtStart}
 use Rattle.tesl.specs.Remainder.{leadOf, stops, remainder}
 use Rattle.theory.specs.Step.{nextLeads}
 use Rattle.theory.proofs.Lists.{table-ext}
+use Rattle.work.specs.View.{inUse, usedPart}
+use Rattle.work.specs.Owed.{owing}
+use Rattle.work.specs.Work.{addedAll}
 use Rattle.judge.specs.Word.{flagOf}
-use Rattle.judge.specs.View.{inUse, usedPart}
-use Rattle.judge.specs.Owed.{owing}
-use Rattle.judge.specs.Work.{addedAll}
 use Rattle.judge.specs.Rows.{leadsPart, stoppedPart, headRows, rowCount, rowOwed, rowLead, rowLeads, rowStop, rowStopped, rowOf, provided, Row, BegunRow}
 use Rattle.judge.specs.Start.{BlankRow, BegunRows}
 use Rattle.judge.proofs.rows.Placing.{blank-at, listed-is}

@@ -17,11 +17,11 @@ use Rattle.records.specs.Line.{blankLine}
 use Rattle.records.specs.Sheet.{SheetValue, slotOf, lineAt}
 use Rattle.tesl.proofs.FormulaLists.{below-of}
 use Rattle.tesl.proofs.Tests.{≡→T, T→≡}
+use Rattle.work.proofs.Listing.{listed-at, listed-same}
 use Rattle.judge.specs.declared.line_words.LineWords.{LineWords}
 use Rattle.judge.specs.LineWords.{lineOfWords, wordsOf, WordsOf}
 use Rattle.judge.specs.Rows.{width, words, word}
 use Rattle.judge.specs.State.{stateWords, stateLine, clocksBy, stateSlot, stateSheet, isKind, hasKinds, OthersStay, PutWords, noWords, SlotWords, PutLines, PutSheet}
-use Rattle.judge.proofs.Listing.{listed-at, listed-same}
 use Rattle.judge.proofs.rows.Laws.{stored, stored-other}
 use Rattle.judge.proofs.state.Words.{words-same}
 

@@ -13,21 +13,23 @@ use Rattle.records.specs.Line.{blankLine}
 use Rattle.records.specs.Sheet.{SheetValue}
 use Rattle.tesl.specs.Lists.{all}
 use Rattle.tesl.proofs.Tests.{and-l, and-r, and-i}
+use Rattle.work.specs.View.{usedPart}
+use Rattle.work.specs.Lines.{smallLeads}
+use Rattle.work.specs.Parts.{isPrecedes}
+use Rattle.work.proofs.Listing.{one-of, all-of}
+use Rattle.work.proofs.Carried.{used-by}
 use Rattle.judge.specs.declared.plan.Plan.{Plan}
 use Rattle.judge.specs.declared.remainder.Remainder as arrays
 use Rattle.judge.specs.declared.held.Status.{Status}
 use Rattle.judge.specs.declared.held.Status.the-variants.{Exhausted, Live}
-use Rattle.judge.specs.View.{remainderOf, blankObligation, blankRemainder, usedPart, viewOf, sizedIn}
+use Rattle.judge.specs.View.{remainderOf, blankObligation, blankRemainder, viewOf, sizedIn}
 use Rattle.judge.specs.Unused.{NothingUnused}
-use Rattle.judge.specs.Lines.{smallLeads}
-use Rattle.judge.specs.Plan.{isPrecedes, Planned}
+use Rattle.judge.specs.Plan.{Planned}
 use Rattle.judge.specs.Rows.{words, rowCount, rowOf, rowsOf, FewOwed, HeadStays}
 use Rattle.judge.specs.Apply.{FewOwedIn}
 use Rattle.judge.specs.Stored.{PutRemainder, ToRows, StoredHeld, CopiedRows, FromRows}
 use Rattle.judge.proofs.Places.{as-is, all-at}
-use Rattle.judge.proofs.Listing.{one-of, all-of}
 use Rattle.judge.proofs.rows.Placing.{blank-at, each-place, first-listed}
-use Rattle.judge.proofs.work.Carried.{used-by}
 use Rattle.judge.proofs.apply.Laws.{row-stays}
 
 -- what past the end of an array of remainders reads

@@ -13,17 +13,19 @@ use Rattle.records.specs.Sheet.{SheetValue}
 use Rattle.records.proofs.Lists.{both, length-listed}
 use Rattle.theory.specs.Step.{nextLeads}
 use Rattle.theory.proofs.Lists.{table-ext}
+use Rattle.work.specs.View.{inUse, usedPart}
+use Rattle.work.specs.Lines.{smallLeads}
+use Rattle.work.specs.Parts.{isPrecedes}
+use Rattle.work.proofs.Listing.{listed-at, listed-same}
+use Rattle.work.proofs.Carried.{sheetLine, next-places, used-by, small-lead}
 use Rattle.judge.specs.declared.plan.Plan.{Plan}
 use Rattle.judge.specs.declared.remainder.Remainder as arrays
-use Rattle.judge.specs.View.{owedOf, inUse, usedPart, viewOf}
+use Rattle.judge.specs.View.{owedOf, viewOf}
 use Rattle.judge.specs.Unused.{NothingUnused}
-use Rattle.judge.specs.Lines.{smallLeads}
-use Rattle.judge.specs.Plan.{isPrecedes, Planned}
+use Rattle.judge.specs.Plan.{Planned}
 use Rattle.judge.specs.Rows.{partsEnd, rowCount, rowObligation, rowOwed, rowLead, rowLeads, rowStop, rowStopped, rowOf, ObligationsAt}
 use Rattle.judge.specs.Stored.{PutObligations, PutLeads, PutStopped, PutRemainder, LeadsAt, StoppedAt, RemainderAt}
-use Rattle.judge.proofs.Listing.{listed-at, listed-same}
 use Rattle.judge.proofs.rows.Laws.{stays-wide, stays-on, owed-stays}
-use Rattle.judge.proofs.work.Carried.{sheetLine, next-places, used-by, small-lead}
 use Rattle.judge.proofs.advance.Row.{same-remainder}
 
 module _ {i : ℕ} (r : arrays.Remainder) (few : r .owed ≤ 8) {a b c d : List ℕ}

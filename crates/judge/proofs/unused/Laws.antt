@@ -14,17 +14,18 @@ use Rattle.records.specs.Sheet.{SheetValue}
 use Rattle.records.proofs.Lists.{both, length-listed}
 use Rattle.theory.specs.Step.{nextLeads}
 use Rattle.theory.proofs.Lists.{table-ext}
+use Rattle.work.specs.View.{inUse}
+use Rattle.work.specs.Parts.{isPrecedes}
+use Rattle.work.proofs.Listing.{listed-at, listed-same}
+use Rattle.work.proofs.Carried.{sheetLine, next-places, used-by}
 use Rattle.judge.specs.declared.plan.Plan.{Plan}
-use Rattle.judge.specs.View.{inUse}
 use Rattle.judge.specs.Word.{flagOf}
-use Rattle.judge.specs.Plan.{isPrecedes, PlanFits, Planned}
+use Rattle.judge.specs.Plan.{PlanFits, Planned}
 use Rattle.judge.specs.Rows.{width, word, rowCount, rowObligation, rowOwed, rowLead, rowLeads, rowStop, rowStopped, Stays, ClearedWords}
 use Rattle.judge.specs.UnusedWords.{leadUsed}
 use Rattle.judge.specs.Cleared.{ClearedPart, ClearedRows, ClearedOwed, ClearedLeads, ClearedUnused}
-use Rattle.judge.proofs.Listing.{listed-at, listed-same}
 use Rattle.judge.proofs.rows.Laws.{stored-zero, stored-other, stays-all, stays-put, stays-wide, stays-on, obligation-same}
 use Rattle.judge.proofs.stored.Laws.{take-same}
-use Rattle.judge.proofs.work.Carried.{sheetLine, next-places, used-by}
 use Rattle.judge.proofs.advance.Row.{same-remainder}
 
 -- ---- words of a row, and rows

@@ -10,16 +10,17 @@ use native.Mathlib.Omega.{arith}
 use lib.Dec.{ltb}
 use borrow.Author.Tests.{ltb-true, ltb-false, eq-eqb, ne-eqb}
 use Rattle.records.specs.Sheet.{SheetValue}
+use Rattle.work.specs.View.{usedPart}
+use Rattle.work.proofs.Listing.{listed-same}
 use Rattle.judge.specs.declared.plan.Plan.{Plan}
 use Rattle.judge.specs.declared.held.Status.{Status}
 use Rattle.judge.specs.declared.held.Status.the-variants.{Exhausted, Live}
-use Rattle.judge.specs.View.{usedPart, liveCount}
+use Rattle.judge.specs.View.{liveCount}
 use Rattle.judge.specs.Rows.{width, height, word, rowCount, rowOf, FewOwed, RowsStay}
 use Rattle.judge.specs.Apply.{Side, foundIn, FewOwedIn, builtRows}
 use Rattle.judge.specs.Fill.{workedRows}
 use Rattle.judge.specs.UnusedWords.{NothingInRow, NothingBeside}
 use Rattle.judge.specs.Cleared.{ClearedRows, ClearedRow, ClearedUnused, ClearedEach, ClearedBeside, ClearedFound, Tidied}
-use Rattle.judge.proofs.Listing.{listed-same}
 use Rattle.judge.proofs.rows.Laws.{rows-stay-all, rows-stay-one, rows-stay-among, rows-stay-wide, rows-stay-on}
 use Rattle.judge.proofs.apply.Laws.{row-same}
 

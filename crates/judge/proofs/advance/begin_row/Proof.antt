@@ -6,8 +6,8 @@ use native.Mathlib.Omega.{arith}
 use lib.ListN.{drop}
 use borrow.Author.Needs.{needs}
 use Rattle.tesl.specs.Fits.{Obligation}
+use Rattle.work.specs.Work.{addedAll}
 use Rattle.judge.specs.View.{obligationOf, firstOf, blankObligation}
-use Rattle.judge.specs.Work.{addedAll}
 use Rattle.judge.specs.Rows.{leadsPart, rowCount, rowOwed, Stays}
 use Rattle.judge.proofs.Places as places
 use Rattle.judge.proofs.advance.Adding.{rest-end, rest-over, rest-more}

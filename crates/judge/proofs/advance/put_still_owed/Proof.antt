@@ -10,8 +10,9 @@ use Rattle.records.specs.Lists.{listedFrom, listed}
 use Rattle.records.proofs.Lists.{listed-cons, listed-end}
 use Rattle.tesl.specs.Run.{Filled}
 use Rattle.tesl.specs.Fits.{Obligation}
-use Rattle.judge.specs.View.{obligationOf, filledOf}
-use Rattle.judge.specs.Owed.{stillOwed}
+use Rattle.work.specs.View.{filledOf}
+use Rattle.work.specs.Owed.{stillOwed}
+use Rattle.judge.specs.View.{obligationOf}
 use Rattle.judge.specs.Rows.{leadsPart, words, rowCount, rowObligation, rowOwed, Stays}
 use Rattle.judge.proofs.advance.StillOwed.{stillOwedFrom, still-start, still-end, still-met, still-late, still-more}
 use Rattle.judge.proofs.rows.Laws.{stays-all, stays-put, stays-wide, stays-on, obligation-stays, owed-next, owed-put, count-put}

@@ -6,10 +6,10 @@ use native.Mathlib.Omega.{arith}
 use borrow.Author.Needs.{needs}
 use Rattle.tesl.specs.Lists.{below}
 use Rattle.tesl.specs.Remainder.{sameObligation}
+use Rattle.work.proofs.Below.{below-next}
+use Rattle.work.proofs.Listing.{any-listed, any-of}
 use Rattle.judge.specs.View.{obligationOf}
 use Rattle.judge.specs.Rows.{rowCount, rowObligation}
-use Rattle.judge.proofs.Below.{below-next}
-use Rattle.judge.proofs.Listing.{any-listed, any-of}
 use Rattle.judge.proofs.advance.row_owes.Statement.{statement}
 use Rattle.judge.proofs.advance.row_owes.Tie as tie
 

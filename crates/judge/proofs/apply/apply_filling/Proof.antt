@@ -13,17 +13,17 @@ use Rattle.records.specs.Sheet.{SheetValue}
 use Rattle.records.proofs.Lists.{listed-cons, listed-end, listed-snoc, length-listed}
 use Rattle.tesl.specs.Lists.{all}
 use Rattle.tesl.specs.Remainder.{Remainder}
+use Rattle.work.specs.View.{usedPart}
+use Rattle.work.specs.Lines.{smallLeads}
+use Rattle.work.specs.Fillings.{byFilling}
+use Rattle.work.specs.Work.{advanced, allAdvanced}
+use Rattle.work.proofs.Listing.{listed-same, one-of}
 use Rattle.judge.specs.declared.advance.Next.{Next}
 use Rattle.judge.specs.declared.advance.Next.the-variants.{Onto}
 use Rattle.judge.specs.declared.filling.Filling.{Filling}
 use Rattle.judge.specs.declared.plan.Plan.{Plan}
-use Rattle.judge.specs.View.{usedPart}
-use Rattle.judge.specs.Lines.{smallLeads}
 use Rattle.judge.specs.Rows.{rowOf, rowsOf, FewOwed, RowsStay}
 use Rattle.judge.specs.Filling.{filledInstant, begunIn, nextOf, GatheredFor}
-use Rattle.judge.specs.Fillings.{byFilling}
-use Rattle.judge.specs.Work.{advanced, allAdvanced}
-use Rattle.judge.proofs.Listing.{listed-same, one-of}
 use Rattle.judge.proofs.rows.Laws.{rows-stay-all, rows-stay-one, rows-stay-wide, rows-stay-on}
 use Rattle.judge.proofs.apply.Laws.{row-stays, held-few, held-row, applied-start, applied-end, applied-fails, applied-over, applied-there, applied-full, applied-more}
 use Rattle.judge.proofs.apply.apply_filling.Statement.{statement}

@@ -8,11 +8,11 @@ use borrow.Author.Tests.{not-true, not-false}
 use Rattle.records.specs.Lists.{listed}
 use Rattle.records.specs.Sheet.{SheetValue}
 use Rattle.tesl.specs.Lists.{any, below}
-use Rattle.judge.specs.View.{usedPart}
-use Rattle.judge.specs.Work.{sameCounted}
+use Rattle.work.specs.View.{usedPart}
+use Rattle.work.specs.Work.{sameCounted}
+use Rattle.work.specs.Parts.{Leading}
+use Rattle.work.proofs.Below.{below-next, below-miss}
 use Rattle.judge.specs.Rows.{rowCount, rowObligation, rowOf, rowsOf}
-use Rattle.judge.specs.Plan.{Leading}
-use Rattle.judge.proofs.Below.{below-next, below-miss}
 use Rattle.judge.proofs.compare.Laws.{owesAt, owes-here, sameRow, noneSame, other-count, other-stops, other-leads, other-owed, equal, is-one}
 use Rattle.judge.proofs.compare.is_duplicate.Statement.{statement}
 use Rattle.judge.proofs.compare.is_duplicate.Tie as tie

@@ -7,8 +7,8 @@ use native.Mathlib.Omega.{arith}
 use borrow.Author.Needs.{needs}
 use borrow.Author.Tests.{not-true, not-false}
 use Rattle.tesl.specs.Lists.{below}
+use Rattle.work.proofs.Below.{below-next, below-miss}
 use Rattle.judge.specs.Rows.{rowStop}
-use Rattle.judge.proofs.Below.{below-next, below-miss}
 use Rattle.judge.proofs.compare.same_stopped.Statement.{statement}
 use Rattle.judge.proofs.compare.same_stopped.Tie as tie
 

@@ -10,8 +10,9 @@ use Rattle.tesl.specs.Run.{Filled}
 use Rattle.tesl.specs.Fits.{owedFrom}
 use Rattle.tesl.specs.Remainder.{sameObligation}
 use Rattle.theory.specs.Adding.{insertAll, onceEach}
+use Rattle.work.specs.View.{filledOf}
 use Rattle.judge.specs.declared.obligation.Obligation as code
-use Rattle.judge.specs.View.{obligationOf, filledOf, firstOf, blankObligation}
+use Rattle.judge.specs.View.{obligationOf, firstOf, blankObligation}
 use Rattle.judge.specs.Plan.{planLines, delaysFrom}
 use Rattle.judge.proofs.Places.{first-set}
 use Rattle.judge.proofs.delays.Laws.{begunFrom, begun-start, delayIn, gathering-end, gathering-nothing, gathering-again, gathering-more}

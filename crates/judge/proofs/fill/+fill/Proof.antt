@@ -10,13 +10,12 @@ use borrow.Author.Tests.{not-true, not-false}
 use borrow.Fn.Kinds.{In}
 use borrow.Fn.PlainCycle.{Measures, is, falls, and}
 use Rattle.records.specs.declared.instant.Tick.the-variants.{Idle, Ticks, Unseen}
-use Rattle.judge.specs.View.{seenOf}
-use Rattle.judge.specs.Relevant.{relevantOnly}
+use Rattle.work.specs.View.{seenOf}
+use Rattle.work.specs.Relevant.{relevantOnly, fillingsLeft}
+use Rattle.work.specs.Rules.{allowed}
+use Rattle.work.proofs.Forbidden.{forbidden-none}
 use Rattle.judge.specs.Plan.{planLines, rulesFrom}
-use Rattle.judge.specs.Rules.{allowed}
-use Rattle.judge.specs.Fill.{fillingsLeft}
 use Rattle.judge.proofs.fill.Listed.{left-end, left-idle, left-ticks, left-unseen, left-irrelevant, room-same, room-first, room-second, listed-none, listed-not, listed-one, listed-same, listed-both, flag-there}
-use Rattle.judge.proofs.fill.Forbidden.{forbidden-none}
 use Rattle.judge.proofs.fill.fill.Reads as fill
 use Rattle.judge.proofs.fill.fill.Kinds as fill-kinds
 use Rattle.judge.proofs.fill.+fill.Lts-fill as fill-lts

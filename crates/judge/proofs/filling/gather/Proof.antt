@@ -7,10 +7,10 @@ use Rattle.tesl.specs.Lists.{flatMap}
 use Rattle.tesl.specs.Fits.{owedFrom}
 use Rattle.tesl.specs.Remainder.{sameObligation}
 use Rattle.theory.specs.Adding.{onceEach}
-use Rattle.judge.specs.View.{filledOf}
-use Rattle.judge.specs.Lines.{allStopped}
-use Rattle.judge.specs.Carried.{needOf, gainOf, lossOf}
-use Rattle.judge.proofs.plan.Parts.{delays-enough}
+use Rattle.work.specs.View.{filledOf}
+use Rattle.work.specs.Lines.{allStopped}
+use Rattle.work.specs.Carried.{needOf, gainOf, lossOf}
+use Rattle.work.proofs.Parts.{delays-enough}
 use Rattle.judge.proofs.filling.gather.Statement.{statement}
 use Rattle.judge.proofs.filling.gather.Tie as tie
 

@@ -5,7 +5,7 @@ use mathlib.Core.Path.{_≡_, ap, _∙_}
 use Prim.Native.Nat.{ℕ, _-_, _≤_}
 use native.Mathlib.Omega.{arith}
 use borrow.Author.Needs.{needs}
-use Rattle.judge.specs.Carried.{needOf, gainOf, lossOf}
+use Rattle.work.specs.Carried.{needOf, gainOf, lossOf}
 use Rattle.judge.specs.Plan.{planLine}
 use Rattle.judge.proofs.rows.Placing.{Placing, placing-start, placing-more}
 use Rattle.judge.proofs.leads.lead_changes.Statement.{statement}

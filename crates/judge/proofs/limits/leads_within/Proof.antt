@@ -6,12 +6,12 @@ use lib.Dec.{leb}
 use Rattle.records.specs.Sheet.{sheetValue}
 use Rattle.tesl.specs.Lists.{all}
 use Rattle.theory.specs.Step.{nextLeads}
-use Rattle.judge.specs.View.{inUse}
+use Rattle.work.specs.View.{inUse}
 use Rattle.judge.proofs.lines.Laws.{okFrom, ok-end, ok-no, ok-more}
 use Rattle.judge.proofs.limits.Laws.{leadOk, leads-start}
-use borrow.Author.Needs.{needs}
 use Rattle.judge.proofs.limits.leads_within.Statement.{statement}
 use Rattle.judge.proofs.limits.leads_within.Tie as tie
+use borrow.Author.Needs.{needs}
 
 abbrev Inv-loop : tie.InvT-loop
 Inv-loop instants s leads n i₀ i =

@@ -8,7 +8,7 @@ use borrow.Author.Needs.{needs}
 use borrow.Author.Tests.{not-true, not-false}
 use Rattle.records.specs.declared.line.Line.{Line}
 use Rattle.tesl.specs.Lists.{all}
-use Rattle.judge.specs.Questions.{tagsHold}
+use Rattle.work.specs.Questions.{tagsHold}
 use Rattle.judge.specs.Plan.{planLine, planLines, relationsFrom}
 use Rattle.judge.proofs.lines.Laws.{allFrom, all-end, all-no, all-more}
 use Rattle.judge.proofs.lines.all_tags_hold.Statement.{statement}

@@ -4,7 +4,7 @@ use mathlib.Core.Path.{_∙_}
 use Prim.Native.Nat.{_*_, _-_, _≤_}
 use native.Mathlib.Omega.{arith}
 use borrow.Author.Needs.{needs}
-use Rattle.judge.proofs.Listing.{Copied, copied-start, copied-more, copied-all, places-stay}
+use Rattle.work.proofs.Listing.{Copied, copied-start, copied-more, copied-all, places-stay}
 use Rattle.judge.proofs.list.Laws.{filling-more}
 use Rattle.judge.proofs.list.put_flags.Statement.{statement}
 use Rattle.judge.proofs.list.put_flags.Tie as tie

@@ -5,8 +5,8 @@ use Prim.Native.Nat.{ℕ, _≤_, _+_, _-_, _%_}
 use native.Mathlib.Omega.{arith}
 use borrow.Author.Needs.{needs}
 use Rattle.records.specs.Lists.{listed}
+use Rattle.work.specs.Relevant.{flagged}
 use Rattle.judge.specs.Rows.{word}
-use Rattle.judge.specs.Relevant.{flagged}
 use Rattle.judge.proofs.relevant.Laws.{flaggedFrom, flags-start, flags-more, flags-end}
 use Rattle.judge.proofs.relevant.flag_row.Statement.{statement}
 use Rattle.judge.proofs.relevant.flag_row.Tie as tie

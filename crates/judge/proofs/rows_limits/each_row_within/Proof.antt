@@ -6,10 +6,10 @@ use native.Mathlib.Omega.{arith}
 use borrow.Author.Needs.{needs}
 use Rattle.records.specs.Sheet.{SheetValue}
 use Rattle.tesl.specs.Lists.{below}
+use Rattle.work.proofs.Below.{below-next, below-miss}
 use Rattle.judge.specs.Limits.{remainderWithin}
 use Rattle.judge.specs.Progress.{rowRemainder}
 use Rattle.judge.specs.RowsLimits.{EachRowWithin}
-use Rattle.judge.proofs.Below.{below-next, below-miss}
 use Rattle.judge.proofs.rows_limits.each_row_within.Statement.{statement}
 use Rattle.judge.proofs.rows_limits.each_row_within.Tie as tie
 

@@ -7,8 +7,8 @@ use lib.Dec.{leb}
 use lib.ListN.{getD}
 use borrow.Author.Needs.{needs}
 use Rattle.tesl.specs.Lists.{below}
+use Rattle.work.proofs.Below.{below-next, below-miss}
 use Rattle.judge.specs.RowsLimits.{leadFits}
-use Rattle.judge.proofs.Below.{below-next, below-miss}
 use Rattle.judge.proofs.rows_limits.row_leads_within.Statement.{statement}
 use Rattle.judge.proofs.rows_limits.row_leads_within.Tie as tie
 

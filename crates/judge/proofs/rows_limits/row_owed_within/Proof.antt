@@ -5,9 +5,9 @@ use Prim.Native.Nat.{ℕ, _-_, _≤_}
 use native.Mathlib.Omega.{arith}
 use borrow.Author.Needs.{needs}
 use Rattle.tesl.specs.Lists.{below}
+use Rattle.work.proofs.Below.{below-next, below-miss}
 use Rattle.judge.specs.Limits.{obligationWithin}
 use Rattle.judge.specs.RowsLimits.{owedFits}
-use Rattle.judge.proofs.Below.{below-next, below-miss}
 use Rattle.judge.proofs.rows_limits.row_owed_within.Statement.{statement}
 use Rattle.judge.proofs.rows_limits.row_owed_within.Tie as tie
 

@@ -5,9 +5,9 @@ use native.Mathlib.Nat.{sub-zero}
 use native.Mathlib.Omega.{arith}
 use borrow.Author.Needs.{needs}
 use borrow.Author.Tests.{not-true, not-false}
-use Rattle.judge.specs.Questions.{ticksHold}
+use Rattle.work.specs.Questions.{ticksHold}
+use Rattle.work.specs.Rules.{allowed}
 use Rattle.judge.specs.Plan.{planLines, rulesFrom}
-use Rattle.judge.specs.Rules.{allowed}
 use Rattle.judge.proofs.lines.Laws.{allFrom, all-end, all-no, all-more}
 use Rattle.judge.proofs.rules.Laws.{ruleIn}
 use Rattle.judge.proofs.rules.all_hold.Statement.{statement}

@@ -7,8 +7,8 @@ use native.Mathlib.Omega.{arith}
 use lib.ListN.{replicate}
 use borrow.Author.Needs.{needs}
 use Rattle.records.specs.Lists.{listedFrom}
-use Rattle.judge.specs.Questions.{stoppedAfter}
-use Rattle.judge.specs.Lines.{allStopped}
+use Rattle.work.specs.Questions.{stoppedAfter}
+use Rattle.work.specs.Lines.{allStopped}
 use Rattle.judge.specs.Plan.{planLines, rulesFrom}
 use Rattle.judge.proofs.rules.Laws.{ruleIn}
 use Rattle.judge.proofs.rules.Folds.{fold-end, fold-more}

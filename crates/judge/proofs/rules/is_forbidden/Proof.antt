@@ -5,8 +5,8 @@ use native.Mathlib.Nat.{sub-zero}
 use native.Mathlib.Omega.{arith}
 use borrow.Author.Needs.{needs}
 use Rattle.tesl.specs.Lists.{any}
+use Rattle.work.specs.Rules.{forbids}
 use Rattle.judge.specs.Plan.{planLines, rulesFrom}
-use Rattle.judge.specs.Rules.{forbids}
 use Rattle.judge.proofs.lines.Laws.{anyFrom, any-end, any-yes, any-more}
 use Rattle.judge.proofs.rules.Laws.{ruleIn, unsettled, forbids-as}
 use Rattle.judge.proofs.rules.is_forbidden.Statement.{statement}

@@ -8,8 +8,8 @@ use Rattle.records.specs.declared.sheet.Sheet.{Sheet}
 use Rattle.records.specs.Sheet.{lineAt, sheetValue}
 use Rattle.tesl.specs.Lists.{flatMap}
 use Rattle.tesl.specs.Fits.{Obligation, owedAtStart}
+use Rattle.work.specs.Work.{addedAll}
 use Rattle.judge.specs.View.{obligationOf}
-use Rattle.judge.specs.Work.{addedAll}
 use Rattle.judge.specs.Rows.{leadsPart, rowCount, rowOwed, Stays}
 use Rattle.judge.proofs.advance.Adding.{rest-end, rest-over, rest-more}
 use Rattle.judge.proofs.delays.Laws.{begunFrom, begun-start, begun-end, begun-nothing, begun-one}

@@ -14,7 +14,7 @@ use Rattle.records.proofs.Lists.{listed-snoc}
 use Rattle.tesl.specs.Lists.{all, any, below}
 use Rattle.tesl.proofs.FormulaLists.{all-append, below-at, below-of}
 use Rattle.theory.proofs.Lists.{any-snoc}
-use Rattle.judge.proofs.Below.{below-miss}
+use Rattle.work.proofs.Below.{below-miss}
 
 or-not : (a b : Bool) → (not a || b) ≡ not (a && not b)
 or-not true b = sym (Bool·not-not b)

@@ -27,13 +27,13 @@ use Rattle.theory.specs.Step.{overlap, linesOk, nextLeads}
 use Rattle.theory.proofs.Lists.{any-append, any-snoc}
 use Rattle.theory.proofs.Respect.{remainder-equivalence}
 use Rattle.theory.specs.Adding.{addedTo}
-use Rattle.judge.specs.Advanced.{Advanced, fails, over, onto}
-use Rattle.judge.specs.View.{filledOf, heldList, isNone}
-use Rattle.judge.specs.Questions.{tickIn, ticksHold, carriedHolds, leadAfter, stoppedAfter}
-use Rattle.judge.specs.Lines.{allStopped}
-use Rattle.judge.specs.Owed.{owing, left, stillOwed}
-use Rattle.judge.specs.Relevant.{namedBy, flagged, isRelevant, tickIfRelevant, relevantOnly}
-use Rattle.judge.specs.Work.{carried, withBegun, withStillOwed, addedAll, advanced, sameCounted, inserted, took, allAdvanced, filling, fillFrom}
+use Rattle.work.specs.Advanced.{Advanced, fails, over, onto}
+use Rattle.work.specs.View.{filledOf, heldList, isNone}
+use Rattle.work.specs.Questions.{tickIn, ticksHold, carriedHolds, leadAfter, stoppedAfter}
+use Rattle.work.specs.Lines.{allStopped}
+use Rattle.work.specs.Owed.{owing, left, stillOwed}
+use Rattle.work.specs.Relevant.{namedBy, flagged, isRelevant, tickIfRelevant, relevantOnly}
+use Rattle.work.specs.Work.{carried, withBegun, withStillOwed, addedAll, advanced, sameCounted, inserted, took, allAdvanced, filling, fillFrom}
 
 abbrev Found : Type 0
 Found = Option (List Remainder)

@@ -18,13 +18,13 @@ use Rattle.tesl.specs.Remainder.{Remainder}
 use Rattle.tesl.proofs.Tests.{and-l, and-r}
 use Rattle.theory.specs.Step.{bit, statesOk, nextStates, linesOk, nextLeads}
 use Rattle.theory.proofs.Lists.{table-ext}
-use Rattle.judge.specs.View.{inUse, usedPart}
-use Rattle.judge.specs.Questions.{tickIn, carriedHolds, leadAfter, stoppedAfter}
-use Rattle.judge.specs.Lines.{allStopped, smallLeads}
-use Rattle.judge.specs.Plan.{isRule, isPrecedes, Leading}
-use Rattle.judge.specs.Carried.{either, needOf, gainOf, lossOf}
-use Rattle.judge.proofs.Below.{below-front, below-either}
-use Rattle.judge.proofs.lines.Carried.{all-as-many}
+use Rattle.work.specs.View.{inUse, usedPart}
+use Rattle.work.specs.Questions.{tickIn, carriedHolds, leadAfter, stoppedAfter}
+use Rattle.work.specs.Lines.{allStopped, smallLeads}
+use Rattle.work.specs.Parts.{isRule, isPrecedes, Leading}
+use Rattle.work.specs.Carried.{either, needOf, gainOf, lossOf}
+use Rattle.work.proofs.Below.{below-front, below-either}
+use Rattle.work.proofs.Lines.{all-as-many}
 
 -- ---- places
 

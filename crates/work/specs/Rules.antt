@@ -6,7 +6,7 @@ use lib.Dec.{ltb}
 use Rattle.records.specs.declared.line.Line.{Line}
 use Rattle.records.specs.declared.line.Line.the-variants.{Sporadic, Relation, Implies, Excludes, Delayed, Weakly, Strictly, Kills}
 use Rattle.tesl.specs.Lists.{all}
-use Rattle.judge.specs.Questions.{ticksHold}
+use Rattle.work.specs.Questions.{ticksHold}
 
 -- what the rules ask of the ticks
 abbrev pub allowed : List Line → List Bool → Bool

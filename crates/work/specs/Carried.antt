@@ -5,7 +5,7 @@ use Prim.Native.Nat.{ℕ, _-_}
 use Rattle.records.specs.declared.line.Line.{Line}
 use Rattle.records.specs.Line.{ofEachPrecedes, ofPrecedes}
 use Rattle.theory.specs.Step.{bit}
-use Rattle.judge.specs.Questions.{tickIn}
+use Rattle.work.specs.Questions.{tickIn}
 
 -- ---- stopped clocks
 

@@ -1,15 +1,16 @@
 -- The ticks of an instant that its work asks about: those of the clocks that a line or an obligation held names. An unseen tick of another clock counts as idle.
 use mathlib.Core.Bool.{Bool, true, false}
 use mathlib.Core.List.{List, [], _∷_}
-use Prim.Native.Nat.{ℕ, _+_, _%_}
-use lib.ListN.{getD, set, replicate}
+use Prim.Native.Nat.{ℕ, _+_}
+use lib.ListN.{getD, set, replicate, drop}
 use Rattle.records.specs.declared.line.Line.{Line}
 use Rattle.records.specs.declared.line.Line.the-variants.{Sporadic, Relation, Implies, Excludes, Delayed, Weakly, Strictly, Kills}
 use Rattle.records.specs.declared.instant.Tick.{Tick}
 use Rattle.records.specs.declared.instant.Tick.the-variants.{Idle, Ticks, Unseen}
-use Rattle.records.specs.Lists.{listed}
+use Rattle.records.specs.declared.instant.TickSlot.{TickSlot}
 use Rattle.tesl.specs.Lists.{flatMap}
-use Rattle.judge.specs.Rows.{word, rowCount}
+use Rattle.work.specs.View.{seenOf}
+use Rattle.work.specs.Fillings.{fillingsFrom}
 
 -- the clocks whose ticks a line asks about; a sporadic or delayed line asks for a tick by an obligation
 abbrev pub namedBy : Line → List ℕ
@@ -21,13 +22,6 @@ namedBy (Kills A B) = A ∷ B ∷ []
 namedBy (Delayed A B D d) = A ∷ []
 namedBy (Sporadic A B t) = []
 namedBy (Relation A B p q) = []
-
--- the clocks that row i owes a tick of; that n rows from `from` on do
-abbrev pub rowClocks : List ℕ → ℕ → List ℕ
-rowClocks rows i = listed (λ j. word rows i (1 + j) % 256) (rowCount rows i)
-
-abbrev pub rowsClocks : List ℕ → ℕ → ℕ → List ℕ
-rowsClocks rows from n = flatMap (λ k. rowClocks rows (from + k)) (listed (λ k. k) n)
 
 -- a flag for each clock of a list besides
 abbrev pub flagged : List ℕ → List Bool → List Bool
@@ -50,3 +44,7 @@ tickIfRelevant false Unseen = Idle
 abbrev pub relevantOnly : (ℕ → Bool) → ℕ → List Tick → List Tick
 relevantOnly p k [] = []
 relevantOnly p k (t ∷ left) = tickIfRelevant (p k) t ∷ relevantOnly p (k + 1) left
+
+-- of the clocks from k on; an unseen tick of a clock without a flag counts as idle
+abbrev pub fillingsLeft : List Bool → List TickSlot → ℕ → ℕ → List Bool → List (List Bool)
+fillingsLeft flags seen clocks k ticks = fillingsFrom k (relevantOnly (λ j. getD flags j true) k (drop k (seenOf clocks seen))) ticks

@@ -18,12 +18,12 @@ use Rattle.theory.specs.Sets.{Covers, EachOnce}
 use Rattle.theory.specs.Held.{successors}
 use Rattle.theory.specs.Tracks.{Finding}
 use Rattle.theory.proofs.Members.{of-each}
-use Rattle.judge.specs.View.{tagsBefore}
-use Rattle.judge.specs.Work.{worked}
-use Rattle.judge.proofs.work.Padded.{lastIn}
-use Rattle.judge.proofs.work.Counted.{Once}
-use Rattle.judge.proofs.work.Gather.{Gathered, Gathering}
-use Rattle.judge.proofs.work.Apply.{reached, reached-are, worked-gathers}
+use Rattle.work.specs.View.{tagsBefore}
+use Rattle.work.specs.Work.{worked}
+use Rattle.work.proofs.Padded.{lastIn}
+use Rattle.work.proofs.Counted.{Once}
+use Rattle.work.proofs.Gather.{Gathered, Gathering}
+use Rattle.work.proofs.Apply.{reached, reached-are, worked-gathers}
 
 -- a remainder of c clocks as the arrays have it
 pub record Shaped (c : ℕ) (r : Remainder) : Type 0 where

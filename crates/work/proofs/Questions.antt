@@ -13,8 +13,8 @@ use Rattle.records.specs.declared.line.Line.the-variants.{Sporadic, Relation, I
 use Rattle.tesl.specs.Lists.{all}
 use Rattle.tesl.specs.Remainder.{stops}
 use Rattle.theory.specs.Step.{lineOk, linesOk, nextLead}
-use Rattle.judge.specs.View.{filledOf}
-use Rattle.judge.specs.Questions.{tickIn, tagsHold, ticksHold, carriedHolds, leadAfter, stoppedAfter}
+use Rattle.work.specs.View.{filledOf}
+use Rattle.work.specs.Questions.{tickIn, tagsHold, ticksHold, carriedHolds, leadAfter, stoppedAfter}
 
 module _ (ticks : List Bool) (tags : List ℤ) where
   pub line-ok : (l : Line) (lead : ℕ) → lineOk (filledOf ticks tags) l lead ≡ (tagsHold tags l && (ticksHold ticks l && carriedHolds ticks l lead))

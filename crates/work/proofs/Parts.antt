@@ -8,9 +8,9 @@ use Rattle.records.specs.declared.line.Line.the-variants.{Sporadic, Relation, I
 use Rattle.tesl.specs.Lists.{all, filter, flatMap}
 use Rattle.tesl.specs.Run.{Filled}
 use Rattle.tesl.specs.Fits.{owedFrom}
-use Rattle.judge.specs.Questions.{tagsHold, ticksHold}
-use Rattle.judge.specs.Plan.{isRelation, isRule, isDelay}
-use Rattle.judge.specs.Rules.{allowed}
+use Rattle.work.specs.Questions.{tagsHold, ticksHold}
+use Rattle.work.specs.Parts.{isRelation, isRule, isDelay}
+use Rattle.work.specs.Rules.{allowed}
 
 module _ (part : Line → Bool) where
   all-part : (p : Line → Bool) → ((l : Line) → part l ≡ false → p l ≡ true) → (ls : List Line) → all p (filter part ls) ≡ all p ls

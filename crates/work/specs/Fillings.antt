@@ -12,8 +12,8 @@ use Rattle.records.specs.Sheet.{SheetValue}
 use Rattle.tesl.specs.Lists.{flatMap}
 use Rattle.tesl.specs.Fits.{owedFrom}
 use Rattle.tesl.specs.Remainder.{Remainder}
-use Rattle.judge.specs.View.{filledOf}
-use Rattle.judge.specs.Work.{allAdvanced}
+use Rattle.work.specs.View.{filledOf}
+use Rattle.work.specs.Work.{allAdvanced}
 
 -- the fillings of the clocks from k on, idle before tick
 abbrev pub fillingsFrom : ℕ → List Tick → List Bool → List (List Bool)

@@ -9,7 +9,7 @@ use Rattle.tesl.specs.Remainder.{Remainder, sameObligation, sameRemainder}
 use Rattle.theory.specs.Sets.{apart}
 use Rattle.theory.proofs.Adding.{by-count}
 use Rattle.theory.proofs.Respect.{owed-equivalence}
-use Rattle.judge.specs.Work.{sameCounted}
+use Rattle.work.specs.Work.{sameCounted}
 
 -- each obligation once
 abbrev pub Once : Remainder → Type 0

@@ -17,16 +17,15 @@ use Rattle.records.specs.Sheet.{SheetValue}
 use Rattle.tesl.specs.Lists.{all, filter, flatMap}
 use Rattle.tesl.specs.Fits.{noneFalls}
 use Rattle.tesl.specs.Remainder.{Remainder}
-use Rattle.judge.specs.View.{seenOf}
-use Rattle.judge.specs.Questions.{tagsHold}
-use Rattle.judge.specs.Plan.{isRelation, isRule}
-use Rattle.judge.specs.Rules.{allowed}
-use Rattle.judge.specs.Fillings.{fillingsFrom, fillingsIn, takenBy, byFilling}
-use Rattle.judge.specs.Fill.{fillingsLeft}
-use Rattle.judge.specs.Relevant.{namedBy, flagged, isRelevant, relevantOnly}
-use Rattle.judge.specs.Work.{filling, fillFrom, worked}
-use Rattle.judge.proofs.plan.Parts.{relations-enough, rules-enough}
-use Rattle.judge.proofs.work.Relevant.{clocksOf, relevant-enough}
+use Rattle.work.specs.View.{seenOf}
+use Rattle.work.specs.Questions.{tagsHold}
+use Rattle.work.specs.Parts.{isRelation, isRule}
+use Rattle.work.specs.Rules.{allowed}
+use Rattle.work.specs.Fillings.{fillingsFrom, fillingsIn, takenBy, byFilling}
+use Rattle.work.specs.Relevant.{fillingsLeft, namedBy, flagged, isRelevant, relevantOnly}
+use Rattle.work.specs.Work.{filling, fillFrom, worked}
+use Rattle.work.proofs.Parts.{relations-enough, rules-enough}
+use Rattle.work.proofs.Relevant.{clocksOf, relevant-enough}
 
 -- ---- the fillings, one after the other
 module _ {R : Type 0} (g : R → List Bool → R) where

@@ -10,10 +10,10 @@ use Rattle.records.specs.declared.line.Line.the-variants.{Sporadic, Relation, I
 use Rattle.tesl.specs.Lists.{any}
 use Rattle.tesl.specs.Remainder.{stops}
 use Rattle.theory.specs.Step.{nextLead, nextLeads}
-use Rattle.judge.specs.View.{filledOf}
-use Rattle.judge.specs.Questions.{tickIn, leadAfter, stoppedAfter}
-use Rattle.judge.specs.Lines.{allStopped}
-use Rattle.judge.proofs.Questions.{lead-after, stopped-after}
+use Rattle.work.specs.View.{filledOf}
+use Rattle.work.specs.Questions.{tickIn, leadAfter, stoppedAfter}
+use Rattle.work.specs.Lines.{allStopped}
+use Rattle.work.proofs.Questions.{lead-after, stopped-after}
 
 pub leads-after : (ticks : List Bool) (tags : List ℤ) (ls : List Line) (leads : List ℕ) → nextLeads (nextLead (filledOf ticks tags)) ls leads ≡ nextLeads (leadAfter ticks) ls leads
 leads-after ticks tags [] leads = refl

@@ -12,10 +12,10 @@ use Rattle.theory.specs.Adding.{onceEach}
 use Rattle.theory.specs.Step.{overlap, linesOk}
 use Rattle.theory.proofs.Adding.{added-once}
 use Rattle.theory.proofs.Respect.{owed-equivalence}
-use Rattle.judge.specs.Advanced.{Advanced, fails}
-use Rattle.judge.specs.Questions.{carriedHolds}
-use Rattle.judge.specs.Owed.{stillOwed}
-use Rattle.judge.specs.Work.{withBegun, withStillOwed, advanced, took, allAdvanced}
+use Rattle.work.specs.Advanced.{Advanced, fails}
+use Rattle.work.specs.Questions.{carriedHolds}
+use Rattle.work.specs.Owed.{stillOwed}
+use Rattle.work.specs.Work.{withBegun, withStillOwed, advanced, took, allAdvanced}
 
 -- ---- a filled instant
 

@@ -15,9 +15,9 @@ use Rattle.records.specs.declared.line.Line.the-variants.{Sporadic, Relation, I
 use Rattle.records.proofs.Lists.{both}
 use Rattle.tesl.specs.Lists.{any, filter}
 use Rattle.theory.proofs.Lists.{filter-append}
-use Rattle.judge.specs.Questions.{tickIn, ticksHold}
-use Rattle.judge.specs.Rules.{allowed, forbids}
-use Rattle.judge.specs.Fillings.{fillingsFrom}
+use Rattle.work.specs.Questions.{tickIn, ticksHold}
+use Rattle.work.specs.Rules.{allowed, forbids}
+use Rattle.work.specs.Fillings.{fillingsFrom}
 
 module _ (k : ℕ) (ticks : List Bool) where
   -- the same ticks of the clocks below k

@@ -21,15 +21,15 @@ use Rattle.tesl.proofs.FormulaLists.{all-append}
 use Rattle.theory.specs.Step.{overlap, linesOk, nextOwed, next, stepOk}
 use Rattle.theory.proofs.Lists.{table-ext}
 use Rattle.theory.proofs.Fill.{settled, fillings-settled, foldl, fillFold-is}
-use Rattle.judge.specs.View.{filledOf, tagsBefore}
-use Rattle.judge.specs.Questions.{tagsHold, ticksHold, carriedHolds}
-use Rattle.judge.specs.Lines.{allStopped}
-use Rattle.judge.specs.Owed.{owing, left}
-use Rattle.judge.specs.Work.{carried, fillFrom}
-use Rattle.judge.proofs.Questions.{lines-ok}
-use Rattle.judge.proofs.lines.Carried.{leads-after, all-as-many, all-stopped}
-use Rattle.judge.proofs.Below.{below-ext}
-use Rattle.judge.proofs.work.PaddedLaws.{Alike, filled-reads, table-reads, fills, foldl-map, all-begun-later, same-overlap, same-lines, same-leads, same-begun, same-stops, same-left, same-late}
+use Rattle.work.specs.View.{filledOf, tagsBefore}
+use Rattle.work.specs.Questions.{tagsHold, ticksHold, carriedHolds}
+use Rattle.work.specs.Lines.{allStopped}
+use Rattle.work.specs.Owed.{owing, left}
+use Rattle.work.specs.Work.{carried, fillFrom}
+use Rattle.work.proofs.Questions.{lines-ok}
+use Rattle.work.proofs.Lines.{leads-after, all-as-many, all-stopped}
+use Rattle.work.proofs.Below.{below-ext}
+use Rattle.work.proofs.PaddedLaws.{Alike, filled-reads, table-reads, fills, foldl-map, all-begun-later, same-overlap, same-lines, same-leads, same-begun, same-stops, same-left, same-late}
 
 abbrev pub padded : Filled → Filled
 padded f = filledOf (filled 8 false (f .ticks)) (filled 8 (pos 0) (f .tags))

@@ -24,8 +24,8 @@ use Rattle.tesl.proofs.FormulaLists.{all-append}
 use Rattle.tesl.proofs.Tests.{T→≡}
 use Rattle.theory.specs.Step.{lineOk, overlap, linesOk, nextLead, nextLeads}
 use Rattle.theory.proofs.Fill.{foldl, fillFold}
-use Rattle.judge.specs.Owed.{left}
-use Rattle.judge.specs.Work.{fillFrom}
+use Rattle.work.specs.Owed.{left}
+use Rattle.work.specs.Work.{fillFrom}
 
 -- ---- places
 

@@ -12,7 +12,7 @@ use Rattle.records.specs.Line.{ofRelation, ofEachPrecedes, ofKills}
 use Rattle.tesl.specs.Run.{tagIn}
 use Rattle.tesl.specs.Fits.{eqZ}
 use Rattle.theory.specs.Step.{bit, nextLead}
-use Rattle.judge.specs.View.{filledOf}
+use Rattle.work.specs.View.{filledOf}
 
 -- clock k of a list of ticks, or of the stopped clocks
 abbrev pub tickIn : List Bool → ℕ → Bool

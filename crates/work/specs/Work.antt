@@ -15,11 +15,11 @@ use Rattle.tesl.specs.Fits.{Obligation, noneFalls, owedFrom}
 use Rattle.tesl.specs.Remainder.{Remainder, sameObligation}
 use Rattle.theory.specs.Adding.{onward, addedTo, allAddedTo, sameByCount}
 use Rattle.theory.specs.Step.{overlap, linesOk, nextLeads}
-use Rattle.judge.specs.Advanced.{Advanced, fails, over, onto}
-use Rattle.judge.specs.View.{filledOf}
-use Rattle.judge.specs.Questions.{tagsHold, ticksHold, carriedHolds, leadAfter}
-use Rattle.judge.specs.Lines.{allStopped}
-use Rattle.judge.specs.Owed.{owing, stillOwed}
+use Rattle.work.specs.Advanced.{Advanced, fails, over, onto}
+use Rattle.work.specs.View.{filledOf}
+use Rattle.work.specs.Questions.{tagsHold, ticksHold, carriedHolds, leadAfter}
+use Rattle.work.specs.Lines.{allStopped}
+use Rattle.work.specs.Owed.{owing, stillOwed}
 
 -- ---- one remainder
 

@@ -18,11 +18,11 @@ use Rattle.theory.proofs.Sets.{filter-once, distinct-set, distinct-apart, lengt
 use Rattle.theory.proofs.Adding.{Tidied, Beyond, Adding, room, full, earlier, added-all}
 use Rattle.theory.proofs.Respect.{sameObligation→eq, owed-equivalence, same-of}
 use Rattle.theory.proofs.Tidy.{owes-more}
-use Rattle.judge.specs.Advanced.{Advanced, fails, over, onto}
-use Rattle.judge.specs.Questions.{carriedHolds}
-use Rattle.judge.specs.Owed.{owing, left, stillOwed}
-use Rattle.judge.specs.Work.{carried, withBegun, withStillOwed, advanced}
-use Rattle.judge.proofs.work.Padded.{padded, goesOn, step-next}
+use Rattle.work.specs.Advanced.{Advanced, fails, over, onto}
+use Rattle.work.specs.Questions.{carriedHolds}
+use Rattle.work.specs.Owed.{owing, left, stillOwed}
+use Rattle.work.specs.Work.{carried, withBegun, withStillOwed, advanced}
+use Rattle.work.proofs.Padded.{padded, goesOn, step-next}
 
 -- ---- a filled instant
 

@@ -26,10 +26,10 @@ use Rattle.theory.proofs.Members.{of-each}
 use Rattle.theory.proofs.Sets.{any-same, again, fresh}
 use Rattle.theory.proofs.Respect.{remainder-equivalence}
 use Rattle.theory.proofs.Held.{successor-found}
-use Rattle.judge.specs.Advanced.{Advanced}
-use Rattle.judge.specs.Work.{sameCounted, inserted, took}
-use Rattle.judge.proofs.work.Counted.{Once, any-counted}
-use Rattle.judge.proofs.work.Advance.{Steps, broken, too-many, goes}
+use Rattle.work.specs.Advanced.{Advanced}
+use Rattle.work.specs.Work.{sameCounted, inserted, took}
+use Rattle.work.proofs.Counted.{Once, any-counted}
+use Rattle.work.proofs.Advance.{Steps, broken, too-many, goes}
 
 -- ---- those found
 

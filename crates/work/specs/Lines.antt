@@ -7,7 +7,7 @@ use lib.ListN.{getD}
 use Rattle.tesl.specs.Lists.{all}
 use Rattle.tesl.specs.Remainder.{Remainder}
 use Rattle.records.specs.declared.line.Line.{Line}
-use Rattle.judge.specs.Questions.{stoppedAfter}
+use Rattle.work.specs.Questions.{stoppedAfter}
 
 -- line i's lead
 abbrev pub leadIn : List ℕ → ℕ → ℕ
