@@ -1,4 +1,4 @@
--- What the contracts of the monitor's functions cite; what `open` and `observe` promise; demands 2 and 3.
+-- What the contracts of the monitor's functions cite; what they promise; demands 2 and 3.
 
 -- ---- to be believed: what the public functions promise, and the demands. Read in this order:
 -- the code's structs as tesl's values
@@ -19,13 +19,22 @@ pub mod Entry
 pub mod Log
 -- demands 2 and 3
 pub mod Demands
--- ---- for inner contracts and proofs only: nothing public cites these
--- what is kept in arrays: words, remainders in rows, the ticks asked about, a line's words, a sheet's lines
+-- ---- to be believed of a monitor in words that a caller lends; the records in Rows and Progress are inner promises
+-- what a word, a row of words and six words are read as: `word`, `rowObligation`, `rowLead`, `rowStop`, `lineOfWords`
 pub mod Word
 pub mod Rows
 pub mod LineWords
+-- the struct that a sheet, what is kept beside it, and rows stand for: `rowsMonitor`
+pub mod Progress
+-- what a whole array of words is read as: `stateMonitor`, `isState`; and the words that nothing uses: `KeepsNothingIn`
+pub mod State
+pub mod UnusedState
+-- the promises of `open_state`, `observe_state`, `last_reply` and `monitor_in`; demands 2 and 3 over words
+pub mod Live
+-- ---- for inner contracts and proofs only: nothing public cites these
+-- a sheet's lines as words
 pub mod Plan
--- an instant: what depends on a filling alone, the rows by a filling and by all of them, the fillings listed; the remainder of no instant; remainders stored in rows and read back; words that no remainder uses, and how they are cleared; and a monitor kept in rows
+-- an instant: what depends on a filling alone, the rows by a filling and by all of them, the fillings listed; the remainder of no instant; remainders stored in rows and read back; words that no remainder uses, and how they are cleared
 pub mod Filling
 pub mod Apply
 pub mod Fill
@@ -33,12 +42,7 @@ pub mod Start
 pub mod Stored
 pub mod UnusedWords
 pub mod Cleared
-pub mod Progress
--- the records of a log
-pub mod Records
--- a whole monitor in one array of words, and the limits of its remainders
-pub mod State
+-- the limits of remainders in rows, and a monitor found in words; the records of a log
 pub mod RowsLimits
-pub mod UnusedState
-pub mod Live
 pub mod Found
+pub mod Records
