@@ -1,6 +1,7 @@
 // States in which a word was made another.
 use crate::listing::late;
 use crate::listing::met;
+use crate::listing::torn;
 use crate::place;
 use crate::row::step;
 use crate::same::compared;
@@ -21,8 +22,12 @@ const FIRST_LINE: usize = 5;
 
 const KIND_IN_LINE: usize = 2;
 
-// Dues beyond both ends, 98,303 and -32,769, in 32 bits of two's complement.
+// Dues at both ends, 98,302 and -32,768, and beyond them, in 32 bits of two's complement.
+const DUE_HIGHEST: u32 = 98302;
+
 const DUE_TOO_HIGH: u32 = 98303;
+
+const DUE_LOWEST: u32 = 4294934528;
 
 const DUE_TOO_LOW: u32 = 4294934527;
 
@@ -112,6 +117,26 @@ pub fn outside() {
     refused(b"a lead of 3", s, place::LEAD, 3);
 }
 
+// What is asked of a state with one word made another.
+fn held(what: &[u8], from: [u32; STATE_WORDS], at: usize, word: u32) {
+    step(what);
+    let state = with_word(from, at, word);
+    last(&state);
+    owing(&state, 1);
+}
+
+pub fn at_limits() {
+    say(b"The same state: a word made another, at its limit\n");
+    let s = two_held();
+    held(b"8 clocks", s, place::CLOCKS, 8);
+    held(b"4,000 instants", s, place::INSTANTS, 4000);
+    held(b"32 live", s, place::LIVE, 32);
+    held(b"8 obligations", s, place::OWED, 8);
+    held(b"a due of 98,302", s, place::DUE, DUE_HIGHEST);
+    held(b"a due of -32,768", s, place::DUE, DUE_LOWEST);
+    held(b"a lead of 2", s, place::LEAD, 2);
+}
+
 // The calls on a state with one word made another, and two instants more.
 fn taken(what: &[u8], from: [u32; STATE_WORDS], at: usize, word: u32) {
     step(what);
@@ -150,4 +175,5 @@ pub fn no_monitor() {
     last(&state);
     owing(&state, 0);
     met(&mut state);
+    torn(&mut state);
 }

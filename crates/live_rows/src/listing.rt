@@ -71,7 +71,7 @@ fn no_bytes(state: &mut [u32; STATE_WORDS]) {
     observe(state, b"observe, no bytes", b"");
 }
 
-fn torn(state: &mut [u32; STATE_WORDS]) {
+pub fn torn(state: &mut [u32; STATE_WORDS]) {
     observe(state, b"observe, three bytes", b"\x06\x00\x20");
 }
 

@@ -17,6 +17,7 @@ fn main() {
     long_delay::unseen_ticks();
     long_delay::restarted();
     altered::outside();
+    altered::at_limits();
     altered::unused();
     altered::no_monitor();
     reopened::all();
