@@ -34,12 +34,6 @@ returns c = simp (lt-leb _ _ (c .if1 .taken))
 loop-holds : tie.Need-loop-holds Inv-loop μ-loop
 loop-holds c = (refl, omega arith, omega arith, refl)
 
-mul-o : tie.Need-mul-o Inv-loop μ-loop
-mul-o c = omega arith
-
-element-copy-out-o : tie.Need-element-copy-out-o Inv-loop μ-loop
-element-copy-out-o c = omega arith
-
 returns-2 : tie.Need-returns-2 Inv-loop μ-loop
 returns-2 c =
     let at = c .before .before .before .before in
@@ -47,12 +41,6 @@ returns-2 c =
     let k = s .args .clock in
     let r = s .args .t1 in
     sym (rw (le-leb _ _ (at .loop .inv .1)) (any-hit obligationOf (r .obligations) (ticks k) blank (r .owed) (at .loop .i) (omega (arith, eight s, at .loop .inv .1)) (omega arith) (eq-eqb _ _ (c .if2 .taken))))
-
-add-i : tie.Need-add-i Inv-loop μ-loop
-add-i c = omega arith
-
-loop-less : tie.Need-loop-less Inv-loop μ-loop
-loop-less c = omega arith
 
 loop-again : tie.Need-loop-again Inv-loop μ-loop
 loop-again c =
@@ -71,16 +59,5 @@ returns-3 c =
 
 pub owes-spec : {M : Type 1} → statement M
 owes-spec =
-    tie.close
-    (tie.spec
-    Inv-loop
-    μ-loop
-    returns
-    loop-holds
-    mul-o
-    element-copy-out-o
-    returns-2
-    add-i
-    loop-less
-    loop-again
-    returns-3)
+    tie.close (tie.spec Inv-loop μ-loop returns loop-holds (λ c. omega arith) (λ c. omega arith) returns-2 (λ c. omega arith) (λ c. omega arith)
+    loop-again returns-3)

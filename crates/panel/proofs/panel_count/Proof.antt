@@ -4,17 +4,8 @@ use Rattle.panel.proofs.Laws.{shows-refused, live-few, shows-none, show
 use Rattle.panel.proofs.panel_count.Statement.{statement}
 use Rattle.panel.proofs.panel_count.Tie as tie
 
-within-limits-requires : tie.Need-within-limits-requires
-within-limits-requires c κs = search needs
-
 returns : tie.Need-returns
 returns c = shows-refused (c .before .before .args .monitor) (c .before .within-limits .ensures) _ (c .if1 .taken)
-
-enum-told : tie.Need-enum-told
-enum-told c = search needs
-
-enum-known-count : tie.Need-enum-known-count
-enum-known-count c = search needs
 
 owing-lent-requires : tie.Need-owing-lent-requires
 owing-lent-requires c κs =
@@ -32,4 +23,5 @@ returns-3 c =
     shows-live (at .before .before .args .monitor) (at .before .within-limits .ensures) (at .if1 .left) _ _ (c .before .before .before .count .given .1) _ (c .owing-lent .ensures)
 
 pub panel-count-spec : {M : Type 1} → statement M
-panel-count-spec = tie.close (tie.spec within-limits-requires returns enum-told enum-known-count owing-lent-requires returns-2 returns-3)
+panel-count-spec =
+    tie.close (tie.spec (λ c κs. search needs) returns (λ c. search needs) (λ c. search needs) owing-lent-requires returns-2 returns-3)

@@ -7,16 +7,11 @@ use Rattle.text.proofs.build.Laws.{one-more}
 use Rattle.text.proofs.build.push.Statement.{statement}
 use Rattle.text.proofs.build.push.Tie as tie
 
-element-write-next : tie.Need-element-write-next
-element-write-next c = search needs
-
-add-next : tie.Need-add-next
-add-next c = search needs
-
 returns : tie.Need-returns
 returns c =
     let l : length (c .args .t .bytes) ≡ 64 = simp length-map at (c .good .0 .1 .1 .1 .0 .1 .0 .1) in
     record { len = refl; text = one-more (c .args .t) (c .args .byte) (omega (arith, l, c .pre)); within = omega arith }
 
 pub push-spec : {M : Type 1} → statement M
-push-spec = tie.close (tie.spec element-write-next add-next returns)
+push-spec =
+    tie.close (tie.spec (λ c. search needs) (λ c. search needs) returns)

@@ -10,46 +10,31 @@ use Rattle.text.proofs.build.Laws.{and-then, alike}
 use Rattle.text.proofs.build.push_cents.Statement.{statement}
 use Rattle.text.proofs.build.push_cents.Tie as tie
 
-push-decimal-requires : tie.Need-push-decimal-requires
-push-decimal-requires c κs = omega arith
+-- ---- all put: the places where the tenths, the point and the whole part were
+module _ (c : tie.After-push2) where
+  abbrev tenths : tie.After-push
+  tenths = c .before .before
 
-slice-aggregate-push-word : tie.Need-slice-aggregate-push-word
-slice-aggregate-push-word c = search needs
+  abbrev point : tie.After-push-word
+  point = tenths .before .before
 
-push-word-requires : tie.Need-push-word-requires
-push-word-requires c κs = omega arith
+  abbrev whole : tie.After-push-decimal
+  whole = point .before .before
 
-digit-of-requires : tie.Need-digit-of-requires
-digit-of-requires c κs = search needs
+  abbrev entry : tie.Start
+  entry = whole .before
 
-push-requires : tie.Need-push-requires
-push-requires c κs = omega arith
-
-digit-of-requires-2 : tie.Need-digit-of-requires-2
-digit-of-requires-2 c κs = search needs
-
-push-requires-2 : tie.Need-push-requires-2
-push-requires-2 c κs = omega arith
-
-made : (c : tie.After-push2) → Adds (c .before .before .before .before .before .before .before .args .t) (cents (c .before .before .before .before .before .before .before .args .n)) (c .push2 .result)
-unfolding cents
-made c =
-    let n = c .before .before .before .before .before .before .before .args .n in
-    alike (and-then (c .before .before .before .before .before .before .push-decimal .ensures .1) (and-then (c .before .before .before .before .push-word .ensures) (and-then (c .before .before .push .ensures) (c .push2 .ensures))))
-    (ap (λ (d : ℕ). decimal (n / 100) ++ (46 ∷ d ∷ c .before .digit-of2 .result ∷ [])) (c .before .before .before .digit-of .ensures) ∙ ap (λ (d : ℕ). decimal (n / 100) ++ (46 ∷ digit (n / 10 % 10) ∷ d ∷ [])) (c .before .digit-of2 .ensures))
+  made : Adds (entry .args .t) (cents (entry .args .n)) (c .push2 .result)
+  unfolding cents
+  made =
+      let n = entry .args .n in
+      alike (and-then (whole .push-decimal .ensures .1) (and-then (point .push-word .ensures) (and-then (tenths .push .ensures) (c .push2 .ensures))))
+      (ap (λ (d : ℕ). decimal (n / 100) ++ (46 ∷ d ∷ c .before .digit-of2 .result ∷ [])) (tenths .before .digit-of .ensures) ∙ ap (λ (d : ℕ). decimal (n / 100) ++ (46 ∷ digit (n / 10 % 10) ∷ d ∷ [])) (c .before .digit-of2 .ensures))
 
 returns : tie.Need-returns
 returns c = (omega (arith, made c .len), made c)
 
 pub push-cents-spec : {M : Type 1} → statement M
 push-cents-spec =
-    tie.close
-    (tie.spec
-    push-decimal-requires
-    slice-aggregate-push-word
-    push-word-requires
-    digit-of-requires
-    push-requires
-    digit-of-requires-2
-    push-requires-2
-    returns)
+    tie.close (tie.spec (λ c κs. omega arith) (λ c. search needs) (λ c κs. omega arith) (λ c κs. search needs) (λ c κs. omega arith)
+    (λ c κs. search needs) (λ c κs. omega arith) returns)

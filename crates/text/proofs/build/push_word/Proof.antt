@@ -18,21 +18,12 @@ abbrev μ-loop : tie.MeasureT-loop
 loop-holds : tie.Need-loop-holds Inv-loop μ-loop
 loop-holds c = (omega arith, nothing _ (omega arith))
 
-shared-slice-read-push : tie.Need-shared-slice-read-push Inv-loop μ-loop
-shared-slice-read-push c = search needs
-
 push-requires : tie.Need-push-requires Inv-loop μ-loop
 push-requires c κs =
     let e = c .before .before .before .before in
     let w = e .args .word .now in
     let i = c .before .before .loop .i in
     omega (arith, e .pre, c .before .before .loop .inv .1 .len, length-take-le i w (omega arith))
-
-add-i : tie.Need-add-i Inv-loop μ-loop
-add-i c = search needs
-
-loop-less : tie.Need-loop-less Inv-loop μ-loop
-loop-less c = search needs
 
 loop-again : tie.Need-loop-again Inv-loop μ-loop
 loop-again c =
@@ -45,5 +36,4 @@ returns c = alike (c .before .loop .inv .1) (take-all (c .before .loop .i) (c .b
 
 pub push-word-spec : {M : Type 1} → statement M
 push-word-spec =
-    tie.close
-    (tie.spec Inv-loop μ-loop loop-holds shared-slice-read-push push-requires add-i loop-less loop-again returns)
+    tie.close (tie.spec Inv-loop μ-loop loop-holds (λ c. search needs) push-requires (λ c. search needs) (λ c. search needs) loop-again returns)
