@@ -1,6 +1,6 @@
-// The monitor for C and Rust: calls over numbers and byte slices, which take every input.
+// The monitor for C and Rust: calls over numbers and byte slices, and calls on a state of words that the caller lends; they take every input, and every array of words.
 // A result of 64 bits, from its lowest byte up: the number of the refusal, or 0; the answer, 1 exhausted, 2 broken, 3 holding, 0 after a refusal;
-// live, 0 unless holding; 1 if clear, else 0; and in the upper 32 bits the count of instants taken.
+// live, 0 unless holding; 1 if clear, else 0; and in the upper 32 bits the count of instants taken, or held in a state.
 mod owing;
 mod pack;
 
@@ -70,7 +70,7 @@ pub extern "C" fn lift_open(sheet: &[u8], state: &mut [u32; STATE_WORDS]) -> u64
     pack_reply(reply, 0)
 }
 
-// Observes an instant with a state. Returns the answer and the count of instants held with this one; or the number of a refusal, 11 where the words are no monitor within its limits, and the count held, and then no word changes.
+// Hands an instant to the monitor in a state. Returns the answer and the count of instants held, with this one; or the number of a refusal and the count held, and then no word changes. Words that are no monitor within its limits get 11 and the count 0, here and below.
 #[no_mangle]
 pub extern "C" fn lift_observe(state: &mut [u32; STATE_WORDS], instant: &[u8]) -> u64
     ensures { λ r. ⌜ LiftObserved (now (instant .entry)) r (now (state .entry)) (now (state .exit)) ⌝ }
@@ -80,7 +80,7 @@ pub extern "C" fn lift_observe(state: &mut [u32; STATE_WORDS], instant: &[u8]) -
     pack_reply(reply, replied.instants)
 }
 
-// Returns 11, or the count of instants held, and in the place of live how many of the live remainders owe the clock a tick: 0 once broken or exhausted. The answer and clear are 0.
+// Returns the count of instants held, and in the place of live how many of the live remainders owe the clock a tick: 0 once broken or exhausted, and for a clock that the sheet doesn't have. The answer and clear are 0.
 #[no_mangle]
 pub extern "C" fn lift_owing(state: &[u32; STATE_WORDS], clock: u8) -> u64
     ensures { λ r. ⌜ r ≡ owingCode clock (now (state .entry)) ⌝ }
@@ -92,7 +92,7 @@ pub extern "C" fn lift_owing(state: &[u32; STATE_WORDS], clock: u8) -> u64
     pack(reply_number(reply), 0, owing, 0, monitor.instants)
 }
 
-// Returns the last answer and the count of instants held; or 11.
+// Returns the last answer and the count of instants held.
 #[no_mangle]
 pub extern "C" fn lift_last(state: &[u32; STATE_WORDS]) -> u64
     ensures { λ r. ⌜ r ≡ lastCode (now (state .entry)) ⌝ }
