@@ -144,7 +144,8 @@ pub fn read(w: &Words) -> Option<Monitor> {
 }
 
 /// Whether every word that a monitor does not use is 0: those of the two sides
-/// beside its remainders, and the tags of clocks that its sheet does not have.
+/// beside its remainders; in the head the tags of clocks that its sheet does
+/// not have, places without a line, live once exhausted, and free words.
 pub fn is_tidy(w: &Words) -> bool {
     let (clocks, lines, side) = (w[1] as usize, w[2] as usize, w[4] as usize);
     let live = if w[5] == 1 { 0 } else { w[6] as usize };
