@@ -13,7 +13,8 @@ use Rattle.tesl.specs.Lists.{filter, flatMap}
 use Rattle.work.specs.Parts.{isRelation, isRule, isDelay, Leading}
 use Rattle.work.specs.Relevant.{namedBy, flagged}
 use Rattle.judge.specs.declared.plan.Plan.{Plan}
-use Rattle.judge.specs.LineWords.{wordsAt, lineOfWords}
+use Rattle.judge.specs.declared.rules.Rule.{Rule}
+use Rattle.judge.specs.LineWords.{lineBy, wordsAt, lineOfWords}
 
 -- ---- lines in words
 
@@ -40,6 +41,13 @@ delaysFrom = 48
 -- the line of row j
 abbrev pub planLine : List ℕ → ℕ → Line
 planLine lines j = lineOfWords (wordsAt lines (lineWidth * j))
+
+-- kind and clocks of the line of row j, whatever its other words are
+pub record RuleWords (lines : List ℕ) (j : ℕ) (r : Rule) : Type 0 where
+  pub d : ℕ
+  pub x : ℕ
+  pub y : ℕ
+  pub line : planLine lines j ≡ lineBy (r .kind) (r .a) (r .b) d x y
 
 -- the lines of n rows from row `from` on
 abbrev pub planLines : List ℕ → ℕ → ℕ → List Line

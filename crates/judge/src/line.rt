@@ -7,11 +7,10 @@ use crate::obligation::Obligation;
 use crate::obligation::due_of;
 use records::line::Line;
 ghost use mathlib.Core.Path.{_≡_};
-ghost use mathlib.Core.Bool.{not, _&&_, _||_};
 ghost use lib.IntN.{_+ℤ_, _*ℤ_};
 ghost use Rattle.tesl.specs.Fits.{eqZ, owedFrom};
 ghost use Rattle.work.specs.View.{filledOf};
-ghost use Rattle.work.specs.Questions.{tagsHold, ticksHold, stoppedAfter};
+ghost use Rattle.work.specs.Questions.{tagsHold, stoppedAfter};
 ghost use Rattle.judge.specs.View.{newObligation};
 
 // What a line begins at an instant.
@@ -40,34 +39,6 @@ pub(crate) fn tags_hold(l: Line, tags: [i16; 8]) -> bool
         Line::Weakly { .. } => true,
         Line::Strictly { .. } => true,
         Line::Kills { .. } => true,
-    }
-}
-
-fn implied(a: bool, b: bool) -> bool
-    ensures { λ r. ⌜ r ≡ (not a || b) ⌝ }
-{
-    if a { b } else { true }
-}
-
-fn not_both(a: bool, b: bool) -> bool
-    ensures { λ r. ⌜ r ≡ not (a && b) ⌝ }
-{
-    if a { !b } else { true }
-}
-
-// What a line asks of the ticks alone: once per filling.
-pub(crate) fn ticks_hold(l: Line, ticks: [bool; 8]) -> bool
-    ensures { λ r. ⌜ r ≡ ticksHold ticks l ⌝ }
-{
-    match l {
-        Line::Implies { a, b } => implied(ticks_at(ticks, a), ticks_at(ticks, b)),
-        Line::Excludes { a, b } => not_both(ticks_at(ticks, a), ticks_at(ticks, b)),
-        Line::Kills { a, b } => not_both(ticks_at(ticks, b), ticks_at(ticks, a)),
-        Line::Sporadic { .. } => true,
-        Line::Relation { .. } => true,
-        Line::Delayed { .. } => true,
-        Line::Weakly { .. } => true,
-        Line::Strictly { .. } => true,
     }
 }
 

@@ -15,7 +15,7 @@ ghost use Rattle.judge.specs.LineWords.{lineOfWords};
 ghost use Rattle.judge.specs.Plan.{planRows, planLine, LineRow, PutPlanLine, PutPart, Preparing, PlanOf};
 
 // Words of a row, six of them used; rows; words in all.
-const LINE_WIDTH: usize = 8;
+pub(crate) const LINE_WIDTH: usize = 8;
 
 const PLAN_ROWS: usize = 64;
 

@@ -1,5 +1,5 @@
 -- `all_hold` meets its contract. The invariant: whether all rules hold is whether those from i on do. Assumes nothing.
-use mathlib.Core.Path.{_≡_}
+use mathlib.Core.Path.{_≡_, sym}
 use Prim.Native.Nat.{_-_, _≤_}
 use native.Mathlib.Nat.{sub-zero}
 use native.Mathlib.Omega.{arith}
@@ -26,13 +26,13 @@ returns : tie.Need-returns Inv-loop μ-loop
 returns c =
     let at = c .before .before .before .before in
     let a = at .before .args in
-    all-no (ticksHold (a .ticks)) (ruleIn (a .lines .now)) (a .n) (at .loop .i) (at .loop .inv .1) (omega arith) _ (c .before .before .plan-line .ensures) _ (c .before .ticks-hold .ensures) (not-true _ (c .if1 .taken))
+    all-no (ticksHold (a .ticks)) (ruleIn (a .lines .now)) (a .n) (at .loop .i) (at .loop .inv .1) (omega arith) _ (sym (c .before .before .rule-in .ensures .line)) _ (c .before .holds .ensures _ _ _) (not-true _ (c .if1 .taken))
 
 loop-again : tie.Need-loop-again Inv-loop μ-loop
 loop-again c =
     let at = c .before .before .before .before in
     let a = at .before .args in
-    (omega arith, all-more (ticksHold (a .ticks)) (ruleIn (a .lines .now)) (a .n) (at .loop .i) (at .loop .inv .1) (omega arith) _ (c .before .before .plan-line .ensures) _ (c .before .ticks-hold .ensures) (not-false _ (c .if1 .left)))
+    (omega arith, all-more (ticksHold (a .ticks)) (ruleIn (a .lines .now)) (a .n) (at .loop .i) (at .loop .inv .1) (omega arith) _ (sym (c .before .before .rule-in .ensures .line)) _ (c .before .holds .ensures _ _ _) (not-false _ (c .if1 .left)))
 
 pub all-hold-spec : {M : Type 1} → statement M
 all-hold-spec =

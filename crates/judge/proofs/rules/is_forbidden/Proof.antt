@@ -1,5 +1,5 @@
--- `is_forbidden` meets its contract. The invariant: whether some rule cuts is whether one from i on does. Assumes nothing.
-use mathlib.Core.Path.{_≡_}
+-- `is_forbidden` meets its contract. The invariant: whether some rule forbids is whether one from i on does. Assumes nothing.
+use mathlib.Core.Path.{_≡_, sym}
 use Prim.Native.Nat.{_-_, _≤_}
 use native.Mathlib.Nat.{sub-zero}
 use native.Mathlib.Omega.{arith}
@@ -8,7 +8,7 @@ use Rattle.tesl.specs.Lists.{any}
 use Rattle.work.specs.Rules.{forbids}
 use Rattle.judge.specs.Plan.{planLines, rulesFrom}
 use Rattle.judge.proofs.lines.Laws.{anyFrom, any-end, any-yes, any-more}
-use Rattle.judge.proofs.rules.Laws.{ruleIn, unsettled, forbids-as}
+use Rattle.judge.proofs.rules.Laws.{ruleIn, ruleLine, unsettled, forbids-as}
 use Rattle.judge.proofs.rules.is_forbidden.Statement.{statement}
 use Rattle.judge.proofs.rules.is_forbidden.Tie as tie
 
@@ -26,24 +26,27 @@ loop-again c =
     let s = c .before in
     let at = s .before .before .before in
     let a = at .before .args in
-    let l = s .before .plan-line in
-    (omega arith, any-more (forbids (a .k) (a .ticks)) (ruleIn (a .lines .now)) (a .n) (at .loop .i) (at .loop .inv .1) (omega arith) (l .result) (l .ensures) (unsettled (a .k) (a .ticks) (l .result) (s .is-settled .ensures) (c .if1 .taken)))
+    let r = s .before .rule-in .ensures in
+    let l = ruleLine (s .before .rule-in .result) r in
+    (omega arith, any-more (forbids (a .k) (a .ticks)) (ruleIn (a .lines .now)) (a .n) (at .loop .i) (at .loop .inv .1) (omega arith) l (sym (r .line)) (unsettled (a .k) (a .ticks) l (s .is-settled .ensures (r .d) (r .x) (r .y)) (c .if1 .taken)))
 
 returns : tie.Need-returns Inv-loop μ-loop
 returns c =
     let s = c .before .before .before in
     let at = s .before .before .before in
     let a = at .before .args in
-    let l = s .before .plan-line in
-    any-yes (forbids (a .k) (a .ticks)) (ruleIn (a .lines .now)) (a .n) (at .loop .i) (at .loop .inv .1) (omega arith) (l .result) (l .ensures) (forbids-as (a .k) (a .ticks) (l .result) (s .is-settled .ensures) (c .before .ticks-hold .ensures) (c .before .before .if1 .left) (c .if2 .taken))
+    let r = s .before .rule-in .ensures in
+    let l = ruleLine (s .before .rule-in .result) r in
+    any-yes (forbids (a .k) (a .ticks)) (ruleIn (a .lines .now)) (a .n) (at .loop .i) (at .loop .inv .1) (omega arith) l (sym (r .line)) (forbids-as (a .k) (a .ticks) l (s .is-settled .ensures (r .d) (r .x) (r .y)) (c .before .holds .ensures (r .d) (r .x) (r .y)) (c .before .before .if1 .left) (c .if2 .taken))
 
 loop-again-2 : tie.Need-loop-again-2 Inv-loop μ-loop
 loop-again-2 c =
     let s = c .before .before .before in
     let at = s .before .before .before in
     let a = at .before .args in
-    let l = s .before .plan-line in
-    (omega arith, any-more (forbids (a .k) (a .ticks)) (ruleIn (a .lines .now)) (a .n) (at .loop .i) (at .loop .inv .1) (omega arith) (l .result) (l .ensures) (forbids-as (a .k) (a .ticks) (l .result) (s .is-settled .ensures) (c .before .ticks-hold .ensures) (c .before .before .if1 .left) (c .if2 .left)))
+    let r = s .before .rule-in .ensures in
+    let l = ruleLine (s .before .rule-in .result) r in
+    (omega arith, any-more (forbids (a .k) (a .ticks)) (ruleIn (a .lines .now)) (a .n) (at .loop .i) (at .loop .inv .1) (omega arith) l (sym (r .line)) (forbids-as (a .k) (a .ticks) l (s .is-settled .ensures (r .d) (r .x) (r .y)) (c .before .holds .ensures (r .d) (r .x) (r .y)) (c .before .before .if1 .left) (c .if2 .left)))
 
 pub is-forbidden-spec : {M : Type 1} → statement M
 is-forbidden-spec =
