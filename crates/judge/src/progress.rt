@@ -1,4 +1,4 @@
-// An instant taken by a monitor whose remainders stand in rows: for `observe`, and for the loop over a log, where they stay there from one instant to the next.
+// An instant taken by a monitor whose remainders stand in rows: for `observe`, for the loop over a log, where they stay there from one instant to the next, and for a state of words, where they stay from one call to the next.
 use crate::answer::Reply;
 use crate::answer::say_rows;
 use crate::fill::Before;
@@ -20,11 +20,15 @@ ghost use Prim.Native.Nat.{_<_};
 ghost use Rattle.judge.specs.Fill.{Working};
 ghost use Rattle.judge.specs.Progress.{progressOf, firstProgress, Works, Takes};
 
-// A monitor beside its sheet and its rows: the number of instants and the last tags, how many are held and the first of their rows.
+// A monitor beside its sheet and its rows.
 pub struct Progress {
+    // The number of instants.
     pub instants: usize,
+    // The last tags.
     pub tags: [i16; 8],
+    // How many remainders are held.
     pub count: Status,
+    // The first of their rows.
     pub from: usize,
 }
 
