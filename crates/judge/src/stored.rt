@@ -20,8 +20,8 @@ use crate::rows::word_at;
 use crate::word::count_word;
 use crate::word::flag_in;
 use crate::word::flag_word;
-use crate::word::lead_in;
 use crate::word::lead_word;
+use crate::word::number_in;
 use records::sheet::Sheet;
 ghost use mathlib.Core.Path.{_≡_};
 ghost use mathlib.Core.Bool.{cond};
@@ -85,7 +85,7 @@ fn put_remainder(rows: &mut [u32; SIZE], i: usize, r: Remainder)
 fn lead_used(used: bool, w: u32) -> u16
     ensures { λ r. ⌜ r ≡ cond used (w % 65536) 0 ⌝ }
 {
-    if used { lead_in(w) } else { 0 }
+    if used { number_in(w) } else { 0 }
 }
 
 // The leads of row i that precedes lines have: before `leaders`, where there is a flag.

@@ -55,12 +55,6 @@ pub(crate) fn number_in(w: u32) -> u16
     (w % 65536) as u16
 }
 
-pub(crate) fn lead_in(w: u32) -> u16
-    ensures { λ r. ⌜ r ≡ w % 65536 ⌝ }
-{
-    (w % 65536) as u16
-}
-
 pub(crate) fn lead_word(x: u16) -> u32
     ensures { λ r. ⌜ r ≡ x ⌝ }
 {
