@@ -1,9 +1,11 @@
 /*
  * The lift-run monitor: the calls of the static library `gateway`.
  *
- * Sheets, logs, instants and refusal numbers are document 01's. There are two
- * ways to use it: live, instant by instant, with a state that the caller
- * lends, and over a whole log. Every call takes every input.
+ * Sheets, logs, instants and refusal numbers are document 01's; the lines of
+ * a sheet stand in the rising order of document 02 (17), in which the program
+ * sort writes them. There are two ways to use it: live, instant by instant,
+ * with a state that the caller lends, and over a whole log. Every call takes
+ * every input.
  *
  * The library keeps nothing between calls, takes no heap and writes nowhere
  * but into the state or the buffer that it is lent. Of stack, lift_observe
@@ -84,8 +86,8 @@ typedef struct {
  * Opens a sheet: the state becomes its monitor, whatever it was before. The
  * answer is that for no instant, lift_count 0.
  *
- * Refused is a sheet (1 to 9): every other bit is 0, and no word of the state
- * changes. A state that held a monitor still holds it.
+ * Refused is a sheet (1 to 9, 17): every other bit is 0, and no word of the
+ * state changes. A state that held a monitor still holds it.
  */
 uint64_t lift_open(const uint8_t *sheet, size_t sheet_len, lift_state *state);
 
@@ -126,7 +128,7 @@ uint64_t lift_owing(const lift_state *state, uint8_t clock);
 /*
  * Judges a sheet and a whole log: the last answer, and the instants taken.
  * For an empty log the answer is that of opening the sheet. Refused are a
- * sheet (1 to 9, no instant taken) and a record of the log (12 to 16, the
+ * sheet (1 to 9, 17, no instant taken) and a record of the log (12 to 16, the
  * instants before it taken); the earliest fault decides.
  */
 uint64_t lift_judge(const uint8_t *sheet, size_t sheet_len,
@@ -159,7 +161,7 @@ uint64_t lift_panel(const uint8_t *sheet, size_t sheet_len,
 
 /* ---- Records alone. */
 
-/* The refusal number of a sheet, 1 to 9; 0: it is taken. */
+/* The refusal number of a sheet, 1 to 9 or 17; 0: it is taken. */
 uint8_t lift_sheet_number(const uint8_t *sheet, size_t sheet_len);
 
 /*

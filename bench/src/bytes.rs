@@ -50,6 +50,12 @@ pub fn kills(a: u8, b: u8) -> Vec<u8> {
     record(23, &[a, b])
 }
 
+/// Puts lines in the order of a sheet: rising by kind, then by the bytes of
+/// the body.
+pub fn sort_lines(lines: &mut [Vec<u8>]) {
+    lines.sort_by(|a, b| (a[3], a[2], &a[4..]).cmp(&(b[3], b[2], &b[4..])));
+}
+
 pub const IDLE: u8 = 0;
 pub const TICK: u8 = 1;
 pub const UNSEEN: u8 = 2;

@@ -30,9 +30,10 @@ fn case(
     about: &'static str,
     timed: usize,
     clocks_count: u8,
-    lines: &[Vec<u8>],
+    mut lines: Vec<Vec<u8>>,
     cells: impl FnMut(usize) -> Vec<(u8, i16)>,
 ) -> Case {
+    sort_lines(&mut lines);
     let mut sheet = clocks(clocks_count);
     sheet.extend(lines.concat());
     let log = (0..INSTANTS)
@@ -105,7 +106,7 @@ fn owed() -> Case {
         "3 sporadic, 13 delay lines, up to 8 owed",
         100,
         8,
-        &lines,
+        lines,
         five_stay,
     )
 }
@@ -117,7 +118,7 @@ fn delays() -> Case {
         "16 delay lines, up to 5 owed",
         100,
         8,
-        &lines,
+        lines,
         five_stay,
     )
 }
@@ -131,7 +132,7 @@ fn meeting() -> Case {
         "3 delay lines, obligations met or late at every instant",
         200,
         8,
-        &lines,
+        lines,
         |n| all_unseen(n as i16),
     )
 }
@@ -157,7 +158,7 @@ fn precedes() -> Case {
         "16 precedes lines, 6 clocks unseen",
         400,
         8,
-        &lines,
+        lines,
         |n| {
             let tag = n as i16;
             let ahead = if n % 2 == 0 { TICK } else { IDLE };
@@ -172,13 +173,13 @@ fn precedes() -> Case {
 /// The stopped clocks are any of clocks 1 to 5: 32 live.
 fn kill_chain() -> Case {
     let lines: Vec<_> = (0..5).map(|i| kills(i, i + 1)).collect();
-    case("kills", "a chain of 5 kills lines", 400, 8, &lines, |n| {
+    case("kills", "a chain of 5 kills lines", 400, 8, lines, |n| {
         all_unseen(n as i16)
     })
 }
 
 fn no_lines() -> Case {
-    case("none", "no line", 400, 8, &[], |n| all_unseen(n as i16))
+    case("none", "no line", 400, 8, vec![], |n| all_unseen(n as i16))
 }
 
 /// Nine fillings fit.
@@ -189,7 +190,7 @@ fn imply_chain() -> Case {
         "a chain of 7 implies lines",
         400,
         8,
-        &lines,
+        lines,
         |n| all_unseen(n as i16),
     )
 }
@@ -198,7 +199,7 @@ fn imply_chain() -> Case {
 /// instants later; clock 3 would stop clock 0 and never ticks. One tick byte
 /// in fifty is unseen.
 fn typical() -> Case {
-    let lines = [
+    let lines = vec![
         relation(1, 2, 0, 0),
         implies(0, 1),
         delayed(0, 16, 0, 2),
@@ -213,7 +214,7 @@ fn typical() -> Case {
         "4 clocks, 7 lines, 2 % unseen",
         INSTANTS,
         4,
-        &lines,
+        lines,
         |n| {
             let tag = 8 * (n as i16 - 2000);
             let ticks = [n % 4 == 0, n % 4 == 0 || n % 7 == 0, n % 4 == 2, false];

@@ -143,12 +143,18 @@ fn read_sheet(bytes: &[u8]) -> Result<Sheet, u8> {
     };
     let mut at = HEAD + 1;
     let mut lines = 0;
+    // Kind and body of the line before; the first line is above kind 0.
+    let mut before: (u16, &[u8]) = (0, &[]);
     while at < bytes.len() {
         let (kind, body) = record(&bytes[at..]).ok_or(1)?;
         if lines == MAX_LINES {
             return Err(8);
         }
         read_line(&mut sheet, kind, body)?;
+        if (kind, body) <= before {
+            return Err(17);
+        }
+        before = (kind, body);
         lines += 1;
         at += HEAD + body.len();
     }

@@ -59,6 +59,8 @@ fn line(r: &mut Xorshift, clocks: u8) -> Line {
     }
 }
 
+/// Lines in rising order, each once; with few clocks they may be fewer than
+/// the count.
 fn lines(r: &mut Xorshift, clocks: u8) -> Vec<Line> {
     let count = match r.below(20) {
         0 => 0,
@@ -69,22 +71,31 @@ fn lines(r: &mut Xorshift, clocks: u8) -> Vec<Line> {
     };
     let sporadic_only = r.once_in(40);
     let mut lines: Vec<Line> = Vec::new();
-    for _ in 0..count {
+    let mut tries = 4 * count;
+    while lines.len() < count as usize && tries > 0 {
+        tries -= 1;
         let l = if sporadic_only {
             let (a, b) = (r.below(clocks as u64) as u8, r.below(clocks as u64) as u8);
             sporadic(a, small(r, 0, 20), b)
         } else if !lines.is_empty() && r.once_in(6) {
-            // One that was there, or one that differs from it in its on-clock alone.
-            let mut again = lines[r.below(lines.len() as u64) as usize].clone();
-            if r.once_in(2) {
-                again[5] = r.below(clocks as u64) as u8;
+            // One that differs from another in its on-clock alone, or in one
+            // byte of its last number.
+            let mut near = lines[r.below(lines.len() as u64) as usize].clone();
+            let last = near.len() - 1;
+            if last > 5 && r.once_in(2) {
+                near[last - r.below(2) as usize] ^= 1;
+            } else {
+                near[5] = r.below(clocks as u64) as u8;
             }
-            again
+            near
         } else {
             line(r, clocks)
         };
-        lines.push(l);
+        if !lines.contains(&l) {
+            lines.push(l);
+        }
     }
+    sort_lines(&mut lines);
     lines
 }
 
@@ -110,7 +121,33 @@ fn heavy_lines(r: &mut Xorshift, clocks: u8) -> Vec<Line> {
             _ => delayed(a, 3 + r.below(5) as u16, b, d),
         });
     }
+    sort_lines(&mut lines);
+    lines.dedup();
     lines
+}
+
+/// Lines that do not rise: one that comes twice, two that change places, or
+/// any order. Often it is the ninth line or the seventeenth that is not above
+/// the one before: there 9 or 8 comes first.
+fn disorder(r: &mut Xorshift, lines: &mut Vec<Line>) {
+    let count = lines.len();
+    if count == 0 {
+        return;
+    }
+    let any = 1 + r.below(count as u64) as usize;
+    let at = r.pick(&[any, any, 8, 16]).min(count);
+    match r.below(3) {
+        0 if count > 1 => {
+            let at = at.min(count - 1);
+            lines.swap(at - 1, at);
+        }
+        1 if count > 1 => {
+            for i in 1..count {
+                lines.swap(i, r.below(i as u64 + 1) as usize);
+            }
+        }
+        _ => lines.insert(at, lines[at - 1].clone()),
+    }
 }
 
 /// Tags that stay or rise, seldom fall; obeyed, relations decide theirs.
@@ -175,11 +212,14 @@ pub fn input(r: &mut Xorshift) -> Input {
     } else {
         1 + r.below(4) as u8
     };
-    let lines = if heavy {
+    let mut lines = if heavy {
         heavy_lines(r, clocks)
     } else {
         lines(r, clocks)
     };
+    if r.once_in(12) {
+        disorder(r, &mut lines);
+    }
     let mut v = Input {
         clocks,
         lines,
@@ -350,7 +390,7 @@ pub fn damage_head(r: &mut Xorshift, sheet: &mut Vec<u8>) {
 /// How often each outcome of a call was seen.
 #[derive(Default)]
 pub struct Seen {
-    pub numbers: [u64; 17],
+    pub numbers: [u64; 18],
     exhausted: u64,
     broken: u64,
     clear: u64,
@@ -390,7 +430,7 @@ impl Seen {
 
     pub fn print(&self, call: &str, taken: &str) {
         println!("{call}: {taken}");
-        let refused: Vec<String> = (1..17)
+        let refused: Vec<String> = (1..self.numbers.len())
             .filter(|&n| self.numbers[n] > 0)
             .map(|n| format!("{n}: {}", self.numbers[n]))
             .collect();

@@ -27,6 +27,7 @@ const STOPPED: usize = 41;
 /// A monitor within its limits.
 pub struct Monitor {
     pub clocks: usize,
+    /// Its lines as they stand in the words, which may be any order.
     pub sheet: Vec<u8>,
     pub instants: u32,
     pub tags: [i16; 8],

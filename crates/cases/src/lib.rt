@@ -1,10 +1,12 @@
-// Made cases for tests, of a fixed sequence: a sheet, its instants, and damaged records between them.
+// Made cases for tests, of a fixed sequence: a sheet, its instants, damaged records between them, and the sheet with its lines out of order.
 pub mod course;
 pub mod damage;
+pub mod disorder;
 mod families;
 mod generic;
 pub mod made;
 pub mod plan;
 pub mod random;
 pub mod tally;
+pub mod tape;
 mod wide;

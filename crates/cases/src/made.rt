@@ -4,6 +4,8 @@ use crate::generic;
 use crate::plan::Plan;
 use crate::random::below;
 use crate::wide;
+use records::record::Decision;
+use records::sort::sorted_sheet;
 ghost use Prim.Native.Nat.{_≤_};
 
 // At most four clocks; more than half are of every kind of line.
@@ -32,11 +34,27 @@ fn wide(number: u64, d: [u64; 48]) -> Plan {
     }
 }
 
+// A plan with its sheet's lines in rising order, repeats dropped; a sheet outside its limits stays as it is.
+fn sorted(plan: Plan) -> Plan {
+    let sheet = plan.sheet;
+    let read = sorted_sheet(sheet);
+    let answer = read.answer;
+    let rising = read.sheet;
+    match answer {
+        Decision::Refused(_) => plan,
+        Decision::Done => {
+            let mut next = plan;
+            next.sheet = rising;
+            next
+        }
+    }
+}
+
 pub fn plan_of(is_wide: bool, number: u64, d: [u64; 48]) -> Plan {
     if is_wide {
-        return wide(number, d);
+        return sorted(wide(number, d));
     }
-    narrow(number, d)
+    sorted(narrow(number, d))
 }
 
 // How many instants, at most 16.

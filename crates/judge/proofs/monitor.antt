@@ -1,4 +1,3 @@
-pub mod Bytes
 pub mod Limits
 pub mod Opened
 pub mod Observed

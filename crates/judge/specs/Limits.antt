@@ -7,6 +7,7 @@ use lib.Dec.{leb, ltb}
 use lib.IntN.{pos, negsuc}
 use lib.ListN.{take}
 use lib.Signed.{leZ}
+use Rattle.records.specs.declared.order.Order.the-variants.{Any}
 use Rattle.records.specs.Outcome.{Outcome, taken, refused, decide}
 use Rattle.records.specs.Sheet.{SheetValue, sheetValue, sheetValueChecks}
 use Rattle.records.specs.Types.{IsSheet}
@@ -22,9 +23,9 @@ abbrev pub isTaken : {A : Type 0} → Outcome A → Bool
 isTaken (taken x) = true
 isTaken (refused n) = false
 
--- a sheet value within its own: 4, 8, 7 and 9 don't apply
+-- a sheet value within its own, its lines in any order: 4, 8, 7 and 9 don't apply
 unfoldable pub sheetWithin : SheetValue → Bool
-sheetWithin v = isTaken (decide (sheetValueChecks v) v)
+sheetWithin v = isTaken (decide (sheetValueChecks Any v) v)
 
 -- clocks below C, dues −32,768 to 98,302
 unfoldable pub obligationWithin : ℕ → Obligation → Bool

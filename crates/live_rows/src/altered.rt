@@ -12,15 +12,17 @@ use gateway::lift_observe;
 use gateway::lift_open;
 use judge::live::STATE_WORDS;
 
-// The bytes of a sheet of sixteen lines, each 0 implies 0.
-const SIXTEEN_LINES: usize = 101;
+// The bytes of a sheet of sixteen lines: 0 delayed by 0 to 15 on 0 implies 0.
+const SIXTEEN_LINES: usize = 149;
 
-// A line's record, where the first begins, and where its kind stands in it.
-const LINE: usize = 6;
+// A line's record, where the first begins, and where its kind and its delay stand in it.
+const LINE: usize = 9;
 
 const FIRST_LINE: usize = 5;
 
 const KIND_IN_LINE: usize = 2;
+
+const DELAY_IN_LINE: usize = 7;
 
 // Dues at both ends, 98,302 and -32,768, and beyond them, in 32 bits of two's complement.
 const DUE_HIGHEST: u32 = 98302;
@@ -50,8 +52,9 @@ fn sixteen_lines() -> [u8; SIXTEEN_LINES] {
     bytes[4] = 2;
     let mut k = 0;
     while k < 16 {
-        bytes[FIRST_LINE + LINE * k] = 2;
-        bytes[FIRST_LINE + KIND_IN_LINE + LINE * k] = 18;
+        bytes[FIRST_LINE + LINE * k] = 5;
+        bytes[FIRST_LINE + KIND_IN_LINE + LINE * k] = 20;
+        bytes[FIRST_LINE + DELAY_IN_LINE + LINE * k] = k as u8;
         k += 1;
     }
     bytes

@@ -1,9 +1,11 @@
 // A sheet's bytes, damaged, and the number that refuses them.
-use crate::tape::Tape;
-use crate::tape::cut;
-use crate::tape::with_byte;
-use crate::tape::with_record;
 use cases::damage::Record;
+use cases::disorder::out_of_order;
+use cases::tape::Tape;
+use cases::tape::cut;
+use cases::tape::with_byte;
+use cases::tape::with_record;
+use records::sheet::Sheet;
 
 pub struct Faulty {
     pub tape: Tape,
@@ -28,15 +30,54 @@ fn line(kind: u8, len: u8, b: u8) -> Record {
     }
 }
 
-// With so many records more.
-fn repeated(t: Tape, r: Record, times: usize) -> Tape {
+// A record with another last byte.
+fn ending(r: Record, x: u8) -> Record {
+    let len = r.len;
+    let mut bytes = r.bytes;
+    if len == 0 {
+        return r;
+    }
+    if 40 < len {
+        return r;
+    }
+    bytes[len - 1] = x;
+    Record {
+        bytes,
+        len,
+        refusal: 0,
+    }
+}
+
+// With so many records more, their last bytes 0, 1, 2 and so on.
+fn with_rising(t: Tape, r: Record, times: u8) -> Tape {
     let mut all = t;
     let mut i = 0;
     while i < times {
-        all = with_record(all, r);
+        all = with_record(all, ending(r, i));
         i += 1;
     }
     all
+}
+
+// Relation lines alone, in rising order.
+fn relations(t: Tape, times: u8) -> Tape {
+    with_rising(cut(t, 5), line(17, 6, 0), times)
+}
+
+// Sporadic lines alone, in rising order.
+fn sporadics(t: Tape, times: u8) -> Tape {
+    with_rising(cut(t, 5), line(16, 4, 0), times)
+}
+
+// The lines of a sheet out of order; of a sheet with none, a line put there twice.
+fn disordered(t: Tape, s: Sheet, moves: bool, i: usize) -> Faulty {
+    if s.count == 0 {
+        let r = line(18, 2, 0);
+        return fault(with_record(with_record(t, r), r), 17);
+    }
+    let x = out_of_order(s, moves, i);
+    let tape = x.tape;
+    fault(tape, x.refusal)
 }
 
 // All but the last byte.
@@ -48,8 +89,8 @@ fn torn(t: Tape) -> Tape {
     cut(t, n - 1)
 }
 
-// One of eleven ways, of a sheet with fewer than 16 lines.
-pub fn faulty_sheet(t: Tape, clocks: u8, how: u64) -> Faulty {
+// One of fifteen ways, of a sheet with fewer than 16 lines; i is the place of one of them.
+pub fn faulty_sheet(t: Tape, s: Sheet, how: u64, i: usize) -> Faulty {
     match how {
         0 => fault(torn(t), 1),
         1 => fault(cut(t, 0), 1),
@@ -59,8 +100,12 @@ pub fn faulty_sheet(t: Tape, clocks: u8, how: u64) -> Faulty {
         5 => fault(with_byte(t, 4, 9), 4),
         6 => fault(with_record(t, line(24, 2, 0)), 5),
         7 => fault(with_record(t, line(18, 3, 0)), 6),
-        8 => fault(with_record(t, line(18, 2, clocks)), 7),
-        9 => fault(repeated(cut(t, 5), line(18, 2, 0), 17), 8),
-        _ => fault(repeated(cut(t, 5), line(16, 4, 0), 9), 9),
+        8 => fault(with_record(t, line(18, 2, s.clocks)), 7),
+        9 => fault(relations(t, 17), 8),
+        10 => fault(sporadics(t, 9), 9),
+        11 => fault(with_record(relations(t, 16), ending(line(17, 6, 0), 15)), 8),
+        12 => fault(with_record(sporadics(t, 8), ending(line(16, 4, 0), 7)), 9),
+        13 => disordered(t, s, false, i),
+        _ => disordered(t, s, true, i),
     }
 }

@@ -7,11 +7,6 @@ use crate::due::beginning;
 use crate::due::entries_of;
 use crate::faulty::faulty_sheet;
 use crate::tally;
-use crate::tape::Tape;
-use crate::tape::front;
-use crate::tape::no_bytes;
-use crate::tape::sheet_tape;
-use crate::tape::with_record;
 use cases::course;
 use cases::course::idle_instant;
 use cases::damage::Record;
@@ -23,6 +18,11 @@ use cases::plan::Plan;
 use cases::random::below;
 use cases::random::draw;
 use cases::tally::count;
+use cases::tape::Tape;
+use cases::tape::front;
+use cases::tape::no_bytes;
+use cases::tape::sheet_tape;
+use cases::tape::with_record;
 use filler::run::Run;
 use filler::run::no_instants;
 use filler::run::with_instant;
@@ -159,15 +159,16 @@ fn sheet_number(tape: Tape, wanted: u8, t: [u64; 40]) -> [u64; 40] {
     held(n == wanted, with_number(n, t), tally::SHEET_NUMBER)
 }
 
-// The sheet as it is, then damaged, with a log of the first n instants.
-fn damaged_sheet(c: Made, n: usize, how: u64, t: [u64; 40]) -> [u64; 40] {
+// The sheet as it is, then damaged in one of 15 ways, with a log of the first n instants.
+fn damaged_sheet(c: Made, n: usize, d: [u64; 48], t: [u64; 40]) -> [u64; 40] {
     let sheet = c.sheet;
     let clocks = sheet.clocks;
     let run = c.run;
     let entries = c.entries;
     let tape = c.tape;
     let t = sheet_number(tape, 0, t);
-    let f = faulty_sheet(tape, clocks, how);
+    let i = below(d, 3, sheet.count as u64) as usize;
+    let f = faulty_sheet(tape, sheet, below(d, 2, 15), i);
     let bad = f.tape;
     let t = sheet_number(bad, f.number, t);
     let log = with_records(no_bytes(), clocks, run, 0, n);
@@ -200,7 +201,7 @@ fn tried(c: Made, d: [u64; 48], t: [u64; 40]) -> [u64; 40] {
     let t = taken(c, all, t);
     let t = taken(c, n, t);
     let t = damaged_log(c, n, how, t);
-    let t = damaged_sheet(c, n, below(d, 2, 11), t);
+    let t = damaged_sheet(c, n, d, t);
     instant_numbers(instant_at(run, n), sheet.clocks, how, t)
 }
 

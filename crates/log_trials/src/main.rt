@@ -5,7 +5,6 @@ mod faulty;
 mod made;
 mod report;
 mod tally;
-mod tape;
 mod text;
 
 fn main() {

@@ -42,7 +42,7 @@ fn answers(t: [u64; 40]) {
 // A row for each number; 11 and 16 are beyond these logs.
 fn numbers(t: [u64; 40]) {
     let mut n = 1;
-    while n < 17 {
+    while n < 18 {
         say(b"  ");
         number(n as u64);
         say(b": ");

@@ -8,10 +8,7 @@ ghost use Rattle.io.specs.Counts.{Counts};
 const LONGEST_RECORD: usize = number::HEAD_LENGTH + 65535;
 
 // How much of a sheet file is read: the clocks, 16 of the longest lines and one record more, which is refused whatever it is. So no byte beyond can change what is printed.
-pub(crate) const SHEET_ROOM: usize = number::HEAD_LENGTH
-    + number::CLOCKS_BODY
-    + number::MAX_LINES * (number::HEAD_LENGTH + number::RELATION_BODY)
-    + LONGEST_RECORD;
+pub(crate) const SHEET_ROOM: usize = number::MAX_SHEET + LONGEST_RECORD;
 
 // How much of a log file is read: 4,000 instants of eight clocks and one record more, which is refused whatever it is.
 pub(crate) const LOG_ROOM: usize = number::MAX_INSTANTS

@@ -1,4 +1,5 @@
 pub mod Front
+pub mod Passed
 pub mod Pieces
 pub mod Reading
 pub mod RoundTrip

@@ -1,12 +1,13 @@
 -- What contracts cite beside the definitions above: the same outcomes in the functions' own types.
-use Prim.Native.Nat.{ℕ, _+_}
+use Prim.Native.Nat.{ℕ, _+_, _≤_, _<_}
 use mathlib.Core.Path.{_≡_}
-use mathlib.Core.Bool.{cond}
+use mathlib.Core.Bool.{Bool, true, false, cond}
 use mathlib.Core.List.{List, [], _∷_, map}
 use lib.ListN.{length, set}
 use lib.IntN.{ℤ}
 use Rattle.records.specs.declared.instant.Tick.{Tick}
 use Rattle.records.specs.declared.instant.Instant.{Instant}
+use Rattle.records.specs.declared.order.Order.{Order}
 use Rattle.records.specs.declared.sheet.Sheet.{Sheet}
 use Rattle.records.specs.declared.line.Line.{Line}
 use Rattle.records.specs.declared.line.Shape.{Shape}
@@ -17,8 +18,10 @@ use Rattle.records.specs.declared.record.Decision.the-variants.{Done, Re
 use Rattle.records.specs.Outcome.{Outcome, taken, refused, _⇒_, decide}
 use Rattle.records.specs.Record.{Piece}
 use Rattle.records.specs.Line.{isLine, isSporadic, lengthOf, clocksOf}
-use Rattle.records.specs.Sheet.{SheetValue, lineIn, slotOf, sheetValue, linesChecks, valueLinesChecks, sheetValueChecks}
+use Rattle.records.specs.Order.{above, keyOf, aboveLast}
+use Rattle.records.specs.Sheet.{SheetValue, lineIn, slotOf, lineAt, sheetValue, sheetOf, linesChecks, valueLinesChecks, sheetValueChecks}
 use Rattle.records.specs.Instant.{Cell, rawCells, tickAbove, cellOf, tickSlot}
+use Rattle.records.specs.Sort.{Sorted}
 use Rattle.records.specs.Types.{All, IsLineValue, IsSheet}
 
 -- what the table of kinds says
@@ -39,23 +42,23 @@ answered (taken v) = Done
 answered (refused n) = Refused n
 
 -- the sheet of c clocks whose lines are these records, or the first refusal among them
-unfoldable pub sheetFrom : ℕ → List Piece → Outcome SheetValue
-sheetFrom c lines = decide (linesChecks c [] lines) (record { clocks = c; lines = map lineIn lines })
+unfoldable pub sheetFrom : Order → ℕ → ℕ → List Piece → Outcome SheetValue
+sheetFrom order last c lines = decide (linesChecks order last c [] lines) (record { clocks = c; lines = map lineIn lines })
 
 -- the first refusal among a value's lines
-unfoldable pub linesFault : SheetValue → Outcome SheetValue
-linesFault v = decide (valueLinesChecks (v .clocks) [] (v .lines)) v
+unfoldable pub linesFault : Order → SheetValue → Outcome SheetValue
+linesFault order v = decide (valueLinesChecks order (v .clocks) [] (v .lines)) v
 
--- what checking a sheet answers
-pub record Checked (s : Sheet) (r : Decision) : Type 0 where
+-- what checking a sheet answers, its lines standing in an order
+pub record Checked (order : Order) (s : Sheet) (r : Decision) : Type 0 where
   -- the first refusal that applies, or none
-  pub answer : r ≡ answered (decide (sheetValueChecks (sheetValue s)) (sheetValue s))
+  pub answer : r ≡ answered (decide (sheetValueChecks order (sheetValue s)) (sheetValue s))
   -- the types of the code bound the value's numbers
   pub value : r ≡ Done → IsSheet (sheetValue s)
 
 -- the same of its lines alone
-pub record LinesChecked (s : Sheet) (r : Decision) : Type 0 where
-  pub answer : r ≡ answered (linesFault (sheetValue s))
+pub record LinesChecked (order : Order) (s : Sheet) (r : Decision) : Type 0 where
+  pub answer : r ≡ answered (linesFault order (sheetValue s))
   pub values : r ≡ Done → All IsLineValue (sheetValue s .lines)
 
 -- the clocks of a body, or 15
@@ -68,3 +71,25 @@ withLine s l = record { clocks = s .clocks; count = s .count + 1; lines = set (s
 
 abbrev pub withCell : Instant → ℕ → Tick → ℤ → Instant
 withCell v i t tag = record { ticks = set (v .ticks) i (tickSlot t); tags = set (v .tags) i tag }
+
+-- a sheet within its limits, whatever the order of its lines
+pub record Sortable (s : Sheet) : Type 0 where
+  pub few : s .count ≤ 16
+  pub values : All IsLineValue (sheetValue s .lines)
+
+-- a line that is above those of `sorted`
+abbrev pub isHigher : Sheet → Line → Bool
+isHigher sorted l = aboveLast (map keyOf (sheetValue sorted .lines)) (keyOf l)
+
+-- of the lines at the places below n, the place of the least that is above those of `sorted`; the line count where none is
+pub record NextAbove (s sorted : Sheet) (n r : ℕ) : Type 0 where
+  pub most : r ≤ s .count
+  pub higher : r < s .count → isHigher sorted (lineAt s r) ≡ true
+  pub least : r < s .count → (i : ℕ) → i < n → isHigher sorted (lineAt s i) ≡ true → above (keyOf (lineAt s r)) (keyOf (lineAt s i)) ≡ false
+  pub none : r ≡ s .count → (i : ℕ) → i < n → isHigher sorted (lineAt s i) ≡ false
+
+-- a sheet that is the sorted form of another
+pub record SortedSheet (s r : Sheet) : Type 0 where
+  pub value : SheetValue
+  pub sorted : Sorted (sheetValue s) value
+  pub same : r ≡ sheetOf value

@@ -4,8 +4,12 @@ pub mod Lists
 pub mod Word
 pub mod Record
 pub mod Line
+pub mod Order
 pub mod Sheet
 pub mod Instant
+-- Document 02: a sheet's one form, and the order on bytes.
+pub mod Sort
+pub mod Examples
 -- What a buffer holds after writing, what the types give, and what contracts cite beside these.
 pub mod Store
 pub mod Types

@@ -48,12 +48,12 @@ valueLineChecks c spent kind body =
     ∷ ((isSporadic kind && leb 8 spent) ⇒ 9)
     ∷ []
 
--- a line of a sheet's bytes, `lines` lines standing before it; 1: torn; 8: seventeenth line; 5: kind not 16 to 23; 6: length wrong; then 7, 9
-abbrev pub lineChecks : ℕ → ℕ → ℕ → Piece → List Check
-lineChecks c lines spent torn = (true ⇒ 1) ∷ []
-lineChecks c lines spent (whole kind body) =
+-- a line of a sheet's bytes, `lines` lines standing before it; 1: torn; 8: seventeenth line; 5: kind not 16 to 23, or above the last kind that is read; 6: length wrong; then 7, 9
+abbrev pub lineChecks : ℕ → ℕ → ℕ → ℕ → Piece → List Check
+lineChecks last c lines spent torn = (true ⇒ 1) ∷ []
+lineChecks last c lines spent (whole kind body) =
     (leb 16 lines ⇒ 8)
-    ∷ (not (isLine kind) ⇒ 5)
+    ∷ (not (isLine kind && leb kind last) ⇒ 5)
     ∷ (not (eqb (length body) (lengthOf kind)) ⇒ 6)
     ∷ valueLineChecks c spent kind body
 

@@ -7,6 +7,8 @@ use lib.ListN.{length, getD}
 use lib.Dec.{leb, ltb, eqb}
 use Rattle.records.specs.declared.line.Line.{Line}
 use Rattle.records.specs.declared.line.Slot.{Slot}
+use Rattle.records.specs.declared.order.Order.{Order}
+use Rattle.records.specs.declared.order.Order.the-variants.{Rising, Any}
 use Rattle.records.specs.declared.sheet.Sheet.{Sheet}
 use Rattle.records.specs.declared.sheet.SheetRead.{SheetRead}
 use Rattle.records.specs.declared.record.Decision.the-variants as answer
@@ -15,6 +17,7 @@ use Rattle.records.specs.Lists.{listed, filled, joined}
 use Rattle.records.specs.Word.{at}
 use Rattle.records.specs.Record.{Piece, whole, torn, pieces, recordBytes}
 use Rattle.records.specs.Line.{sporadics, lineChecks, valueLineChecks, lineOf, kindOf, bodyOf, lineBytes, blankLine}
+use Rattle.records.specs.Order.{keyOf, inOrder}
 use Rattle.records.specs.Store.{Wrote, leaves}
 
 -- a sheet's value: the clock count C and the lines
@@ -50,22 +53,43 @@ abbrev pub lineIn : Piece → Line
 lineIn torn = blankLine
 lineIn (whole kind body) = lineOf kind body
 
--- each line in turn; `before` are those before it
-abbrev pub linesChecks : ℕ → List Piece → List Piece → List Check
-linesChecks c before lines = inTurn (λ before line. lineChecks c (length before) (sporadics (map kindIn before)) line) before lines
+abbrev pub keyIn : Piece → List ℕ
+keyIn torn = []
+keyIn (whole kind body) = kind ∷ body
+
+-- a line by what it is compared by, `before` those before it; 17: not above the one before it, where lines must rise
+abbrev pub orderChecks : Order → List (List ℕ) → List ℕ → List Check
+orderChecks order before key = (not (inOrder order before key) ⇒ 17) ∷ []
+
+-- how a sheet is read: how its lines stand, and the last kind that is a line
+-- each line in turn, its own checks and then 17; `before` are those before it
+abbrev pub linesChecks : Order → ℕ → ℕ → List Piece → List Piece → List Check
+linesChecks order last c before lines =
+    inTurn
+    (λ before line. lineChecks last c (length before) (sporadics (map kindIn before)) line ++ orderChecks order (map keyIn before) (keyIn line))
+    before
+    lines
 
 -- the first record and then each line; no bytes at all: 1
-abbrev pub sheetChecks : List Piece → List Check
-sheetChecks [] = (true ⇒ 1) ∷ []
-sheetChecks (first ∷ lines) = clocksChecks first ++ linesChecks (clocksIn first) [] lines
+abbrev pub sheetChecks : Order → ℕ → List Piece → List Check
+sheetChecks order last [] = (true ⇒ 1) ∷ []
+sheetChecks order last (first ∷ lines) = clocksChecks first ++ linesChecks order last (clocksIn first) [] lines
 
 abbrev pub sheetIn : List Piece → SheetValue
 sheetIn [] = record { clocks = 0; lines = [] }
 sheetIn (first ∷ lines) = record { clocks = clocksIn first; lines = map lineIn lines }
 
 -- what reading a sheet answers for every byte string
-unfoldable pub readSheet : List ℕ → Outcome SheetValue
-readSheet b = decide (sheetChecks (pieces b)) (sheetIn (pieces b))
+unfoldable pub readBy : Order → ℕ → List ℕ → Outcome SheetValue
+readBy order last b = decide (sheetChecks order last (pieces b)) (sheetIn (pieces b))
+
+-- lines of every kind, in rising order
+abbrev pub readSheet : List ℕ → Outcome SheetValue
+readSheet b = readBy Rising 23 b
+
+-- the same in any order, repeats allowed: document 01's own rule
+abbrev pub readUnordered : List ℕ → Outcome SheetValue
+readUnordered b = readBy Any 23 b
 
 -- ---- the struct
 
@@ -94,21 +118,25 @@ sheetRead (refused n) = record { answer = answer.Refused n; sheet = sheetOf (rec
 
 -- ---- writing
 
--- line by line 7, 9; `before` are the lines before
-abbrev pub valueLinesChecks : ℕ → List Line → List Line → List Check
-valueLinesChecks c before lines = inTurn (λ before l. valueLineChecks c (sporadics (map kindOf before)) (kindOf l) (bodyOf l)) before lines
+-- line by line 7, 9, 17; `before` are the lines before
+abbrev pub valueLinesChecks : Order → ℕ → List Line → List Line → List Check
+valueLinesChecks order c before lines =
+    inTurn
+    (λ before l. valueLineChecks c (sporadics (map kindOf before)) (kindOf l) (bodyOf l) ++ orderChecks order (map keyOf before) (keyOf l))
+    before
+    lines
 
--- 4; 8; then line by line 7, 9
-abbrev pub sheetValueChecks : SheetValue → List Check
-sheetValueChecks v =
+-- 4; 8; then line by line 7, 9, 17
+abbrev pub sheetValueChecks : Order → SheetValue → List Check
+sheetValueChecks order v =
     (not (clockCount (v .clocks)) ⇒ 4)
     ∷ (ltb 16 (length (v .lines)) ⇒ 8)
-    ∷ valueLinesChecks (v .clocks) [] (v .lines)
+    ∷ valueLinesChecks order (v .clocks) [] (v .lines)
 
 unfoldable pub sheetBytes : SheetValue → List ℕ
 sheetBytes v = recordBytes 1 (v .clocks ∷ []) ++ joined (map lineBytes (v .lines))
 
--- what writing a sheet value answers and leaves for every buffer; last 10: buffer shorter than the result
+-- what writing a sheet value answers and leaves for every buffer, its lines in rising order; last 10: buffer shorter than the result
 unfoldable pub writeSheet : SheetValue → List ℕ → Wrote
 writeSheet v buffer =
-    leaves buffer (decide (sheetValueChecks v ++ ((ltb (length buffer) (length (sheetBytes v)) ⇒ 10) ∷ [])) (sheetBytes v))
+    leaves buffer (decide (sheetValueChecks Rising v ++ ((ltb (length buffer) (length (sheetBytes v)) ⇒ 10) ∷ [])) (sheetBytes v))

@@ -2,6 +2,8 @@
 pub mod instant;
 pub mod line;
 pub mod number;
+pub mod order;
 pub mod record;
 pub mod sheet;
+pub mod sort;
 pub mod word;

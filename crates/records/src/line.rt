@@ -149,9 +149,16 @@ fn line_of(kind: u16, body: &[u8]) -> Line
     }
 }
 
-// A line record of a sheet, `lines` lines and `spent` sporadic ones among them standing before it: 8, 5, 6, 7, 9, or the line.
-pub(crate) fn read_line(kind: u16, body: &[u8], clocks: u8, lines: usize, spent: usize) -> LineRead
-    ensures { λ r. ⌜ r ≡ lineRead (decide (lineChecks clocks lines spent (whole kind (now (body .entry)))) (lineOf kind (now (body .entry)))) ⌝ }
+// A line record of a sheet whose last kind of line is given, `lines` lines and `spent` sporadic ones among them standing before it: 8, 5, 6, 7, 9, or the line.
+pub(crate) fn read_line(
+    kind: u16,
+    body: &[u8],
+    last: u16,
+    clocks: u8,
+    lines: usize,
+    spent: usize,
+) -> LineRead
+    ensures { λ r. ⌜ r ≡ lineRead (decide (lineChecks last clocks lines spent (whole kind (now (body .entry)))) (lineOf kind (now (body .entry)))) ⌝ }
 {
     if number::MAX_LINES <= lines {
         return LineRead::Refused(number::SEVENTEENTH_LINE);
@@ -159,6 +166,9 @@ pub(crate) fn read_line(kind: u16, body: &[u8], clocks: u8, lines: usize, spent:
     let shape = line_shape(kind);
     let known = shape.line;
     if !known {
+        return LineRead::Refused(number::LINE_KIND);
+    }
+    if last < kind {
         return LineRead::Refused(number::LINE_KIND);
     }
     if body.len() != shape.length {
@@ -199,7 +209,7 @@ pub(crate) fn kind_of(l: Line) -> u16
 }
 
 // A line's body at the front of six bytes; each field is within its type.
-fn body_of(l: Line) -> [u8; 6]
+pub(crate) fn body_of(l: Line) -> [u8; 6]
     ensures { λ r. ⌜ (r ≡ filled 6 0 (bodyOf l)) × IsLineValue l ⌝ }
 {
     match l {

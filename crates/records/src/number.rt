@@ -33,6 +33,8 @@ pub const TICK_BYTE: u8 = 15;
 
 pub const INSTANTS_HELD: u8 = 16;
 
+pub const NOT_ABOVE: u8 = 17;
+
 // Kinds of records.
 pub const CLOCKS: u16 = 1;
 
@@ -51,6 +53,9 @@ pub const WEAKLY: u16 = 21;
 pub const STRICTLY: u16 = 22;
 
 pub const KILLS: u16 = 23;
+
+// The last kind that is a line.
+pub const LAST_LINE: u16 = KILLS;
 
 pub const INSTANT: u16 = 32;
 
@@ -81,3 +86,6 @@ pub const MAX_INSTANTS: usize = 4000;
 pub const MAX_LIVE: usize = 32;
 
 pub const MAX_OWED: usize = 8;
+
+// The longest sheet: the clocks record and 16 of the longest lines.
+pub const MAX_SHEET: usize = HEAD_LENGTH + CLOCKS_BODY + MAX_LINES * (HEAD_LENGTH + RELATION_BODY);

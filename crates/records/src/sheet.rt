@@ -9,6 +9,8 @@ use crate::line::put_line;
 use crate::line::read_line;
 use crate::line::sporadic_of;
 use crate::number;
+use crate::order::Order;
+use crate::order::is_above;
 use crate::record::Decision;
 use crate::record::Record;
 use crate::record::Written;
@@ -22,7 +24,10 @@ ghost use Rattle.records.specs.Store.{puts, wrote};
 ghost use Rattle.records.specs.Outcome.{refused};
 ghost use Rattle.records.specs.Record.{pieces};
 ghost use Rattle.records.specs.Line.{blankLine};
-ghost use Rattle.records.specs.Sheet.{clockCount, lineAt, sheetValue, sheetOf, sheetRead, readSheet, sheetBytes, writeSheet};
+ghost use Rattle.records.specs.Order.{keyOf, aboveLast, inOrder};
+ghost use Rattle.records.specs.declared.order.Order.the-variants.{Any};
+ghost use Rattle.records.specs.Lists.{listed};
+ghost use Rattle.records.specs.Sheet.{clockCount, lineAt, sheetValue, sheetOf, sheetRead, readBy, readSheet, readUnordered, sheetBytes, writeSheet};
 ghost use Rattle.records.specs.Inner.{withLine, sheetFrom, LinesChecked, Checked};
 
 pub struct Sheet {
@@ -54,7 +59,7 @@ fn blank_line() -> Line
     Line::Sporadic { a: 0, b: 0, t: 0 }
 }
 
-fn blank_sheet(clocks: u8) -> Sheet
+pub(crate) fn blank_sheet(clocks: u8) -> Sheet
     ensures { λ r. ⌜ r ≡ sheetOf (record { clocks = clocks; lines = [] }) ⌝ }
 {
     let line = blank_line();
@@ -66,7 +71,7 @@ fn blank_sheet(clocks: u8) -> Sheet
     }
 }
 
-fn with_line(s: Sheet, line: Line) -> Sheet
+pub(crate) fn with_line(s: Sheet, line: Line) -> Sheet
     requires { ⌜ s .count < 16 ⌝ }
     ensures { λ r. ⌜ r ≡ withLine s line ⌝ }
 {
@@ -77,68 +82,12 @@ fn with_line(s: Sheet, line: Line) -> Sheet
     next
 }
 
-fn refused_sheet(n: u8) -> SheetRead
+pub(crate) fn refused_sheet(n: u8) -> SheetRead
     ensures { λ r. ⌜ r ≡ sheetRead (refused n) ⌝ }
 {
     let sheet = blank_sheet(0);
     let answer = Decision::Refused(n);
     SheetRead { answer, sheet }
-}
-
-// The lines after the clocks record.
-fn read_lines(bytes: &[u8], clocks: u8) -> SheetRead
-    requires { ⌜ 5 ≤ length (now bytes) ⌝ }
-    ensures { λ r. ⌜ r ≡ sheetRead (sheetFrom clocks (pieces (drop 5 (now (bytes .entry))))) ⌝ }
-{
-    let mut sheet = blank_sheet(clocks);
-    let mut spent = 0;
-    let mut at = number::HEAD_LENGTH + number::CLOCKS_BODY;
-    while at < bytes.len() {
-        match record_at(bytes, at) {
-            Record::Torn => {
-                return refused_sheet(number::TORN_SHEET);
-            }
-            Record::Whole { kind, len } => {
-                let from = at + number::HEAD_LENGTH;
-                let end = from + len;
-                let count = sheet.count;
-                match read_line(kind, &bytes[from..end], clocks, count, spent) {
-                    LineRead::Refused(n) => {
-                        return refused_sheet(n);
-                    }
-                    LineRead::Read(line) => {
-                        sheet = with_line(sheet, line);
-                        spent += sporadic_of(kind);
-                        at = end;
-                    }
-                }
-            }
-        }
-    }
-    let answer = Decision::Done;
-    SheetRead { answer, sheet }
-}
-
-// The sheet that a byte string holds.
-pub fn read_sheet(bytes: &[u8]) -> SheetRead
-    ensures { λ r. ⌜ r ≡ sheetRead (readSheet (now (bytes .entry))) ⌝ }
-{
-    match record_at(bytes, 0) {
-        Record::Torn => refused_sheet(number::TORN_SHEET),
-        Record::Whole { kind, len } => {
-            if kind != number::CLOCKS {
-                return refused_sheet(number::NOT_CLOCKS);
-            }
-            if len != number::CLOCKS_BODY {
-                return refused_sheet(number::CLOCKS_LENGTH);
-            }
-            let clocks = bytes[number::HEAD_LENGTH];
-            if !clock_count(clocks) {
-                return refused_sheet(number::CLOCK_COUNT);
-            }
-            read_lines(bytes, clocks)
-        }
-    }
 }
 
 // The line at a place; past the sixteenth stands the blank line.
@@ -154,10 +103,103 @@ pub fn line_at(s: Sheet, i: usize) -> Line
     }
 }
 
-// 7 and 9, line by line.
-fn check_lines(s: Sheet) -> Decision
+// Whether a line is above the last of a sheet's first n lines.
+pub(crate) fn above_last(s: Sheet, n: usize, l: Line) -> bool
+    ensures { λ r. ⌜ r ≡ aboveLast (map keyOf (listed (lineAt s) n)) (keyOf l) ⌝ }
+{
+    if n == 0 {
+        return true;
+    }
+    is_above(l, line_at(s, n - 1))
+}
+
+// Whether a line may stand behind a sheet's first n lines.
+fn in_order(order: Order, s: Sheet, n: usize, l: Line) -> bool
+    ensures { λ r. ⌜ r ≡ inOrder order (map keyOf (listed (lineAt s) n)) (keyOf l) ⌝ }
+{
+    match order {
+        Order::Rising => above_last(s, n, l),
+        Order::Any => true,
+    }
+}
+
+// The lines after the clocks record.
+fn read_lines(bytes: &[u8], order: Order, last: u16, clocks: u8) -> SheetRead
+    requires { ⌜ 5 ≤ length (now bytes) ⌝ }
+    ensures { λ r. ⌜ r ≡ sheetRead (sheetFrom order last clocks (pieces (drop 5 (now (bytes .entry))))) ⌝ }
+{
+    let mut sheet = blank_sheet(clocks);
+    let mut spent = 0;
+    let mut at = number::HEAD_LENGTH + number::CLOCKS_BODY;
+    while at < bytes.len() {
+        match record_at(bytes, at) {
+            Record::Torn => {
+                return refused_sheet(number::TORN_SHEET);
+            }
+            Record::Whole { kind, len } => {
+                let from = at + number::HEAD_LENGTH;
+                let end = from + len;
+                let count = sheet.count;
+                match read_line(kind, &bytes[from..end], last, clocks, count, spent) {
+                    LineRead::Refused(n) => {
+                        return refused_sheet(n);
+                    }
+                    LineRead::Read(line) => {
+                        if !in_order(order, sheet, count, line) {
+                            return refused_sheet(number::NOT_ABOVE);
+                        }
+                        sheet = with_line(sheet, line);
+                        spent += sporadic_of(kind);
+                        at = end;
+                    }
+                }
+            }
+        }
+    }
+    let answer = Decision::Done;
+    SheetRead { answer, sheet }
+}
+
+// The sheet that a byte string holds, its lines in an order and of kinds up to a last one.
+pub fn read_by(bytes: &[u8], order: Order, last: u16) -> SheetRead
+    ensures { λ r. ⌜ r ≡ sheetRead (readBy order last (now (bytes .entry))) ⌝ }
+{
+    match record_at(bytes, 0) {
+        Record::Torn => refused_sheet(number::TORN_SHEET),
+        Record::Whole { kind, len } => {
+            if kind != number::CLOCKS {
+                return refused_sheet(number::NOT_CLOCKS);
+            }
+            if len != number::CLOCKS_BODY {
+                return refused_sheet(number::CLOCKS_LENGTH);
+            }
+            let clocks = bytes[number::HEAD_LENGTH];
+            if !clock_count(clocks) {
+                return refused_sheet(number::CLOCK_COUNT);
+            }
+            read_lines(bytes, order, last, clocks)
+        }
+    }
+}
+
+// The sheet that a byte string holds, its lines in rising order.
+pub fn read_sheet(bytes: &[u8]) -> SheetRead
+    ensures { λ r. ⌜ r ≡ sheetRead (readSheet (now (bytes .entry))) ⌝ }
+{
+    read_by(bytes, Order::Rising, number::LAST_LINE)
+}
+
+// The sheet that a byte string holds, its lines in any order, repeats allowed.
+pub fn read_unordered(bytes: &[u8]) -> SheetRead
+    ensures { λ r. ⌜ r ≡ sheetRead (readUnordered (now (bytes .entry))) ⌝ }
+{
+    read_by(bytes, Order::Any, number::LAST_LINE)
+}
+
+// 7, 9 and 17, line by line.
+fn check_lines(s: Sheet, order: Order) -> Decision
     requires { ⌜ s .count ≤ 16 ⌝ }
-    ensures { λ r. ⌜ LinesChecked s r ⌝ }
+    ensures { λ r. ⌜ LinesChecked order s r ⌝ }
 {
     let n = s.count;
     let clocks = s.clocks;
@@ -170,6 +212,9 @@ fn check_lines(s: Sheet) -> Decision
                 return Decision::Refused(n);
             }
             Decision::Done => {
+                if !in_order(order, s, i, l) {
+                    return Decision::Refused(number::NOT_ABOVE);
+                }
                 spent += sporadic_of(kind_of(l));
                 i += 1;
             }
@@ -178,9 +223,9 @@ fn check_lines(s: Sheet) -> Decision
     Decision::Done
 }
 
-// Whether a sheet value is within its limits: 4; 8; then line by line 7, 9.
-pub fn check_sheet(sheet: Sheet) -> Decision
-    ensures { λ r. ⌜ Checked sheet r ⌝ }
+// A sheet value whose lines stand in an order: 4; 8; then line by line 7, 9, 17.
+fn check_by(sheet: Sheet, order: Order) -> Decision
+    ensures { λ r. ⌜ Checked order sheet r ⌝ }
 {
     let clocks = sheet.clocks;
     if !clock_count(clocks) {
@@ -190,7 +235,14 @@ pub fn check_sheet(sheet: Sheet) -> Decision
     if number::MAX_LINES < count {
         return Decision::Refused(number::SEVENTEENTH_LINE);
     }
-    check_lines(sheet)
+    check_lines(sheet, order)
+}
+
+// Whether a sheet value is within its limits, its lines in any order: 4; 8; then line by line 7, 9.
+pub fn check_sheet(sheet: Sheet) -> Decision
+    ensures { λ r. ⌜ Checked Any sheet r ⌝ }
+{
+    check_by(sheet, Order::Any)
 }
 
 // How many bytes a sheet's records take.
@@ -227,11 +279,11 @@ fn put_sheet(s: Sheet, buffer: &mut [u8])
     }
 }
 
-// Writes a sheet at the buffer's front, or refuses it and changes no byte.
+// Writes a sheet, its lines in rising order, at the buffer's front, or refuses it and changes no byte.
 pub fn write_sheet(sheet: Sheet, buffer: &mut [u8]) -> Written
     ensures { λ r. ⌜ wrote r (now (buffer .exit)) ≡ writeSheet (sheetValue sheet) (now (buffer .entry)) ⌝ }
 {
-    match check_sheet(sheet) {
+    match check_by(sheet, Order::Rising) {
         Decision::Refused(n) => Written::Refused(n),
         Decision::Done => {
             let size = sheet_size(sheet);

@@ -1,7 +1,7 @@
-// Runs of both programs on small files: for each a heading, then what the program prints.
+// Runs of the programs on small files: for each a heading, then what the program prints.
 use libc::STDOUT_FILENO;
 
-// The arguments, in the order of the file `args`: files of data/; a folder; a name of no file; and one more than there are.
+// The arguments, in the order of the file `args`: files of data/, among them a folder and a name of no file; and one more than there are.
 const SHEET: usize = 1;
 
 const LOG: usize = 2;
@@ -36,7 +36,13 @@ const FOLDER: usize = 16;
 
 const NO_FILE: usize = 17;
 
-const NOT_NAMED: usize = 18;
+const SHEET_UNSORTED: usize = 18;
+
+const SHEET_SORTED: usize = 19;
+
+const SHEET_SEVENTEEN: usize = 20;
+
+const NOT_NAMED: usize = 21;
 
 fn heading(program: &[u8], case: &[u8]) {
     io::write_all(STDOUT_FILENO, program);
@@ -49,6 +55,13 @@ fn both(case: &[u8], sheet: usize, log: usize) {
     programs::watch::run(sheet, log);
     heading(b"columns: ", case);
     programs::columns::run(sheet, log);
+}
+
+// What *sort* prints ends where the sheet ends; the newline behind it is put here.
+fn sorted(case: &[u8], sheet: usize) {
+    heading(b"sort: ", case);
+    programs::sort::run(sheet);
+    io::write_all(STDOUT_FILENO, b"\n");
 }
 
 fn main() {
@@ -76,4 +89,11 @@ fn main() {
     both(b"twelve instants of eight clocks", SHEET_EIGHT, LOG_TWELVE);
     both(b"4,000 instants of eight clocks", SHEET_EIGHT, LOG_4000);
     both(b"4,001 instants of eight clocks", SHEET_EIGHT, LOG_4001);
+    both(b"a sheet out of order", SHEET_UNSORTED, LOG);
+    sorted(b"a sheet out of order, with repeats", SHEET_UNSORTED);
+    sorted(b"the same sorted", SHEET_SORTED);
+    sorted(b"a sheet with a clock not below C", SHEET_REFUSED);
+    sorted(b"seventeen lines of which sixteen differ", SHEET_SEVENTEEN);
+    sorted(b"a sheet that can't be opened", NO_FILE);
+    sorted(b"a sheet that isn't named", NOT_NAMED);
 }

@@ -13,7 +13,7 @@ use Rattle.records.specs.Lists.{joined}
 use Rattle.records.specs.Word.{signed, tagOf}
 use Rattle.records.specs.Record.{isTorn, front, cut}
 use Rattle.records.specs.Line.{lengthOf, clocksOf, lineOf}
-use Rattle.records.specs.Sheet.{SheetValue, readSheet}
+use Rattle.records.specs.Sheet.{SheetValue, readBy, readSheet}
 use Rattle.records.specs.Instant.{tickOf, rawCells, readInstant}
 use Rattle.tesl.specs.Run.{Instant, fillings, runFillings}
 use Rattle.tesl.specs.Fits.{fits}
@@ -161,7 +161,7 @@ pub record Examples : Type 0 where
       × (answer (sheet 2 (Relation 0 1 (pos 300) (pos 0))) (two Idle (pos 24464) Idle (pos 300) ∷ []) ≡ broken)
 
 pub examples : Examples
-unfolding signed isTorn front cut lengthOf clocksOf lineOf readSheet tickOf rawCells readInstant fillings runFillings fits remainder sameRemainder owes overfull isClear remainders tooMany over judged answerWithin accepts machine session judgeLog
+unfolding signed isTorn front cut lengthOf clocksOf lineOf readBy tickOf rawCells readInstant fillings runFillings fits remainder sameRemainder owes overfull isClear remainders tooMany over judged answerWithin accepts machine session judgeLog
 examples = record {
   L1 = (refl, refl, refl);
   L2 = (refl, refl);

@@ -6,6 +6,7 @@ use native.Mathlib.Omega.{arith}
 use lib.ListN.{length, take, length-append}
 use Rattle.records.specs.Outcome.{Outcome, taken, refused}
 use Rattle.records.specs.Record.{Piece, recordBytes}
+use Rattle.records.specs.declared.order.Order.the-variants.{Rising, Any}
 use Rattle.records.specs.Sheet.{SheetValue, readSheet}
 use Rattle.records.specs.Types.{IsBytes}
 use Rattle.records.proofs.record.Front.{Turn, ends, goes, pieces-front}
@@ -15,7 +16,7 @@ use Rattle.tesl.specs.Run.{Instant}
 use Rattle.tesl.specs.Machine.{accepts, callOf, callsOf}
 use Rattle.theory.proofs.Accepted.{taken-read}
 use Rattle.text.specs.Text.{refusalLine}
-use Rattle.text.specs.Output.{FrontDecides}
+use Rattle.text.specs.Output.{FrontDecides, SortFrontDecides}
 use Rattle.text.proofs.Walk.{walked, walkedAll, watchLines, columnsLines, watch-walk, columns-walk}
 
 -- where the walk stands: what is printed so far, and the instants taken
@@ -51,7 +52,7 @@ module _ (lines : List Instant → Instant → List ℕ) (s : SheetValue) where
 module _ (a b : ℕ) (k : 65704 ≤ a) (l : 177539 ≤ b) where
   text-front : (lines : SheetValue → List Instant → Instant → List ℕ) (sheet log : List ℕ) → IsBytes sheet → IsBytes log
       → walkedAll lines (callsOf (take b log)) (readSheet (take a sheet)) ≡ walkedAll lines (callsOf log) (readSheet sheet)
-  text-front lines sheet log d e = rw (read-front a sheet d k) (by-sheet (readSheet sheet))
+  text-front lines sheet log d e = rw (read-front Rising 23 a sheet d k) (by-sheet (readSheet sheet))
     where
       by-sheet : (o : Outcome SheetValue) → walkedAll lines (callsOf (take b log)) o ≡ walkedAll lines (callsOf log) o
       by-sheet (taken s) = log-front (lines s) s b log e l
@@ -62,3 +63,6 @@ module _ (a b : ℕ) (k : 65704 ≤ a) (l : 177539 ≤ b) where
     watch = λ sheet log d e. watch-walk (take a sheet) (take b log) ∙ text-front watchLines sheet log d e ∙ sym (watch-walk sheet log);
     columns = λ sheet log d e. columns-walk (take a sheet) (take b log) ∙ text-front columnsLines sheet log d e ∙ sym (columns-walk sheet log);
   }
+
+pub sort-front-decides : (a : ℕ) → 65704 ≤ a → SortFrontDecides a
+sort-front-decides a k sheet text d s = let e = read-front Any 23 a sheet d k in record { refuses = λ n f. s .refuses n (e ∙ f); sorts = λ v f. s .sorts v (e ∙ f) }

@@ -9,6 +9,7 @@ use lib.ListN.{length, length-append}
 use Rattle.records.specs.Outcome.{Outcome, taken, refused}
 use Rattle.records.specs.Word.{unsigned, rawOf}
 use Rattle.records.specs.Record.{Piece, whole, torn, pieces, recordBytes}
+use Rattle.records.specs.declared.order.Order.the-variants.{Rising}
 use Rattle.records.specs.Sheet.{SheetValue, readSheet}
 use Rattle.records.specs.Instant.{instantBytes}
 use Rattle.records.specs.Types.{All, IsTag, IsBytes, IsInstant}
@@ -29,7 +30,7 @@ use Rattle.text.proofs.Walk.{walkedBy, walked, walkedAll, watchLines, c
 
 -- ---- lines
 
-refusal-short : (n : ℕ) → n ≤ 16 → length (refusalLine n) ≤ 11
+pub refusal-short : (n : ℕ) → n ≤ 17 → length (refusalLine n) ≤ 11
 unfolding line
 refusal-short n h = simp length-append (omega (arith, length-digits 1 n (omega arith)))
 
@@ -88,7 +89,7 @@ module _ (lines : List Instant → Instant → List ℕ) (w : ℕ) (s : SheetVal
       by-outcome : (o : Outcome Instant) → accepts s run bytes ≡ o
           → ((k : ℕ) (run′ : List Instant) → length run′ + k ≡ 4000 → length (walked lines s run′ calls) ≤ k * w + 11)
           → length (walkedBy lines run (λ run′. walked lines s run′ calls) o) ≤ j * w + 11
-      by-outcome (refused n) e later = omega (arith, refusal-short n (refused-number s run bytes e))
+      by-outcome (refused n) e later = omega (arith, refusal-short n (omega (arith, refused-number s run bytes e)))
       by-outcome (taken i) e later =
           let r = taken-read s run bytes e .1 in
           let m : j ≡ suc (j - 1) = omega arith in
@@ -101,7 +102,7 @@ all-room lines w sheet calls each = by-sheet (readSheet sheet) refl
   where
     by-sheet : (o : Outcome SheetValue) → readSheet sheet ≡ o → length (walkedAll lines calls o) ≤ 4000 * w + 11
     by-sheet (taken s) e = walked-room (lines s) w s 4000 [] calls refl (each s)
-    by-sheet (refused n) e = omega (arith, refusal-short n (omega (arith, read-number sheet e)))
+    by-sheet (refused n) e = omega (arith, refusal-short n (omega (arith, read-number Rising 23 sheet e)))
 
 -- ---- *watch*
 

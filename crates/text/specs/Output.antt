@@ -1,10 +1,11 @@
--- Document 01, 'Programs': all that *watch* and *columns* print for the bytes of a sheet and of a log.
+-- Document 01, 'Programs': all that *watch* and *columns* print for the bytes of a sheet and of a log; and document 02, Q-1: all that *sort* prints for those of a sheet.
 use mathlib.Core.List.{List, [], _∷_, _++_}
 use mathlib.Core.Path.{_≡_}
 use Prim.Native.Nat.{ℕ, suc}
 use lib.ListN.{length, take, drop}
 use Rattle.records.specs.Outcome.{Outcome, taken, refused}
-use Rattle.records.specs.Sheet.{SheetValue, readSheet}
+use Rattle.records.specs.Sheet.{SheetValue, readSheet, readUnordered, sheetBytes}
+use Rattle.records.specs.Sort.{Sorted}
 use Rattle.records.specs.Types.{IsBytes}
 use Rattle.tesl.specs.Lists.{flatMap}
 use Rattle.tesl.specs.Run.{Instant, tagsOf}
@@ -54,7 +55,27 @@ printedAs size buffer = record { size = size; buffer = buffer }
 abbrev pub printed : List ℕ → List ℕ → Printed
 printed text buffer = printedAs (length text) (text ++ drop (length text) buffer)
 
+-- ---- *sort*: the bytes of the sorted sheet, its lines read in any order; refusals as in *watch*
+
+pub record SortText (sheet text : List ℕ) : Type 0 where
+  pub refuses : (n : ℕ) → readUnordered sheet ≡ refused n → text ≡ refusalLine n
+  pub sorts : (v : SheetValue) → readUnordered sheet ≡ taken v → (w : SheetValue) × Sorted v w × (text ≡ sheetBytes w)
+
+-- such a text was printed
+pub record SortPrinted (sheet before : List ℕ) (size : ℕ) (after : List ℕ) : Type 0 where
+  pub text : List ℕ
+  pub sorts : SortText sheet text
+  pub is : printedAs size after ≡ printed text before
+
+-- there is no other
+abbrev pub OneSortText : Type 0
+OneSortText = (sheet t u : List ℕ) → SortText sheet t → SortText sheet u → t ≡ u
+
 -- ---- how much of a file decides: whatever stands behind the first a bytes of a sheet and the first b of a log, the same is printed
 pub record FrontDecides (a b : ℕ) : Type 0 where
   pub watch : (sheet log : List ℕ) → IsBytes sheet → IsBytes log → watchText (take a sheet) (take b log) ≡ watchText sheet log
   pub columns : (sheet log : List ℕ) → IsBytes sheet → IsBytes log → columnsText (take a sheet) (take b log) ≡ columnsText sheet log
+
+-- the same of *sort* and the first a bytes of its sheet
+abbrev pub SortFrontDecides : ℕ → Type 0
+SortFrontDecides a = (sheet text : List ℕ) → IsBytes sheet → SortText (take a sheet) text → SortText sheet text

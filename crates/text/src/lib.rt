@@ -3,4 +3,5 @@ pub mod build;
 pub mod columns;
 pub mod line;
 mod put;
+pub mod sort;
 pub mod watch;

@@ -1,18 +1,20 @@
 -- A sheet that is read, and any within its own limits: 1 to 8 clocks, at most 16 lines and 8 sporadic ones, the clocks of lines below C; so the answer of opening is never exhausted. Assumes nothing.
-use mathlib.Core.Bool.{Bool, true, false, cond, _&&_}
-use mathlib.Core.List.{List, [], _∷_, _++_, map, append-assoc, append-nil}
-use mathlib.Core.Path.{_≡_, refl, ap, _∙_, subst}
+use mathlib.Core.Bool.{Bool, true, false, cond}
+use mathlib.Core.List.{List, [], _∷_, _++_, map, append-nil}
+use mathlib.Core.Path.{_≡_, _∙_, subst}
 use Prim.Native.Nat.{ℕ, suc, _+_, _≤_}
 use native.Mathlib.Omega.{arith}
 use lib.Dec.{T, not-T, leb, leb→le, ltb→lt}
 use lib.ListN.{length, length-append}
-use borrow.Author.Tests.{ltb-false, leb-false, not-false}
+use borrow.Author.Tests.{ltb-false, not-false}
 use Rattle.records.specs.declared.line.Line.{Line}
+use Rattle.records.specs.declared.order.Order.{Order}
 use Rattle.records.specs.Line.{isSporadic, sporadics, kindOf}
 use Rattle.records.specs.Outcome.{taken}
-use Rattle.records.specs.Sheet.{SheetValue, clockCount, readSheet, valueLinesChecks, sheetValueChecks}
-use Rattle.records.specs.Types.{IsBytes, IsSheet}
-use Rattle.records.proofs.Lists.{Passed, taken-passed, map-append}
+use Rattle.records.specs.Sheet.{SheetValue, clockCount, readBy, sheetValueChecks}
+use Rattle.records.specs.Types.{All, IsBytes, IsSheet}
+use Rattle.records.proofs.Lists.{Passed, taken-passed}
+use Rattle.records.proofs.sheet.Passed.{Below, lines-passed}
 use Rattle.records.proofs.sheet.RoundTrip.{read-writes}
 use Rattle.tesl.specs.Lists.{all, flatMap, distinct}
 use Rattle.tesl.specs.Fits.{owedAtStart, unmet}
@@ -29,53 +31,28 @@ use Rattle.theory.proofs.Answers.{answer-start}
 
 -- ---- what passes the checks of a sheet value
 
-sporadics-snoc : (ks : List ℕ) (k : ℕ) → sporadics (ks ++ (k ∷ [])) ≡ sporadics ks + bit (isSporadic k)
-sporadics-snoc [] k = by-test (isSporadic k)
-  where
-    by-test : (b : Bool) → cond b 1 0 ≡ 0 + bit b
-    by-test true = refl
-    by-test false = refl
-sporadics-snoc (j ∷ ks) k = by-test (isSporadic j) (sporadics-snoc ks k)
-  where
-    by-test : (b : Bool) → sporadics (ks ++ (k ∷ [])) ≡ sporadics ks + bit (isSporadic k)
-        → cond b (suc (sporadics (ks ++ (k ∷ [])))) (sporadics (ks ++ (k ∷ []))) ≡ cond b (suc (sporadics ks)) (sporadics ks) + bit (isSporadic k)
-    by-test true e = omega arith
-    by-test false e = e
+all-below : (c : ℕ) (ls : List Line) → All (Below c) ls → T (all (lineBelow c) ls)
+all-below c [] h = tt
+all-below c (l ∷ ls) h = and-i (lineBelow c l) (all (lineBelow c) ls) (≡→T (h .0)) (all-below c ls (h .1))
 
-eighth : (b : Bool) (n : ℕ) → (b && leb 8 n) ≡ false → n ≤ 8 → n + bit b ≤ 8
-eighth true n e l = let k = leb-false 8 n e in omega arith
-eighth false n e l = omega arith
-
-lines-passed : (c : ℕ) (before ls : List Line) → sporadics (map kindOf before) ≤ 8 → Passed (valueLinesChecks c before ls)
-    → T (all (lineBelow c) ls) × (sporadics (map kindOf (before ++ ls)) ≤ 8)
-lines-passed c before [] n h = (tt, rw (append-nil before) n)
-lines-passed c before (l ∷ ls) n h =
-    let grown : sporadics (map kindOf (before ++ (l ∷ []))) ≡ sporadics (map kindOf before) + bit (isSporadic (kindOf l)) =
-    ap sporadics (map-append kindOf before (l ∷ [])) ∙ sporadics-snoc (map kindOf before) (kindOf l) in
-    let k = eighth (isSporadic (kindOf l)) (sporadics (map kindOf before)) (h .1 .0) n in
-    let r = lines-passed c (before ++ (l ∷ [])) ls (omega arith) (h .1 .1) in (
-      and-i (lineBelow c l) (all (lineBelow c) ls) (≡→T (not-false (lineBelow c l) (h .0))) (r .0),
-      subst (λ (l : List Line). sporadics (map kindOf l) ≤ 8) (append-assoc before (l ∷ []) ls) (r .1),
-    )
-
-pub checked-limits : (v : SheetValue) → IsSheet v → Passed (sheetValueChecks v) → SheetLimits v
-checked-limits v value h =
+pub checked-limits : (order : Order) (v : SheetValue) → IsSheet v → Passed (sheetValueChecks order v) → SheetLimits v
+checked-limits order v value h =
     let c = ≡→T (not-false (clockCount (v .clocks)) (h .0)) in
-    let r = lines-passed (v .clocks) [] (v .lines) (omega arith) (h .1 .1) in
+    let r = lines-passed order (v .clocks) [] (v .lines) (omega arith) (h .1 .1) in
     record {
       clocks-least = leb→le 1 (v .clocks) (and-l (leb 1 (v .clocks)) (leb (v .clocks) 8) c);
       clocks-most = leb→le (v .clocks) 8 (and-r (leb 1 (v .clocks)) (leb (v .clocks) 8) c);
       lines-most = ltb-false 16 (length (v .lines)) (h .1 .0);
       sporadics-most = r .1;
-      clocks-below = r .0;
+      clocks-below = all-below (v .clocks) (v .lines) (r .0);
       values = value .1;
     }
 
 -- ---- what is read
-pub read-limits : (b : List ℕ) → IsBytes b → {v : SheetValue} → readSheet b ≡ taken v → SheetLimits v
-read-limits b h {v} e =
-    let w = read-writes b h e in
-    checked-limits v (w .value) (taken-passed (sheetValueChecks v) (w .checks) .0)
+pub read-limits : (order : Order) (last : ℕ) (b : List ℕ) → IsBytes b → {v : SheetValue} → readBy order last b ≡ taken v → SheetLimits v
+read-limits order last b h {v} e =
+    let w = read-writes order last b h e in
+    checked-limits order v (w .value) (taken-passed (sheetValueChecks order v) (w .checks) .0)
 
 -- ---- opening: at most eight obligations, one remainder
 

@@ -160,7 +160,7 @@ fn l8_l11(t: [u64; 40]) -> [u64; 40] {
 fn lives(t: [u64; 40]) -> [u64; 40] {
     let by_100 = with(empty_sheet(2), delayed(0, 100, 0, 1));
     let weakly = with(by_100, pair(21, 0, 1));
-    let kills = with(with(by_100, pair(23, 0, 1)), delayed(1, 100, 0, 0));
+    let kills = with(with(by_100, delayed(1, 100, 0, 0)), pair(23, 0, 1));
     let t = example(
         b"live 31, then 62",
         weakly,

@@ -2,12 +2,14 @@
 use crate::tally;
 use crate::trial::Trial;
 use crate::trial::live_of;
+use crate::trial::not_opened;
 use crate::trial::opened;
 use crate::trial::refused;
 use crate::trial::taken;
 use cases::course;
 use cases::course::Course;
 use cases::course::unseen_from;
+use cases::disorder::out_of_order;
 use cases::made::instants_of;
 use cases::made::plan_of;
 use cases::plan::Plan;
@@ -92,6 +94,20 @@ fn with_sheet(tally: [u64; 40], s: Sheet) -> [u64; 40] {
     count_if(s.clocks == 8, with_kinds(tally, s), tally::EIGHT)
 }
 
+// Of one case in eight, where it has a line, the sheet with its lines out of order.
+fn with_disorder(plan: Plan, d: [u64; 48], tally: [u64; 40]) -> [u64; 40] {
+    let sheet = plan.sheet;
+    let lines = sheet.count;
+    if lines == 0 {
+        return tally;
+    }
+    if one_in(d, 45, 8) {
+        let i = below(d, 47, lines as u64) as usize;
+        return not_opened(out_of_order(sheet, one_in(d, 46, 2), i), tally);
+    }
+    tally
+}
+
 fn begin(plan: Plan, last: u64, tally: [u64; 40]) -> Stand {
     let sheet = plan.sheet;
     Stand {
@@ -147,8 +163,9 @@ fn case(is_wide: bool, number: u64, from: u64, tally: [u64; 40]) -> Ended {
     let drawn = draw(from);
     let d = drawn.numbers;
     let plan = plan_of(is_wide, number, d);
+    let told = with_disorder(plan, d, tally);
     let n = instants_of(plan);
-    let mut s = begin(plan, drawn.last, tally);
+    let mut s = begin(plan, drawn.last, told);
     let mut i = 0;
     while i < n {
         let held = is_holding(s);

@@ -30,6 +30,8 @@ fn answers(t: [u64; 40]) {
     line(t, b"broken", tally::BROKEN);
     line(t, b"exhausted", tally::EXHAUSTED);
     line(t, b"refused, as due", tally::REFUSED);
+    line(t, b"sheets out of order, refused by 9", tally::BY_NINTH);
+    line(t, b"sheets out of order, refused by 17", tally::BY_ORDER);
 }
 
 fn lives(t: [u64; 40]) {

@@ -45,3 +45,7 @@ pub const EIGHT: usize = 20;
 pub const HIGH_UNSEEN: usize = 21;
 
 pub const ALL_UNSEEN: usize = 22;
+
+pub const BY_NINTH: usize = 23;
+
+pub const BY_ORDER: usize = 24;

@@ -1,10 +1,12 @@
 // A case under way: the monitor is called, and what it answers is held against the judge of the whole run.
 use crate::tally;
-use cases::damage::Record;
 use cases::damage::damaged;
 use cases::damage::whole;
+use cases::disorder::Disordered;
 use cases::tally::count;
 use cases::tally::count_if;
+use cases::tape::front;
+use cases::tape::sheet_tape;
 use filler::run::Run;
 use filler::run::no_instants;
 use filler::run::with_instant;
@@ -18,9 +20,8 @@ use judge::monitor::Monitor;
 use judge::monitor::observe;
 use judge::monitor::open;
 use records::instant::Instant;
-use records::record::Written;
+use records::number;
 use records::sheet::Sheet;
-use records::sheet::write_sheet;
 
 // The sheet, the instants taken so far, the monitor given back last, the last answer, and what was counted.
 pub struct Trial {
@@ -29,14 +30,6 @@ pub struct Trial {
     pub monitor: Monitor,
     pub answer: Answer,
     pub tally: [u64; 40],
-}
-
-// The first n bytes, or all where there are fewer.
-fn front(bytes: &[u8], n: usize) -> &[u8] {
-    if bytes.len() < n {
-        return bytes;
-    }
-    &bytes[0..n]
 }
 
 // The whole answer, live and clear with it.
@@ -152,14 +145,10 @@ fn answered(t: Trial, run: Run, g: CallResult) -> Trial {
 
 // Opens a sheet; one that can't be written counts as a difference.
 pub fn opened(sheet: Sheet, tally: [u64; 40]) -> Trial {
-    let mut bytes = [0u8; 192];
-    let written = write_sheet(sheet, &mut bytes);
-    let len = match written {
-        Written::Refused(_) => 0,
-        Written::Bytes(n) => n,
-    };
+    let tape = sheet_tape(sheet);
+    let bytes = tape.bytes;
     let run = no_instants();
-    let g = open(front(&bytes, len));
+    let g = open(front(&bytes, tape.len));
     let monitor = g.monitor;
     let t = Trial {
         sheet,
@@ -214,4 +203,19 @@ pub fn refused(t: Trial, v: Instant, how: u64) -> Trial {
         answer,
         tally: count(told, at),
     }
+}
+
+// Opens a sheet with its lines out of order, which is refused.
+pub fn not_opened(x: Disordered, told: [u64; 40]) -> [u64; 40] {
+    let tape = x.tape;
+    let bytes = tape.bytes;
+    let due = x.refusal;
+    let g = open(front(&bytes, tape.len));
+    let reply = g.reply;
+    if is_refused(reply, due) {
+        let t = count(told, tally::REFUSED);
+        let t = count_if(due == number::NINTH_SPORADIC, t, tally::BY_NINTH);
+        return count_if(due == number::NOT_ABOVE, t, tally::BY_ORDER);
+    }
+    count(told, tally::DIFFERENT)
 }

@@ -2,16 +2,22 @@
 mod instant_values;
 mod instants;
 mod long;
+mod order_table;
 mod places;
 mod room;
 mod sheet_lines;
+mod sheet_order;
 mod sheet_refusals;
 mod sheet_tables;
 mod sheet_values;
 mod sheets;
+mod sorting;
 mod tags;
 mod tape;
 mod text;
+mod unordered;
+mod value_order;
+mod values;
 
 fn main() {
     tags::all();
@@ -19,7 +25,12 @@ fn main() {
     sheets::all();
     sheet_refusals::all();
     sheet_tables::all();
+    sheet_order::all();
+    order_table::all();
+    unordered::all();
     sheet_values::all();
+    value_order::all();
+    sorting::all();
     instants::all();
     instant_values::all();
     long::all();

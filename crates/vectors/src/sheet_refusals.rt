@@ -2,9 +2,9 @@
 use crate::sheets::eight_sporadic;
 use crate::sheets::read_case;
 use crate::sheets::sixteen_lines;
+use crate::sheets::sporadic_and;
 use crate::sheets::tape_case;
 use crate::tape::with;
-use crate::tape::with_times;
 use crate::text::heading;
 
 fn torn() {
@@ -93,8 +93,7 @@ fn two_faults() {
 }
 
 fn two_faults_late() {
-    let implies = b"\x02\x00\x12\x00\x00\x01";
-    let sporadic = b"\x04\x00\x10\x00\x00\x01\xFF\xFF";
+    let sporadic = b"\x04\x00\x10\x00\x00\x01\xFF\x08";
     tape_case(
         b"seventeenth line, kind 24",
         with(sixteen_lines(), b"\x02\x00\x18\x00\x00\x01"),
@@ -105,15 +104,15 @@ fn two_faults_late() {
     );
     tape_case(
         b"seventeenth line, bad clock",
-        with(sixteen_lines(), b"\x02\x00\x12\x00\x02\x02"),
+        with(sixteen_lines(), b"\x02\x00\x12\x00\x08\x08"),
     );
     tape_case(
         b"seventeenth line, torn",
-        with(sixteen_lines(), b"\x02\x00\x12\x00\x00"),
+        with(sixteen_lines(), b"\x02\x00\x12\x00\x02"),
     );
     tape_case(
         b"seventeenth line, ninth sporadic",
-        with(with_times(eight_sporadic(), implies, 8), sporadic),
+        with(sporadic_and(8), sporadic),
     );
     tape_case(
         b"ninth sporadic, wrong length",
@@ -121,13 +120,13 @@ fn two_faults_late() {
     );
     tape_case(
         b"ninth sporadic, bad clock",
-        with(eight_sporadic(), b"\x04\x00\x10\x00\x00\x02\xFF\xFF"),
+        with(eight_sporadic(), b"\x04\x00\x10\x00\x00\x08\xFF\xFF"),
     );
     tape_case(
         b"ninth sporadic, then bad clock",
         with(
             with(eight_sporadic(), sporadic),
-            b"\x02\x00\x12\x00\x02\x02",
+            b"\x02\x00\x12\x00\x08\x08",
         ),
     );
 }

@@ -13,7 +13,7 @@ use records::sheet::read_sheet;
 ghost use Prim.Native.Nat.{_≤_, _<_};
 
 // 'taken' or a refusal's number, a space before it.
-fn cell(r: SheetRead) {
+pub fn cell(r: SheetRead) {
     say(b" ");
     let answer = r.answer;
     match answer {

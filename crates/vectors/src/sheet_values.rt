@@ -5,45 +5,21 @@ use crate::room::outcome;
 use crate::text::case;
 use crate::text::end;
 use crate::text::heading;
+use crate::values::delayed;
+use crate::values::implies;
+use crate::values::relation;
+use crate::values::rising;
+use crate::values::rising_sporadic;
+use crate::values::sheet_of;
+use crate::values::sporadic;
+use crate::values::with_line;
 use records::line::Line;
-use records::line::Slot;
 use records::sheet::Sheet;
 use records::sheet::write_sheet;
-ghost use Prim.Native.Nat.{_≤_, _<_};
-
-// A sheet whose line places all hold one line; the first `count` are its lines.
-fn sheet_of(clocks: u8, count: usize, line: Line) -> Sheet {
-    let lines = [Slot { line }; 16];
-    Sheet {
-        clocks,
-        count,
-        lines,
-    }
-}
-
-// A sheet with another line at a place.
-fn with_line(s: Sheet, at: usize, line: Line) -> Sheet
-    requires { ⌜ at < 16 ⌝ }
-{
-    let mut next = s;
-    next.lines[at] = Slot { line };
-    next
-}
-
-fn sporadic(a: u8, b: u8, t: i16) -> Line {
-    Line::Sporadic { a, b, t }
-}
-
-fn relation(a: u8, b: u8, p: i16, q: i16) -> Line {
-    Line::Relation { a, b, p, q }
-}
-
-fn delayed(a: u8, b: u8, d: u8, by: u16) -> Line {
-    Line::Delayed { a, b, d, by }
-}
+ghost use Prim.Native.Nat.{_≤_};
 
 // Writes a sheet into the first `size` bytes of the room.
-fn write_case(name: &[u8], sheet: Sheet, size: usize)
+pub fn write_case(name: &[u8], sheet: Sheet, size: usize)
     requires { ⌜ size ≤ 192 ⌝ }
 {
     case(name);
@@ -68,7 +44,7 @@ fn both_case(name: &[u8], s: Sheet, t: Sheet) {
 fn eight_kinds() -> Sheet {
     let s = sheet_of(3, 8, sporadic(0, 1, -3));
     let s = with_line(s, 1, relation(0, 1, 60, -1));
-    let s = with_line(s, 2, Line::Implies { a: 1, b: 2 });
+    let s = with_line(s, 2, implies(1, 2));
     let s = with_line(s, 3, Line::Excludes { a: 2, b: 0 });
     let s = with_line(s, 4, delayed(0, 1, 2, 100));
     let s = with_line(s, 5, Line::Weakly { a: 0, b: 2 });
@@ -109,19 +85,13 @@ fn ends() {
 
 fn limits() {
     heading(b"Sheet values to write: limits");
-    let implies = Line::Implies { a: 0, b: 1 };
-    let at_zero = sporadic(0, 1, 0);
-    write_case(b"C = 0", sheet_of(0, 0, implies), 192);
-    write_case(b"C = 9", sheet_of(9, 1, implies), 192);
-    write_case(b"17 lines", sheet_of(2, 17, implies), 192);
-    write_case(b"16 lines, just room", sheet_of(2, 16, implies), 101);
-    write_case(
-        b"16 lines, room a byte short",
-        sheet_of(2, 16, implies),
-        100,
-    );
-    write_case(b"8 sporadic lines, just room", sheet_of(2, 8, at_zero), 69);
-    write_case(b"9 sporadic lines", sheet_of(2, 9, at_zero), 192);
+    write_case(b"C = 0", sheet_of(0, 0, implies(0, 1)), 192);
+    write_case(b"C = 9", sheet_of(9, 1, implies(0, 1)), 192);
+    write_case(b"17 lines", rising(17), 192);
+    write_case(b"16 lines, just room", rising(16), 101);
+    write_case(b"16 lines, room a byte short", rising(16), 100);
+    write_case(b"8 sporadic lines, just room", rising_sporadic(8), 69);
+    write_case(b"9 sporadic lines", rising_sporadic(9), 192);
 }
 
 // A sheet of two clocks and one line.
@@ -138,52 +108,56 @@ fn clock_numbers() {
 }
 
 fn two_faults() {
-    let bad = Line::Excludes { a: 0, b: 2 };
-    let good = sporadic(0, 1, 0);
+    let bad = Line::Excludes { a: 0, b: 8 };
     write_case(b"C = 9 and 17 lines", sheet_of(9, 17, bad), 0);
-    write_case(b"17 lines and a bad clock", sheet_of(2, 17, bad), 0);
-    write_case(b"bad clock and no room", sheet_of(2, 1, bad), 0);
-    write_case(b"9 sporadic lines and no room", sheet_of(2, 9, good), 0);
+    write_case(b"17 lines and a bad clock", sheet_of(8, 17, bad), 0);
+    write_case(b"bad clock and no room", sheet_of(8, 1, bad), 0);
+    write_case(b"9 sporadic lines and no room", rising_sporadic(9), 0);
     write_case(
         b"ninth sporadic with a bad clock",
-        with_line(sheet_of(2, 9, good), 8, sporadic(2, 1, 0)),
+        with_line(rising_sporadic(9), 8, sporadic(8, 1, 0)),
         192,
     );
     write_case(
         b"ninth sporadic, then a bad clock",
-        with_line(sheet_of(2, 10, good), 9, bad),
+        with_line(rising_sporadic(10), 9, bad),
         192,
     );
     write_case(
         b"bad clock, then a ninth sporadic",
-        with_line(sheet_of(2, 10, good), 0, bad),
+        with_line(rising_sporadic(10), 0, bad),
         192,
     );
 }
 
 fn unused() {
     heading(b"Sheet values to write: unused places");
-    let implies = Line::Implies { a: 0, b: 1 };
+    let line = implies(0, 1);
     let kills = Line::Kills { a: 7, b: 9 };
     both_case(
         b"no line, other lines past it",
-        sheet_of(2, 0, implies),
+        sheet_of(2, 0, line),
         sheet_of(2, 0, kills),
     );
     both_case(
         b"1 line, other lines past it",
-        sheet_of(2, 1, implies),
-        with_line(sheet_of(2, 1, kills), 0, implies),
+        sheet_of(2, 1, line),
+        with_line(sheet_of(2, 1, kills), 0, line),
     );
     both_case(
         b"15 lines, another line past them",
-        sheet_of(2, 15, implies),
-        with_line(sheet_of(2, 15, implies), 15, kills),
+        rising(15),
+        with_line(rising(15), 15, kills),
+    );
+    both_case(
+        b"15 lines, the last again past them",
+        rising(15),
+        with_line(rising(15), 15, implies(1, 6)),
     );
     both_case(
         b"16 lines, the last another",
-        sheet_of(2, 16, implies),
-        with_line(sheet_of(2, 16, implies), 15, Line::Kills { a: 0, b: 1 }),
+        rising(16),
+        with_line(rising(16), 15, Line::Kills { a: 0, b: 1 }),
     );
 }
 

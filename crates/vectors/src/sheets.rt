@@ -6,7 +6,7 @@ use crate::tape::Tape;
 use crate::tape::clocks;
 use crate::tape::front;
 use crate::tape::with;
-use crate::tape::with_times;
+use crate::tape::with_rising;
 use crate::text::case;
 use crate::text::counted;
 use crate::text::end;
@@ -16,6 +16,7 @@ use crate::text::say;
 use crate::text::wide;
 use records::record::Decision;
 use records::sheet::Sheet;
+use records::sheet::SheetRead;
 use records::sheet::read_sheet;
 use records::sheet::write_sheet;
 
@@ -29,10 +30,9 @@ fn taken(sheet: Sheet, bytes: &[u8]) {
     written_back(written, room, bytes);
 }
 
-// Reads a sheet and writes it back; what was read.
-fn read(name: &[u8], bytes: &[u8]) -> Sheet {
+// What came of reading a sheet, which is written back.
+pub fn shown(name: &[u8], r: SheetRead, bytes: &[u8]) {
     case(name);
-    let r = read_sheet(bytes);
     let answer = r.answer;
     let sheet = r.sheet;
     match answer {
@@ -40,15 +40,21 @@ fn read(name: &[u8], bytes: &[u8]) -> Sheet {
         Decision::Done => taken(sheet, bytes),
     }
     end();
-    sheet
+}
+
+// The same, and its lines.
+pub fn listed(name: &[u8], r: SheetRead, bytes: &[u8]) {
+    shown(name, r, bytes);
+    let sheet = r.sheet;
+    rows(sheet);
 }
 
 pub fn read_case(name: &[u8], bytes: &[u8]) {
-    read(name, bytes);
+    shown(name, read_sheet(bytes), bytes);
 }
 
 fn listed_case(name: &[u8], bytes: &[u8]) {
-    rows(read(name, bytes));
+    listed(name, read_sheet(bytes), bytes);
 }
 
 pub fn tape_case(name: &[u8], t: Tape) {
@@ -68,51 +74,59 @@ fn whole() {
     );
     listed_case(
         b"t, p, q and d at their ends",
-        b"\x01\x00\x01\x00\x01\x04\x00\x10\x00\x00\x00\x00\x80\x04\x00\x10\x00\x00\x00\xFF\x7F\x06\x00\x11\x00\x00\x00\x00\x80\xFF\x7F\x06\x00\x11\x00\x00\x00\xFF\xFF\x00\x00\x05\x00\x14\x00\x00\x00\x00\xFF\xFF\x05\x00\x14\x00\x00\x00\x00\x00\x00",
+        b"\x01\x00\x01\x00\x01\x04\x00\x10\x00\x00\x00\x00\x80\x04\x00\x10\x00\x00\x00\xFF\x7F\x06\x00\x11\x00\x00\x00\x00\x80\xFF\x7F\x06\x00\x11\x00\x00\x00\xFF\xFF\x00\x00\x05\x00\x14\x00\x00\x00\x00\x00\x00\x05\x00\x14\x00\x00\x00\x00\xFF\xFF",
     );
     listed_case(
-        b"a repeated line, and a clock in both places",
-        b"\x01\x00\x01\x00\x08\x02\x00\x13\x00\x07\x07\x02\x00\x13\x00\x07\x07",
+        b"a clock in both places",
+        b"\x01\x00\x01\x00\x08\x02\x00\x13\x00\x07\x07\x02\x00\x15\x00\x07\x07",
     );
     read_case(b"one clock, no line", b"\x01\x00\x01\x00\x01");
     read_case(b"eight clocks, no line", b"\x01\x00\x01\x00\x08");
 }
 
-// Two clocks and 16 lines.
+// Eight clocks and 16 lines.
 pub fn sixteen_lines() -> Tape {
-    with_times(clocks(2), b"\x02\x00\x12\x00\x00\x01", 16)
+    let eight = with_rising(clocks(8), b"\x02\x00\x12\x00\x00\x00", 8);
+    with_rising(eight, b"\x02\x00\x12\x00\x01\x00", 8)
 }
 
-// Two clocks and 8 sporadic lines.
+// Eight clocks and 8 sporadic lines.
 pub fn eight_sporadic() -> Tape {
-    with_times(clocks(2), b"\x04\x00\x10\x00\x00\x01\xFF\xFF", 8)
+    with_rising(clocks(8), b"\x04\x00\x10\x00\x00\x01\xFF\x00", 8)
+}
+
+// Eight clocks, 8 sporadic lines and so many others.
+pub fn sporadic_and(others: u8) -> Tape {
+    with_rising(eight_sporadic(), b"\x02\x00\x12\x00\x00\x00", others)
+}
+
+// Eight clocks and 8 lines, then 8 sporadic ones: the ninth line is below the eighth.
+pub fn sporadic_behind() -> Tape {
+    let eight = with_rising(clocks(8), b"\x02\x00\x12\x00\x00\x00", 8);
+    with_rising(eight, b"\x04\x00\x10\x00\x00\x01\xFF\x00", 8)
 }
 
 fn line_counts() {
     heading(b"Sheets to read: how many lines");
-    let implies = b"\x02\x00\x12\x00\x00\x01";
-    let sporadic = b"\x04\x00\x10\x00\x00\x01\xFF\xFF";
+    let sporadic = b"\x04\x00\x10\x00\x00\x01\xFF\x08";
     let relation = b"\x06\x00\x11\x00\x00\x01\x3C\x00\x00\x00";
     tape_case(b"16 lines", sixteen_lines());
-    tape_case(b"17 lines", with(sixteen_lines(), implies));
+    tape_case(
+        b"17 lines",
+        with(sixteen_lines(), b"\x02\x00\x12\x00\x02\x00"),
+    );
     tape_case(
         b"16 lines of the longest kind",
-        with_times(clocks(2), relation, 16),
+        with_rising(clocks(2), relation, 16),
     );
     tape_case(b"8 sporadic lines", eight_sporadic());
     tape_case(b"9 sporadic lines", with(eight_sporadic(), sporadic));
-    tape_case(
-        b"8 sporadic lines, then 8 others",
-        with_times(eight_sporadic(), implies, 8),
-    );
+    tape_case(b"8 sporadic lines, then 8 others", sporadic_and(8));
     tape_case(
         b"8 sporadic lines, 7 others, a ninth sporadic",
-        with(with_times(eight_sporadic(), implies, 7), sporadic),
+        with(sporadic_and(7), sporadic),
     );
-    tape_case(
-        b"8 others, then 8 sporadic lines",
-        with_times(with_times(clocks(2), implies, 8), sporadic, 8),
-    );
+    tape_case(b"8 others, then 8 sporadic lines", sporadic_behind());
 }
 
 pub fn all() {

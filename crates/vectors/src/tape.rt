@@ -53,3 +53,30 @@ pub fn with_times(t: Tape, piece: &[u8], times: usize) -> Tape {
     }
     longer
 }
+
+// A tape with a piece after it, so much added to the piece's last byte.
+fn with_raised(t: Tape, piece: &[u8], by: u8) -> Tape {
+    let longer = with(t, piece);
+    let len = longer.len;
+    let mut bytes = longer.bytes;
+    if len == 0 {
+        return longer;
+    }
+    if 192 < len {
+        return longer;
+    }
+    let last = bytes[len - 1];
+    bytes[len - 1] = std::num::wrapping_add_u8(last, by);
+    Tape { bytes, len }
+}
+
+// A tape with a piece after it several times, each time one more added to its last byte.
+pub fn with_rising(t: Tape, piece: &[u8], times: u8) -> Tape {
+    let mut longer = t;
+    let mut i = 0;
+    while i < times {
+        longer = with_raised(longer, piece, i);
+        i += 1;
+    }
+    longer
+}

@@ -8,6 +8,7 @@ use lib.ListN.{length}
 use borrow.Author.Tests.{ltb-false}
 use Rattle.records.specs.declared.record.Decision.{Decision}
 use Rattle.records.specs.declared.record.Decision.the-variants.{Done, Refused}
+use Rattle.records.specs.declared.order.Order.the-variants.{Any}
 use Rattle.records.specs.Outcome.{Outcome, taken, refused, decide}
 use Rattle.records.specs.Sheet.{SheetValue, lineAt, sheetValue, sheetValueChecks}
 use Rattle.records.specs.Inner.{answered, Checked}
@@ -27,19 +28,19 @@ refused-not : {A : Type 0} (o : Outcome A) {n : ℕ} → answered o ≡ Refused 
 refused-not (taken v) e = let z : _≡_ {A = ℕ} 0 1 = cc in absurd (omega arith)
 refused-not (refused n) e = refl
 
-few : (v : SheetValue) (o : Outcome SheetValue) → decide (sheetValueChecks v) v ≡ o → isTaken o ≡ true → length (v .lines) ≤ 16
-few v (taken w) e t = ltb-false 16 (length (v .lines)) (taken-passed (sheetValueChecks v) e .0 .1 .0)
+few : (v : SheetValue) (o : Outcome SheetValue) → decide (sheetValueChecks Any v) v ≡ o → isTaken o ≡ true → length (v .lines) ≤ 16
+few v (taken w) e t = ltb-false 16 (length (v .lines)) (taken-passed (sheetValueChecks Any v) e .0 .1 .0)
 few v (refused n) e t = let z : _≡_ {A = ℕ} 0 1 = cc in absurd (omega arith)
 
-module _ (m : Monitor) (a : Decision) (h : Checked (m .sheet) a) where
+module _ (m : Monitor) (a : Decision) (h : Checked Any (m .sheet) a) where
   pub sheet-kept : a ≡ Done → sheetWithin (sheetValue (m .sheet)) ≡ true
   unfolding sheetWithin
-  sheet-kept e = done-taken (decide (sheetValueChecks (sheetValue (m .sheet))) (sheetValue (m .sheet))) (sym (h .answer) ∙ e)
+  sheet-kept e = done-taken (decide (sheetValueChecks Any (sheetValue (m .sheet))) (sheetValue (m .sheet))) (sym (h .answer) ∙ e)
 
   pub few-lines : a ≡ Done → m .sheet .count ≤ 16
   few-lines e =
       let v = sheetValue (m .sheet) in
-      let k = few v (decide (sheetValueChecks v) v) refl (done-taken (decide (sheetValueChecks v) v) (sym (h .answer) ∙ e)) in
+      let k = few v (decide (sheetValueChecks Any v) v) refl (done-taken (decide (sheetValueChecks Any v) v) (sym (h .answer) ∙ e)) in
       omega (arith, length-listed (lineAt (m .sheet)) (m .sheet .count))
 
   -- ---- in turn
@@ -49,7 +50,7 @@ module _ (m : Monitor) (a : Decision) (h : Checked (m .sheet) a) where
   within-not e =
       let v = sheetValue (m .sheet) in
       record {
-        answer = sym (rw (refused-not (decide (sheetValueChecks v) v) (sym (h .answer) ∙ e)));
+        answer = sym (rw (refused-not (decide (sheetValueChecks Any v) v) (sym (h .answer) ∙ e)));
         value = λ z. let y : _≡_ {A = ℕ} 0 1 = cc in absurd (omega arith);
       }
 

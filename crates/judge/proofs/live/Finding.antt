@@ -11,6 +11,7 @@ use Rattle.records.specs.declared.record.Decision.{Decision}
 use Rattle.records.specs.declared.record.Decision.the-variants.{Done, Refused}
 use Rattle.records.specs.declared.sheet.Sheet.{Sheet}
 use Rattle.records.specs.Sheet.{sheetValue}
+use Rattle.records.specs.declared.order.Order.the-variants.{Any}
 use Rattle.records.specs.Inner.{Checked}
 use Rattle.records.proofs.Lists.{both}
 use Rattle.tesl.proofs.Tests.{≡→T}
@@ -51,9 +52,9 @@ module _ (w : List ℕ) (size : length w ≡ words) {k : Progress} (kept : k ≡
   unfolding stateWithin
   outside l n = none n (ap (λ (x : Bool). isState w && x) (sym (l .answer)) ∙ and-false (isState w))
 
-  module _ {s : Sheet} (sheet : s ≡ stateSheet w) {a : Decision} (checked : Checked s a) where
-    here : Checked (stateSheet w) a
-    here = subst (λ (x : Sheet). Checked x a) sheet checked
+  module _ {s : Sheet} (sheet : s ≡ stateSheet w) {a : Decision} (checked : Checked Any s a) where
+    here : Checked Any (stateSheet w) a
+    here = subst (λ (x : Sheet). Checked Any x a) sheet checked
 
     pub found-refused : {n : ℕ} → a ≡ Refused n → {f : Found} {lines : List ℕ} → NothingFound k f → FoundIn w f lines
     found-refused e n = outside (within-not (stateMonitor w) a here e) n

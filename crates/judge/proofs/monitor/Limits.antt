@@ -7,6 +7,7 @@ use native.Mathlib.Omega.{arith}
 use lib.Dec.{T, leb, ltb, leb→le, le→leb, lt→ltb}
 use lib.ListN.{length, take, length-map}
 use lib.Seq.{length-take-le}
+use Rattle.records.specs.declared.order.Order.the-variants.{Any}
 use Rattle.records.specs.Outcome.{Outcome, taken, refused, decide}
 use Rattle.records.specs.Sheet.{SheetValue, lineAt, sheetValueChecks}
 use Rattle.records.specs.Types.{All, IsSheet}
@@ -47,13 +48,13 @@ all-map p f (x ∷ xs) = ap (λ (b : Bool). p (f x) && b) (all-map p f xs)
 
 -- ---- the sheet
 
-passed : (v : SheetValue) (o : Outcome SheetValue) → decide (sheetValueChecks v) v ≡ o → isTaken o ≡ true → IsSheet v → SheetLimits v
-passed v (taken w) e t h = checked-limits v h (taken-passed (sheetValueChecks v) e .0)
+passed : (v : SheetValue) (o : Outcome SheetValue) → decide (sheetValueChecks Any v) v ≡ o → isTaken o ≡ true → IsSheet v → SheetLimits v
+passed v (taken w) e t h = checked-limits Any v h (taken-passed (sheetValueChecks Any v) e .0)
 passed v (refused n) e t h = absurd (≡→T t)
 
 pub sheet-limits : (v : SheetValue) → IsSheet v → T (sheetWithin v) → SheetLimits v
 unfolding sheetWithin
-sheet-limits v h t = passed v (decide (sheetValueChecks v) v) refl (T→≡ _ t) h
+sheet-limits v h t = passed v (decide (sheetValueChecks Any v) v) refl (T→≡ _ t) h
 
 -- ---- a remainder
 

@@ -8,13 +8,15 @@ use native.Mathlib.Omega.{arith}
 use lib.Dec.{T}
 use lib.IntN.{pos}
 use lib.ListN.{length}
+use Rattle.records.specs.declared.order.Order.the-variants.{Rising, Any}
 use Rattle.records.specs.declared.record.Decision.the-variants as told
 use Rattle.records.specs.declared.sheet.Sheet.{Sheet}
 use Rattle.records.specs.declared.sheet.SheetRead.{SheetRead}
 use Rattle.records.specs.Outcome.{Outcome, taken, refused}
-use Rattle.records.specs.Sheet.{SheetValue, sheetValue, sheetRead, readSheet}
+use Rattle.records.specs.Sheet.{SheetValue, sheetValue, sheetRead, readSheet, sheetValueChecks}
 use Rattle.records.specs.Types.{IsBytes, IsSheet}
-use Rattle.records.proofs.Lists.{refused-taken}
+use Rattle.records.proofs.Lists.{refused-taken, taken-passed, passed-taken}
+use Rattle.records.proofs.sheet.Passed.{passed-any}
 use Rattle.records.proofs.sheet.RoundTrip.{read-writes, sheetOf-value}
 use Rattle.tesl.specs.Lists.{all, any, flatMap}
 use Rattle.tesl.specs.Fits.{Obligation, owedAtStart, unmet}
@@ -91,7 +93,7 @@ module _ (s : SheetValue) (l : SheetLimits s) where
 
 module _ (b : List ℕ) (bytes : IsBytes b) (s : SheetValue) (e : readSheet b ≡ taken s) where
   l : SheetLimits s
-  l = read-limits b bytes e
+  l = read-limits Rising 23 b bytes e
 
   -- a monitor that holds the remainder of no instant
   module _ (m : Monitor) (same : sheetBy m ≡ s) (none : m .instants ≡ 0) (holds : heldBy m ≡ some (held s l ∷ [])) (fits : T (sized (m .held))) where
@@ -102,7 +104,7 @@ module _ (b : List ℕ) (bytes : IsBytes b) (s : SheetValue) (e : readSheet b �
     unfolding sheetWithin
     sheet-within =
         subst (λ (v : SheetValue). T (sheetWithin v)) (sym same)
-        (subst (λ (o : Outcome SheetValue). T (isTaken o)) (sym (read-writes b bytes e .checks)) tt)
+        (subst (λ (o : Outcome SheetValue). T (isTaken o)) (sym (passed-taken (sheetValueChecks Any s) s (passed-any Rising s (taken-passed (sheetValueChecks Rising s) (read-writes Rising 23 b bytes e .checks) .0)))) tt)
 
     views : T (all (withinLimits (m .sheet .clocks) (m .instants)) (heldList (heldBy m)))
     views = rw (holds, ap (λ (v : SheetValue). v .clocks) same, none)
@@ -133,7 +135,7 @@ module _ (b : List ℕ) (bytes : IsBytes b) (s : SheetValue) (e : readSheet b �
     follows-begun = follows (rowsMonitor sheet firstProgress rows) same refl holds-begun (sized-rows rows headRows (Live 1) (begun .small))
 
     pub ready-begun : {p : Plan} {lines : List ℕ} → PlanOf sheet p lines → Ready sheet firstProgress p lines rows
-    ready-begun plan = record { value = subst IsSheet (sym same) (read-writes b bytes e .value); planned = plan .planned; limits = follows-begun .limits }
+    ready-begun plan = record { value = subst IsSheet (sym same) (read-writes Rising 23 b bytes e .value); planned = plan .planned; limits = follows-begun .limits }
 
 -- ---- a refused one: no clock is within the limits
 
@@ -151,7 +153,7 @@ module _ (b : List ℕ) (x : SheetRead) (e : x ≡ sheetRead (readSheet b)) wher
   prepares-read bytes {lines} size = by-outcome (readSheet b) refl
     where
       by-outcome : (o : Outcome SheetValue) → readSheet b ≡ o → Preparing (x .sheet) lines
-      by-outcome (taken s) h = let l = read-limits b bytes h in rw (e, h) (record { few-lines = l .lines-most; few-clocks = l .clocks-most; size = size })
+      by-outcome (taken s) h = let l = read-limits Rising 23 b bytes h in rw (e, h) (record { few-lines = l .lines-most; few-clocks = l .clocks-most; size = size })
       by-outcome (refused n) h = rw (e, h) (record { few-lines = omega arith; few-clocks = omega arith; size = size })
 
   pub read-answer : {n : ℕ} → x .answer ≡ told.Refused n → readSheet b ≡ refused n

@@ -10,6 +10,7 @@ use lib.Dec.{leb}
 use borrow.Author.Tests.{lt-ltb, le-ltb, le-leb, lt-leb, eq-eqb, ne-eqb, not-true, not-false}
 use Rattle.records.specs.declared.line.Line.{Line}
 use Rattle.records.specs.declared.line.Shape.{Shape}
+use Rattle.records.specs.declared.line.LineRead.{LineRead}
 use Rattle.records.specs.declared.line.LineRead.the-variants.{Read, Refused}
 use Rattle.records.specs.declared.record.Decision.the-variants as answer
 use Rattle.records.specs.Outcome.{decide}
@@ -51,36 +52,43 @@ module _ (kind : ℕ) (body : List ℕ) (s : Shape) (e : s ≡ shapeOf kind) (l 
   room = let f = ap (λ (r : Shape). r .clocks) e in omega (arith, clocks-within kind, size)
 
 -- the answers of `read_line`, in the shapes that its places hold
-module _ (c lines spent kind : ℕ) (body : List ℕ) where
-  pub read-8 : 16 ≤ lines → Refused 8 ≡ lineRead (decide (lineChecks c lines spent (whole kind body)) (lineOf kind body))
+module _ (last c lines spent kind : ℕ) (body : List ℕ) where
+  -- what it is to answer
+  abbrev due : LineRead
+  due = lineRead (decide (lineChecks last c lines spent (whole kind body)) (lineOf kind body))
+
+  pub read-8 : 16 ≤ lines → Refused 8 ≡ due
   read-8 h = rw (le-leb 16 lines h)
 
   module _ (h : lines < 16) (s : Shape) (e : s ≡ shapeOf kind) where
-    pub read-5 : not (s .line) ≡ true → Refused 5 ≡ lineRead (decide (lineChecks c lines spent (whole kind body)) (lineOf kind body))
+    pub read-5 : not (s .line) ≡ true → Refused 5 ≡ due
     read-5 k =
         let t : isLine kind ≡ false = sym (ap (λ (r : Shape). r .line) e) ∙ not-true (s .line) k in
         rw (lt-leb 16 lines h, t)
 
     module _ (k : not (s .line) ≡ false) where
-      pub read-6 : (length body ≡ s .length → ⊥) → Refused 6 ≡ lineRead (decide (lineChecks c lines spent (whole kind body)) (lineOf kind body))
-      read-6 n =
-          let t : length body ≡ lengthOf kind → ⊥ = λ f. n (f ∙ sym (ap (λ (r : Shape). r .length) e)) in
-          rw (lt-leb 16 lines h, known kind s e k, ne-eqb (length body) (lengthOf kind) t)
+      pub read-later : last < kind → Refused 5 ≡ due
+      read-later g = rw (lt-leb 16 lines h, known kind s e k, lt-leb kind last g)
 
-      module _ (l : length body ≡ s .length) where
-        module _ (b : Bool) (f : b ≡ allBelow c (take (s .clocks) body)) where
+      module _ (g : kind ≤ last) where
+        pub read-6 : (length body ≡ s .length → ⊥) → Refused 6 ≡ due
+        read-6 n =
+            let t : length body ≡ lengthOf kind → ⊥ = λ f. n (f ∙ sym (ap (λ (r : Shape). r .length) e)) in
+            rw (lt-leb 16 lines h, known kind s e k, le-leb kind last g, ne-eqb (length body) (lengthOf kind) t)
+
+        module _ (l : length body ≡ s .length) (b : Bool) (f : b ≡ allBelow c (take (s .clocks) body)) where
           below : b ≡ allBelow c (take (clocksOf kind) body)
           below = f ∙ ap (λ (r : Shape). allBelow c (take (r .clocks) body)) e
 
-          pub read-7 : not b ≡ true → Refused 7 ≡ lineRead (decide (lineChecks c lines spent (whole kind body)) (lineOf kind body))
-          read-7 n = rw (lt-leb 16 lines h, known kind s e k, eq-eqb (length body) (lengthOf kind) (size kind body s e l), sym below ∙ not-true b n)
+          pub read-7 : not b ≡ true → Refused 7 ≡ due
+          read-7 n = rw (lt-leb 16 lines h, known kind s e k, le-leb kind last g, eq-eqb (length body) (lengthOf kind) (size kind body s e l), sym below ∙ not-true b n)
 
-          module _ (g : not b ≡ false) (n : Bool) (p : n ≡ (isSporadic kind && leb 8 spent)) where
-            pub read-9 : n ≡ true → Refused 9 ≡ lineRead (decide (lineChecks c lines spent (whole kind body)) (lineOf kind body))
-            read-9 t = rw (lt-leb 16 lines h, known kind s e k, eq-eqb (length body) (lengthOf kind) (size kind body s e l), sym below ∙ not-false b g, sym p ∙ t)
+          module _ (i : not b ≡ false) (n : Bool) (p : n ≡ (isSporadic kind && leb 8 spent)) where
+            pub read-9 : n ≡ true → Refused 9 ≡ due
+            read-9 t = rw (lt-leb 16 lines h, known kind s e k, le-leb kind last g, eq-eqb (length body) (lengthOf kind) (size kind body s e l), sym below ∙ not-false b i, sym p ∙ t)
 
-            pub read-line : n ≡ false → (x : Line) → x ≡ lineOf kind body → Read x ≡ lineRead (decide (lineChecks c lines spent (whole kind body)) (lineOf kind body))
-            read-line t x q = rw (lt-leb 16 lines h, known kind s e k, eq-eqb (length body) (lengthOf kind) (size kind body s e l), sym below ∙ not-false b g, sym p ∙ t, q)
+            pub read-line : n ≡ false → (x : Line) → x ≡ lineOf kind body → Read x ≡ due
+            read-line t x q = rw (lt-leb 16 lines h, known kind s e k, le-leb kind last g, eq-eqb (length body) (lengthOf kind) (size kind body s e l), sym below ∙ not-false b i, sym p ∙ t, q)
 
 -- the answers of `check_line`
 module _ (c spent : ℕ) (l : Line) (k : ℕ) (s : Shape) (body : List ℕ) (p : k ≡ kindOf l) (e : s ≡ shapeOf k) (f : body ≡ filled 6 0 (bodyOf l)) where

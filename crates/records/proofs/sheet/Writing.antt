@@ -8,6 +8,8 @@ use lib.ListN.{length, set, length-append}
 use lib.Dec.{leb, ltb}
 use borrow.Author.Tests.{le-ltb, lt-ltb, ltb-false, leb-true, not-true, not-false}
 use Rattle.records.specs.declared.line.Line.{Line}
+use Rattle.records.specs.declared.order.Order.{Order}
+use Rattle.records.specs.declared.order.Order.the-variants.{Rising}
 use Rattle.records.specs.declared.sheet.Sheet.{Sheet}
 use Rattle.records.specs.declared.record.Decision.{Decision}
 use Rattle.records.specs.declared.record.Decision.the-variants as answer
@@ -17,7 +19,8 @@ use Rattle.records.specs.Lists.{listedFrom, listed, joined}
 use Rattle.records.specs.Word.{wordBytes}
 use Rattle.records.specs.Store.{puts, wrote, leaves}
 use Rattle.records.specs.Line.{isSporadic, sporadics, valueLineChecks, kindOf, bodyOf, lineBytes}
-use Rattle.records.specs.Sheet.{clockCount, lineAt, sheetValue, valueLinesChecks, sheetValueChecks, sheetBytes, writeSheet}
+use Rattle.records.specs.Order.{keyOf, inOrder}
+use Rattle.records.specs.Sheet.{clockCount, lineAt, sheetValue, orderChecks, valueLinesChecks, sheetValueChecks, sheetBytes, writeSheet}
 use Rattle.records.specs.Types.{All, IsLineValue}
 use Rattle.records.specs.Inner.{sporadicOf, answered, linesFault, LinesChecked, Checked}
 use Rattle.records.proofs.Lists.{both, Passed, taken-passed, decide-passed, decide-refused, all-snoc, listed-cons, listed-end, listed-snoc, length-listed, map-append}
@@ -54,7 +57,7 @@ sporadic-one k = by-test (isSporadic k)
     by-test false = omega arith
 
 -- ---- what an inner answer says of its checks
-refused-done : {X : Type 0} {n : ℕ} → answer.Refused n ≡ answer.Done → X
+pub refused-done : {X : Type 0} {n : ℕ} → answer.Refused n ≡ answer.Done → X
 refused-done e = let z : _≡_ {A = ℕ} 0 1 = cc in absurd (omega arith)
 
 module _ {A : Type 0} (cs : List Check) (x : A) where
@@ -73,48 +76,61 @@ module _ {A : Type 0} (cs : List Check) (x : A) where
       by-outcome (refused m) f e = refused-done e
 
 -- ---- a turn of `check_lines`: the lines below i have passed
-module _ (s : Sheet) (i spent : ℕ) where
+module _ (order : Order) (s : Sheet) (i spent : ℕ) where
   pub record Checking : Type 0 where
     pub counted : spent ≡ sporadics (map kindOf (listed (lineAt s) i))
     pub values : All IsLineValue (listed (lineAt s) i)
-    pub left : linesFault (sheetValue s) ≡ decide (valueLinesChecks (s .clocks) (listed (lineAt s) i) (listedFrom (lineAt s) i (s .count - i))) (sheetValue s)
+    pub left : linesFault order (sheetValue s) ≡ decide (valueLinesChecks order (s .clocks) (listed (lineAt s) i) (listedFrom (lineAt s) i (s .count - i))) (sheetValue s)
 
-pub check-start : (s : Sheet) → Checking s 0 0
+pub check-start : (order : Order) (s : Sheet) → Checking order s 0 0
 unfolding linesFault listedFrom
-check-start s = let k : s .count - 0 ≡ s .count = omega arith in record { counted = refl; values = tt; left = rw k }
+check-start order s = let k : s .count - 0 ≡ s .count = omega arith in record { counted = refl; values = tt; left = rw k }
 
-module _ (s : Sheet) (i spent : ℕ) (c : Checking s i spent) where
-  pub check-end : i ≤ s .count → s .count ≤ i → LinesChecked s answer.Done
+module _ (order : Order) (s : Sheet) (i spent : ℕ) (c : Checking order s i spent) where
+  pub check-end : i ≤ s .count → s .count ≤ i → LinesChecked order s answer.Done
   check-end g h =
       let k : s .count ≡ i = omega arith in
       record { answer = rw (c .left, listed-end (lineAt s) (s .count) i h); values = λ d. rw k (c .values) }
 
   module _ (h : i < s .count) (l : Line) (e : l ≡ lineAt s i) (r : Decision) (f : (r ≡ answered (decide (valueLineChecks (s .clocks) spent (kindOf l) (bodyOf l)) l)) × IsLineValue l) where
-    -- the checks of line i, and of the lines after it
+    -- the checks of line i, its place in the order, and the checks of the lines after it
     abbrev these : List Check
     these = valueLineChecks (s .clocks) (sporadics (map kindOf (listed (lineAt s) i))) (kindOf (lineAt s i)) (bodyOf (lineAt s i))
 
+    abbrev place : List Check
+    place = orderChecks order (map keyOf (listed (lineAt s) i)) (keyOf (lineAt s i))
+
     abbrev later : List Check
-    later = valueLinesChecks (s .clocks) (listed (lineAt s) i ++ (lineAt s i ∷ [])) (listedFrom (lineAt s) (i + 1) (s .count - (i + 1)))
+    later = valueLinesChecks order (s .clocks) (listed (lineAt s) i ++ (lineAt s i ∷ [])) (listedFrom (lineAt s) (i + 1) (s .count - (i + 1)))
 
     here : answered (decide these l) ≡ r
     here = rw (← c .counted, ← e) (sym (f .0))
 
-    turn : linesFault (sheetValue s) ≡ decide (these ++ later) (sheetValue s)
+    turn : linesFault order (sheetValue s) ≡ decide (these ++ (place ++ later)) (sheetValue s)
     turn = c .left ∙ rw (listed-cons (lineAt s) (s .count) i h)
 
-    pub check-refused : {n : ℕ} → r ≡ answer.Refused n → LinesChecked s (answer.Refused n)
+    pub check-refused : {n : ℕ} → r ≡ answer.Refused n → LinesChecked order s (answer.Refused n)
     check-refused g = record {
-      answer = rw (turn, decide-refused later (sheetValue s) these l (answered-refused these l (here ∙ g)));
+      answer = rw (turn, decide-refused (place ++ later) (sheetValue s) these l (answered-refused these l (here ∙ g)));
       values = λ d. refused-done d;
     }
 
-    pub check-more : {m k : ℕ} → r ≡ answer.Done → m ≡ sporadicOf k → k ≡ kindOf l → Checking s (i + 1) (spent + m)
-    check-more g p q = record {
-      counted = rw (listed-snoc (lineAt s) i, map-append, sporadics-snoc, ← c .counted, p, q, e);
-      values = rw (listed-snoc (lineAt s) i, ← e) (all-snoc IsLineValue (listed (lineAt s) i) (c .values) (f .1));
-      left = turn ∙ decide-passed later (sheetValue s) these (answered-done these l (here ∙ g)) ∙ rw (listed-snoc (lineAt s) i);
-    }
+    module _ (g : r ≡ answer.Done) (b : Bool) (o : b ≡ inOrder order (map keyOf (listed (lineAt s) i)) (keyOf l)) where
+      own : linesFault order (sheetValue s) ≡ decide (place ++ later) (sheetValue s)
+      own = turn ∙ decide-passed (place ++ later) (sheetValue s) these (answered-done these l (here ∙ g))
+
+      stands : b ≡ inOrder order (map keyOf (listed (lineAt s) i)) (keyOf (lineAt s i))
+      stands = o ∙ rw e
+
+      pub check-17 : not b ≡ true → LinesChecked order s (answer.Refused 17)
+      check-17 n = record { answer = rw (own, sym stands ∙ not-true b n); values = λ d. refused-done d }
+
+      pub check-more : {m k : ℕ} → not b ≡ false → m ≡ sporadicOf k → k ≡ kindOf l → Checking order s (i + 1) (spent + m)
+      check-more n p q = record {
+        counted = rw (listed-snoc (lineAt s) i, map-append, sporadics-snoc, ← c .counted, p, q, e);
+        values = rw (listed-snoc (lineAt s) i, ← e) (all-snoc IsLineValue (listed (lineAt s) i) (c .values) (f .1));
+        left = own ∙ rw (sym stands ∙ not-false b n, listed-snoc (lineAt s) i);
+      }
 
 -- ---- the bytes of a sheet's lines from i on
 module _ (s : Sheet) (n i : ℕ) where
@@ -159,32 +175,37 @@ pub sheet-stored : (s : Sheet) (b b₁ : List ℕ) → b₁ ≡ puts b 0 (wordBy
 unfolding sheetBytes
 sheet-stored s b b₁ e = rw (e, lines-all)
 
--- the answers of `check_sheet`, in the shapes that its places hold
-module _ (s : Sheet) (t : Bool) (e : t ≡ clockCount (s .clocks)) where
-  pub check-4 : not t ≡ true → Checked s (answer.Refused 4)
+-- the answers of `check_by`, in the shapes that its places hold
+module _ (order : Order) (s : Sheet) (t : Bool) (e : t ≡ clockCount (s .clocks)) where
+  pub check-4 : not t ≡ true → Checked order s (answer.Refused 4)
   check-4 h = record { answer = rw (sym e ∙ not-true t h); value = λ d. refused-done d }
 
   module _ (h : not t ≡ false) where
-    pub check-8 : 16 < s .count → Checked s (answer.Refused 8)
+    pub check-8 : 16 < s .count → Checked order s (answer.Refused 8)
     check-8 g = record { answer = rw (sym e ∙ not-false t h, length-listed, lt-ltb 16 (s .count) g); value = λ d. refused-done d }
 
-    pub check-all : s .count ≤ 16 → {r : Decision} → LinesChecked s r → Checked s r
+    pub check-all : s .count ≤ 16 → {r : Decision} → LinesChecked order s r → Checked order s r
     unfolding linesFault
     check-all g {r} f = record {
       answer = f .answer ∙ rw (sym e ∙ not-false t h, length-listed, le-ltb 16 (s .count) g);
       value = λ d. (omega (arith, leb-true (s .clocks) 8 (both (leb 1 (s .clocks)) (sym e ∙ not-false t h) .1)), f .values d);
     }
 
--- the answers of `write_sheet`
-module _ (s : Sheet) (r : Decision) (f : Checked s r) where
-  abbrev checks : List Check
-  checks = sheetValueChecks (sheetValue s)
-
-  passed : r ≡ answer.Done → Passed checks
-  passed p = answered-done checks (sheetValue s) (sym (f .answer) ∙ p)
+-- what a sheet that passed is
+module _ (order : Order) (s : Sheet) (r : Decision) (f : Checked order s r) where
+  pub checked-passed : r ≡ answer.Done → Passed (sheetValueChecks order (sheetValue s))
+  checked-passed p = answered-done (sheetValueChecks order (sheetValue s)) (sheetValue s) (sym (f .answer) ∙ p)
 
   pub few-lines : r ≡ answer.Done → s .count ≤ 16
-  few-lines p = omega (arith, ltb-false 16 (length (sheetValue s .lines)) (passed p .1 .0), length-listed (lineAt s) (s .count))
+  few-lines p = omega (arith, ltb-false 16 (length (sheetValue s .lines)) (checked-passed p .1 .0), length-listed (lineAt s) (s .count))
+
+-- the answers of `write_sheet`
+module _ (s : Sheet) (r : Decision) (f : Checked Rising s r) where
+  abbrev checks : List Check
+  checks = sheetValueChecks Rising (sheetValue s)
+
+  passed : r ≡ answer.Done → Passed checks
+  passed p = checked-passed Rising s r f p
 
   module _ (b : List ℕ) where
     abbrev last : List Check

@@ -1,9 +1,9 @@
 -- A byte string, byte by byte. Assumes nothing.
 use mathlib.Core.Path.{_≡_, refl, _∙_}
 use mathlib.Core.List.{List, [], _∷_}
-use Prim.Native.Nat.{ℕ, zero, suc, _≤_}
+use Prim.Native.Nat.{ℕ, zero, suc, _≤_, _<_}
 use native.Mathlib.Omega.{arith}
-use lib.ListN.{length, take}
+use lib.ListN.{length, getD, take}
 use lib.Seq.{take-all}
 use Rattle.records.specs.Lists.{listed}
 use Rattle.records.specs.Word.{at}
@@ -20,3 +20,8 @@ first-bytes b n l = listed-take 0 (at b) n b l (λ i l. refl)
 
 pub all-bytes : (b : List ℕ) (n : ℕ) → length b ≡ n → listed (at b) n ≡ b
 all-bytes b n e = first-bytes b n (omega arith) ∙ take-all n b (omega arith)
+
+-- the bytes of a slice are bytes: each fits its type
+pub each-byte : (b : List ℕ) → ((i : ℕ) → getD b i 0 < 256) → IsBytes b
+each-byte [] h = tt
+each-byte (x ∷ b) h = (h 0, each-byte b (λ i. h (suc i)))

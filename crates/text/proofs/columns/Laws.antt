@@ -18,6 +18,7 @@ use Rattle.records.specs.declared.instant.InstantRead.{InstantRead}
 use Rattle.records.specs.declared.sheet.SheetRead.{SheetRead}
 use Rattle.records.specs.Outcome.{Outcome, taken, refused}
 use Rattle.records.specs.Record.{recordAt, spanOf, recordSpan, TheRecord}
+use Rattle.records.specs.declared.order.Order.the-variants.{Rising}
 use Rattle.records.specs.Sheet.{SheetValue, readSheet, sheetRead}
 use Rattle.records.specs.Instant.{Cell, readInstant, instantOf, instantRead}
 use Rattle.records.specs.Store.{puts}
@@ -218,4 +219,4 @@ module _ (sheet log : List ℕ) {x : SheetRead} (r : x ≡ sheetRead (readSheet 
         by-read (refused k) f = let z : Refused k ≡ Done = sym (ap (λ (o : Outcome SheetValue). sheetRead o .answer) f) ∙ sym (ap (λ (y : SheetRead). y .answer) r) ∙ q in let k : _≡_ {A = ℕ} 0 1 = cc in absurd (omega arith)
         by-read (taken s) f =
             let c : x .sheet .clocks ≡ s .clocks = ap (λ (y : SheetRead). y .sheet .clocks) r ∙ ap (λ (o : Outcome SheetValue). sheetRead o .sheet .clocks) f in
-            omega (arith, c, read-limits sheet bytes f .clocks-most)
+            omega (arith, c, read-limits Rising 23 sheet bytes f .clocks-most)

@@ -7,7 +7,7 @@ use borrow.Author.Needs.{needs}
 use Rattle.records.specs.Types.{IsBytes}
 use Rattle.judge.specs.Plan.{numbers, Preparing}
 use Rattle.judge.specs.Rows.{words}
-use Rattle.judge.proofs.monitor.Bytes.{all-bytes}
+use Rattle.records.proofs.word.Bytes.{each-byte}
 use Rattle.judge.proofs.monitor.Opened.{prepares-read}
 use Rattle.judge.proofs.live.Opening.{blank-row, one-held, first-put, opened-refused, small-opened, opened-state}
 use Rattle.judge.proofs.live.open_state.Statement.{statement}
@@ -19,7 +19,7 @@ module _ (r : tie.After-read-sheet) where
   start = r .before .before
 
   read-bytes : IsBytes (r .before .before .args .bytes .now)
-  read-bytes = all-bytes (start .args .bytes .now) (λ i. r .before .shared-slice-known .given i .fits)
+  read-bytes = each-byte (start .args .bytes .now) (λ i. r .before .shared-slice-known .given i .fits)
 
   prepared : Preparing (r .read-sheet .result .sheet) (replicate numbers 0)
   prepared = prepares-read (start .args .bytes .now) (r .read-sheet .result) (r .read-sheet .ensures) read-bytes (length-replicate {A = ℕ} numbers 0)

@@ -16,7 +16,7 @@ use Rattle.judge.specs.Apply.{FewOwedIn, foundIn}
 use Rattle.judge.specs.Progress.{firstProgress}
 use Rattle.judge.specs.Records.{ObservedRecords}
 use Rattle.judge.proofs.rows.Placing.{blank-at}
-use Rattle.judge.proofs.monitor.Bytes.{all-bytes}
+use Rattle.records.proofs.word.Bytes.{each-byte}
 use Rattle.judge.proofs.monitor.Opened.{prepares-read, opened-rows}
 use Rattle.judge.proofs.log.Opening.{log-refused, log-observed}
 use Rattle.judge.proofs.log.observe_log.Statement.{statement}
@@ -33,7 +33,7 @@ abbrev read : tie.After-enum-told → tie.After-read-sheet
 read t = t .before .before .before
 
 read-bytes : (r : tie.After-read-sheet) → IsBytes (r .before .before .before .before .args .sheet .now)
-read-bytes r = all-bytes (r .before .before .before .before .args .sheet .now) (λ i. r .before .before .before .shared-slice-known .given i .fits)
+read-bytes r = each-byte (r .before .before .before .before .args .sheet .now) (λ i. r .before .before .before .shared-slice-known .given i .fits)
 
 plan-of-requires : tie.Need-plan-of-requires
 plan-of-requires c κs = let r = read (c .before) in prepares-read _ (r .read-sheet .result) (r .read-sheet .ensures) (read-bytes r) (length-replicate {A = ℕ} numbers 0)

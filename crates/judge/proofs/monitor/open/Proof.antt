@@ -10,13 +10,13 @@ use Rattle.judge.specs.Rows.{width, words, headRows}
 use Rattle.judge.specs.Apply.{FewOwedIn}
 use Rattle.judge.specs.Monitor.{refusal}
 use Rattle.judge.proofs.rows.Placing.{blank-at}
-use Rattle.judge.proofs.monitor.Bytes.{all-bytes}
+use Rattle.records.proofs.word.Bytes.{each-byte}
 use Rattle.judge.proofs.monitor.Opened.{prepares-read, opened-refused, opened-rows, opened-done}
 use Rattle.judge.proofs.monitor.open.Statement.{statement}
 use Rattle.judge.proofs.monitor.open.Tie as tie
 
 read-bytes : (c : tie.After-shared-slice-known) → IsBytes (c .before .args .bytes .now)
-read-bytes c = all-bytes (c .before .args .bytes .now) (λ i. c .shared-slice-known .given i .fits)
+read-bytes c = each-byte (c .before .args .bytes .now) (λ i. c .shared-slice-known .given i .fits)
 
 returns : tie.Need-returns
 returns c =

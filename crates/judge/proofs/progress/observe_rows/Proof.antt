@@ -11,7 +11,7 @@ use Rattle.judge.specs.declared.monitor.Monitor.{Monitor}
 use Rattle.judge.specs.Limits.{Limited}
 use Rattle.judge.specs.Progress.{rowsMonitor, given, Ready}
 use Rattle.judge.specs.Promises.{Called}
-use Rattle.judge.proofs.monitor.Bytes.{all-bytes}
+use Rattle.records.proofs.word.Bytes.{each-byte}
 use Rattle.judge.proofs.monitor.Called.{called-unread, called-full, blank-tags, called}
 use Rattle.judge.proofs.monitor.InRows.{answered-refused, answered-within}
 use Rattle.judge.proofs.progress.Laws.{limited, eight-rows}
@@ -84,7 +84,7 @@ module _ (c : tie.After-work-instant) where
   entry = first (read (room (c .before)))
 
   bytes : IsBytes (entry .args .bytes .now)
-  bytes = all-bytes (entry .args .bytes .now) (λ i. known was-read .shared-slice-known .given i .fits)
+  bytes = each-byte (entry .args .bytes .now) (λ i. known was-read .shared-slice-known .given i .fits)
 
   observes : (s : Sheet) (ready : Ready s (entry .args .progress) (entry .args .plan) (entry .args .lines .now) (entry .args .rows .now)) → Called (rowsMonitor s (entry .args .progress) (entry .args .rows .now)) (entry .args .bytes .now) (given (c .work-instant .result .reply) (rowsMonitor s (c .work-instant .result .progress) (c .work-instant .last .1 .1 .1 .1 .0)))
   observes s ready =

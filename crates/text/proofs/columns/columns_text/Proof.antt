@@ -5,7 +5,7 @@ use native.Mathlib.Omega.{arith}
 use lib.ListN.{length}
 use borrow.Author.Needs.{needs}
 use Rattle.records.specs.Types.{IsBytes}
-use Rattle.judge.proofs.monitor.Bytes.{all-bytes}
+use Rattle.records.proofs.word.Bytes.{each-byte}
 use Rattle.text.specs.Text.{refusalLine}
 use Rattle.text.specs.Output.{columnsText}
 use Rattle.text.proofs.Room.{columns-room}
@@ -18,10 +18,10 @@ abbrev start : tie.After-read-sheet → tie.Start
 start c = c .before .before .before
 
 sheet-bytes : (c : tie.After-read-sheet) → IsBytes (start c .args .sheet .now)
-sheet-bytes c = all-bytes (start c .args .sheet .now) (λ i. c .before .before .shared-slice-known .given i .fits)
+sheet-bytes c = each-byte (start c .args .sheet .now) (λ i. c .before .before .shared-slice-known .given i .fits)
 
 room : (c : tie.After-read-sheet) → length (columnsText (start c .args .sheet .now) (start c .args .log .now)) ≤ 448011
-room c = columns-room (start c .args .sheet .now) (start c .args .log .now) (all-bytes (start c .args .log .now) (λ i. c .before .shared-slice-known2 .given i .fits))
+room c = columns-room (start c .args .sheet .now) (start c .args .log .now) (each-byte (start c .args .log .now) (λ i. c .before .shared-slice-known2 .given i .fits))
 
 put-line-requires : tie.Need-put-line-requires
 put-line-requires c κs =

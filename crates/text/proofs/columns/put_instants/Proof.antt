@@ -8,7 +8,7 @@ use Rattle.records.specs.Record.{TheRecord}
 use Rattle.records.specs.Types.{IsBytes}
 use Rattle.records.proofs.Store.{length-puts}
 use Rattle.records.proofs.record.Span.{the-record}
-use Rattle.judge.proofs.monitor.Bytes.{all-bytes}
+use Rattle.records.proofs.word.Bytes.{each-byte}
 use Rattle.text.proofs.put.Laws.{put-size, put-bytes, put-end, same-size}
 use Rattle.text.proofs.columns.Laws.{span-bytes, Telling, telling-start, told-end, refused-room, told-refused, reading-refused, full-refused, tags-room, told-more}
 use Rattle.text.proofs.columns.put_instants.Statement.{statement}
@@ -45,7 +45,7 @@ here c = the-record _ _ (c .record-bytes .ensures) (c .before .loop-test .taken)
 bytes : (c : tie.After-record-bytes Inv-loop μ-loop) → IsBytes (c .record-bytes .result .now)
 bytes c =
     let known = c .before .before .before .before in
-    span-bytes (known .before .args .log .now) (c .before .before .loop .at) (all-bytes (known .before .args .log .now) (λ i. known .shared-slice-known .given i .fits)) (c .record-bytes .ensures)
+    span-bytes (known .before .args .log .now) (c .before .before .loop .at) (each-byte (known .before .args .log .now) (λ i. known .shared-slice-known .given i .fits)) (c .record-bytes .ensures)
 
 -- ---- needs
 

@@ -17,6 +17,9 @@ draw-requires c κs = search needs
 plan-of-requires : tie.Need-plan-of-requires Inv-loop μ-loop
 plan-of-requires c κs = search needs
 
+with-disorder-requires : tie.Need-with-disorder-requires Inv-loop μ-loop
+with-disorder-requires c κs = search needs
+
 instants-of-requires : tie.Need-instants-of-requires Inv-loop μ-loop
 instants-of-requires c κs = search needs
 
@@ -61,6 +64,7 @@ case-spec =
     μ-loop
     draw-requires
     plan-of-requires
+    with-disorder-requires
     instants-of-requires
     begin-requires
     loop-holds

@@ -1,8 +1,8 @@
--- `check_sheet` meets its contract: a law for each answer, in the order of the checks. Assumes nothing.
+-- `check_by` meets its contract: a law for each answer, in the order of the checks. Assumes nothing.
 use Rattle.records.proofs.sheet.Writing.{check-4, check-8, check-all}
 use borrow.Author.Needs.{needs}
-use Rattle.records.proofs.sheet.check_sheet.Statement.{statement}
-use Rattle.records.proofs.sheet.check_sheet.Tie as tie
+use Rattle.records.proofs.sheet.check_by.Statement.{statement}
+use Rattle.records.proofs.sheet.check_by.Tie as tie
 
 returns : tie.Need-returns
 returns c = search (needs, check-4) depth 12
@@ -13,6 +13,6 @@ returns-2 c = search (needs, check-8) depth 12
 returns-3 : tie.Need-returns-3
 returns-3 c = search (needs, check-all) depth 12
 
-pub check-sheet-spec : {M : Type 1} → statement M
-check-sheet-spec =
+pub check-by-spec : {M : Type 1} → statement M
+check-by-spec =
     tie.close (tie.spec (λ c κs. search needs) returns returns-2 (λ c κs. search needs) returns-3)

@@ -1,5 +1,5 @@
 // Bytes one after the other: a sheet, or a log.
-use cases::damage::Record;
+use crate::damage::Record;
 use records::record::Written;
 use records::sheet::Sheet;
 use records::sheet::write_sheet;
@@ -26,27 +26,44 @@ pub fn sheet_tape(s: Sheet) -> Tape {
     Tape { bytes, len }
 }
 
-// With a record behind the others, where it has room.
-pub fn with_record(t: Tape, r: Record) -> Tape {
+// With the bytes of a source from a place to before a later one, behind the others, where they have room.
+fn with_bytes(t: Tape, source: &[u8], from: usize, to: usize) -> Tape {
     let at = t.len;
-    let more = r.len;
-    if 472 < at {
+    if source.len() < to {
         return t;
     }
-    if 40 < more {
+    if to < from {
         return t;
     }
-    let from = r.bytes;
+    let more = to - from;
+    if 512 < at {
+        return t;
+    }
+    if 512 - at < more {
+        return t;
+    }
     let mut bytes = t.bytes;
     let mut i = 0;
     while i < more {
-        bytes[at + i] = from[i];
+        bytes[at + i] = source[from + i];
         i += 1;
     }
     Tape {
         bytes,
         len: at + more,
     }
+}
+
+// With a record behind the others, where it has room.
+pub fn with_record(t: Tape, r: Record) -> Tape {
+    let bytes = r.bytes;
+    with_bytes(t, &bytes, 0, r.len)
+}
+
+// With a part of another tape behind the others, where it has room.
+pub fn with_part(t: Tape, other: Tape, from: usize, to: usize) -> Tape {
+    let bytes = other.bytes;
+    with_bytes(t, &bytes, from, to)
 }
 
 // With another byte at a place.

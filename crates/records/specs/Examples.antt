@@ -1,0 +1,60 @@
+-- The order of lines on bytes (document 02, Q-1): one statement, a row each, by computation. Assumes nothing.
+use mathlib.Core.List.{List, [], _∷_, _++_}
+use mathlib.Core.Path.{_≡_, refl}
+use Prim.Native.Nat.{ℕ}
+use lib.IntN.{pos}
+use Rattle.records.specs.declared.line.Line.{Line}
+use Rattle.records.specs.declared.line.Line.the-variants.{Sporadic, Implies}
+use Rattle.records.specs.declared.order.Order.the-variants.{Any}
+use Rattle.records.specs.Outcome.{taken, refused}
+use Rattle.records.specs.Word.{signed}
+use Rattle.records.specs.Record.{isTorn, front, cut}
+use Rattle.records.specs.Line.{lengthOf, clocksOf, lineOf}
+use Rattle.records.specs.Order.{above}
+use Rattle.records.specs.Sheet.{SheetValue, readBy, readSheet, readUnordered}
+
+-- one clock; its sporadic lines at 1 and at 256; 0 implies 0; 0 implies 1, which is no clock
+abbrev clock : List ℕ
+clock = 0x01 ∷ 0x00 ∷ 0x01 ∷ 0x00 ∷ 0x01 ∷ []
+
+abbrev at1 : List ℕ
+at1 = 0x04 ∷ 0x00 ∷ 0x10 ∷ 0x00 ∷ 0x00 ∷ 0x00 ∷ 0x01 ∷ 0x00 ∷ []
+
+abbrev at256 : List ℕ
+at256 = 0x04 ∷ 0x00 ∷ 0x10 ∷ 0x00 ∷ 0x00 ∷ 0x00 ∷ 0x00 ∷ 0x01 ∷ []
+
+abbrev implies : List ℕ
+implies = 0x02 ∷ 0x00 ∷ 0x12 ∷ 0x00 ∷ 0x00 ∷ 0x00 ∷ []
+
+abbrev noClock : List ℕ
+noClock = 0x02 ∷ 0x00 ∷ 0x12 ∷ 0x00 ∷ 0x00 ∷ 0x01 ∷ []
+
+abbrev sheet : List Line → SheetValue
+sheet lines = record { clocks = 1; lines = lines }
+
+pub record OrderExamples : Type 0 where
+  -- bytes are compared, not fields: 256, 00 01, stands before 1, 01 00
+  bytes :
+      (readSheet (clock ++ at256 ++ at1) ≡ taken (sheet (Sporadic 0 0 (pos 256) ∷ Sporadic 0 0 (pos 1) ∷ [])))
+      × (readSheet (clock ++ at1 ++ at256) ≡ refused 17)
+  -- the kind comes first, though the other's body is above
+  kinds : (readSheet (clock ++ at1 ++ implies) ≡ taken (sheet (Sporadic 0 0 (pos 1) ∷ Implies 0 0 ∷ []))) × (readSheet (clock ++ implies ++ at1) ≡ refused 17)
+  -- equal lines, and the first line alone
+  equal : (readSheet (clock ++ at1 ++ at1) ≡ refused 17) × (readSheet (clock ++ at1) ≡ taken (sheet (Sporadic 0 0 (pos 1) ∷ [])))
+  -- in a line's own turn: 17 of the second before 7 of the third, and 7 of the second before 17 of the third
+  turns : (readSheet (clock ++ at1 ++ at1 ++ noClock) ≡ refused 17) × (readSheet (clock ++ at1 ++ noClock ++ at1) ≡ refused 7)
+  -- document 01's own rule
+  unordered : readUnordered (clock ++ at1 ++ at256 ++ at1) ≡ taken (sheet (Sporadic 0 0 (pos 1) ∷ Sporadic 0 0 (pos 256) ∷ Sporadic 0 0 (pos 1) ∷ []))
+  -- a last kind that is read: 18 is one kind too many for 17
+  last : (readBy Any 17 (clock ++ at1 ++ implies) ≡ refused 5) × (readBy Any 18 (clock ++ at1) ≡ readUnordered (clock ++ at1))
+
+pub order-examples : OrderExamples
+unfolding signed isTorn front cut lengthOf clocksOf lineOf above readBy
+order-examples = record {
+  bytes = (refl, refl);
+  kinds = (refl, refl);
+  equal = (refl, refl);
+  turns = (refl, refl);
+  unordered = refl;
+  last = (refl, refl);
+}
