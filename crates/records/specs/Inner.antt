@@ -2,7 +2,7 @@
 use Prim.Native.Nat.{ℕ, _+_, _≤_, _<_}
 use mathlib.Core.Path.{_≡_}
 use mathlib.Core.Bool.{Bool, true, false, cond}
-use mathlib.Core.List.{List, [], _∷_, map}
+use mathlib.Core.List.{List, [], _∷_, _++_, map}
 use lib.ListN.{length, set}
 use lib.IntN.{ℤ}
 use Rattle.records.specs.declared.instant.Tick.{Tick}
@@ -17,9 +17,10 @@ use Rattle.records.specs.declared.record.Decision.{Decision}
 use Rattle.records.specs.declared.record.Decision.the-variants.{Done, Refused}
 use Rattle.records.specs.Outcome.{Outcome, taken, refused, _⇒_, decide}
 use Rattle.records.specs.Record.{Piece}
-use Rattle.records.specs.Line.{isLine, isSporadic, lengthOf, clocksOf}
+use Rattle.records.specs.Lists.{listed}
+use Rattle.records.specs.Line.{isLine, isSporadic, lengthOf, clocksOf, valueLineChecks, kindOf, bodyOf}
 use Rattle.records.specs.Order.{above, keyOf, aboveLast}
-use Rattle.records.specs.Sheet.{SheetValue, lineIn, slotOf, lineAt, sheetValue, sheetOf, linesChecks, valueLinesChecks, sheetValueChecks}
+use Rattle.records.specs.Sheet.{SheetValue, lineIn, slotOf, lineAt, sheetValue, sheetOf, orderChecks, linesChecks, valueLinesChecks, sheetValueChecks}
 use Rattle.records.specs.Instant.{Cell, rawCells, tickAbove, cellOf, tickSlot}
 use Rattle.records.specs.Sort.{Sorted}
 use Rattle.records.specs.Types.{All, IsLineValue, IsSheet}
@@ -55,6 +56,11 @@ pub record Checked (order : Order) (s : Sheet) (r : Decision) : Type 0 where
   pub answer : r ≡ answered (decide (sheetValueChecks order (sheetValue s)) (sheetValue s))
   -- the types of the code bound the value's numbers
   pub value : r ≡ Done → IsSheet (sheetValue s)
+
+-- the same of a line behind the first i lines of its sheet, `spent` sporadic ones among them
+pub record LineChecked (order : Order) (s : Sheet) (i spent : ℕ) (l : Line) (r : Decision) : Type 0 where
+  pub answer : r ≡ answered (decide (valueLineChecks (s .clocks) spent (kindOf l) (bodyOf l) ++ orderChecks order (map keyOf (listed (lineAt s) i)) (keyOf l)) l)
+  pub value : IsLineValue l
 
 -- the same of its lines alone
 pub record LinesChecked (order : Order) (s : Sheet) (r : Decision) : Type 0 where

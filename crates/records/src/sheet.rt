@@ -28,7 +28,7 @@ ghost use Rattle.records.specs.Order.{keyOf, aboveLast, inOrder};
 ghost use Rattle.records.specs.declared.order.Order.the-variants.{Any};
 ghost use Rattle.records.specs.Lists.{listed};
 ghost use Rattle.records.specs.Sheet.{clockCount, lineAt, sheetValue, sheetOf, sheetRead, readBy, readSheet, readUnordered, sheetBytes, writeSheet};
-ghost use Rattle.records.specs.Inner.{withLine, sheetFrom, LinesChecked, Checked};
+ghost use Rattle.records.specs.Inner.{withLine, sheetFrom, LineChecked, LinesChecked, Checked};
 
 pub struct Sheet {
     pub clocks: u8,
@@ -196,25 +196,39 @@ pub fn read_unordered(bytes: &[u8]) -> SheetRead
     read_by(bytes, Order::Any, number::LAST_LINE)
 }
 
+// A line of a value behind its sheet's first i lines, `spent` sporadic ones among them: 7, 9, 17.
+fn check_at(s: Sheet, i: usize, l: Line, order: Order, spent: usize) -> Decision
+    ensures { λ r. ⌜ LineChecked order s i spent l r ⌝ }
+{
+    match check_line(l, s.clocks, spent) {
+        Decision::Refused(n) => Decision::Refused(n),
+        Decision::Done => match order {
+            Order::Any => Decision::Done,
+            Order::Rising => {
+                if above_last(s, i, l) {
+                    return Decision::Done;
+                }
+                Decision::Refused(number::NOT_ABOVE)
+            }
+        },
+    }
+}
+
 // 7, 9 and 17, line by line.
 fn check_lines(s: Sheet, order: Order) -> Decision
     requires { ⌜ s .count ≤ 16 ⌝ }
     ensures { λ r. ⌜ LinesChecked order s r ⌝ }
 {
     let n = s.count;
-    let clocks = s.clocks;
     let mut spent = 0;
     let mut i = 0;
     while i < n {
         let l = line_at(s, i);
-        match check_line(l, clocks, spent) {
+        match check_at(s, i, l, order, spent) {
             Decision::Refused(n) => {
                 return Decision::Refused(n);
             }
             Decision::Done => {
-                if !in_order(order, s, i, l) {
-                    return Decision::Refused(number::NOT_ABOVE);
-                }
                 spent += sporadic_of(kind_of(l));
                 i += 1;
             }

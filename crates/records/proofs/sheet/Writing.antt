@@ -9,7 +9,7 @@ use lib.Dec.{leb, ltb}
 use borrow.Author.Tests.{le-ltb, lt-ltb, ltb-false, leb-true, not-true, not-false}
 use Rattle.records.specs.declared.line.Line.{Line}
 use Rattle.records.specs.declared.order.Order.{Order}
-use Rattle.records.specs.declared.order.Order.the-variants.{Rising}
+use Rattle.records.specs.declared.order.Order.the-variants.{Rising, Any}
 use Rattle.records.specs.declared.sheet.Sheet.{Sheet}
 use Rattle.records.specs.declared.record.Decision.{Decision}
 use Rattle.records.specs.declared.record.Decision.the-variants as answer
@@ -19,10 +19,10 @@ use Rattle.records.specs.Lists.{listedFrom, listed, joined}
 use Rattle.records.specs.Word.{wordBytes}
 use Rattle.records.specs.Store.{puts, wrote, leaves}
 use Rattle.records.specs.Line.{isSporadic, sporadics, valueLineChecks, kindOf, bodyOf, lineBytes}
-use Rattle.records.specs.Order.{keyOf, inOrder}
+use Rattle.records.specs.Order.{keyOf, aboveLast}
 use Rattle.records.specs.Sheet.{clockCount, lineAt, sheetValue, orderChecks, valueLinesChecks, sheetValueChecks, sheetBytes, writeSheet}
 use Rattle.records.specs.Types.{All, IsLineValue}
-use Rattle.records.specs.Inner.{sporadicOf, answered, linesFault, LinesChecked, Checked}
+use Rattle.records.specs.Inner.{sporadicOf, answered, linesFault, LineChecked, LinesChecked, Checked}
 use Rattle.records.proofs.Lists.{both, Passed, taken-passed, decide-passed, decide-refused, all-snoc, listed-cons, listed-end, listed-snoc, length-listed, map-append}
 use Rattle.records.proofs.Store.{puts-append, puts-front}
 use Rattle.records.proofs.line.Table.{shaped}
@@ -75,6 +75,32 @@ module _ {A : Type 0} (cs : List Check) (x : A) where
       by-outcome (taken v) f e = taken-passed cs f .0
       by-outcome (refused m) f e = refused-done e
 
+-- ---- the answers of `check_at`
+module _ (order : Order) (s : Sheet) (i spent : ℕ) (l : Line) (r : Decision) (f : (r ≡ answered (decide (valueLineChecks (s .clocks) spent (kindOf l) (bodyOf l)) l)) × IsLineValue l) where
+  -- the line's own checks, and its place in the order
+  abbrev own : List Check
+  own = valueLineChecks (s .clocks) spent (kindOf l) (bodyOf l)
+
+  abbrev place : List Check
+  place = orderChecks order (map keyOf (listed (lineAt s) i)) (keyOf l)
+
+  pub at-refused : {n : ℕ} → r ≡ answer.Refused n → LineChecked order s i spent l (answer.Refused n)
+  at-refused g = record { answer = rw (decide-refused place l own l (answered-refused own l (sym (f .0) ∙ g))); value = f .1 }
+
+  module _ (g : r ≡ answer.Done) where
+    left-to : decide (own ++ place) l ≡ decide place l
+    left-to = decide-passed place l own (answered-done own l (sym (f .0) ∙ g))
+
+    pub at-any : order ≡ Any → LineChecked order s i spent l answer.Done
+    at-any e = record { answer = rw (left-to, e); value = f .1 }
+
+    module _ (e : order ≡ Rising) (b : Bool) (o : b ≡ aboveLast (map keyOf (listed (lineAt s) i)) (keyOf l)) where
+      pub at-above : b ≡ true → LineChecked order s i spent l answer.Done
+      at-above h = record { answer = rw (left-to, e, sym o ∙ h); value = f .1 }
+
+      pub at-17 : b ≡ false → LineChecked order s i spent l (answer.Refused 17)
+      at-17 h = record { answer = rw (left-to, e, sym o ∙ h); value = f .1 }
+
 -- ---- a turn of `check_lines`: the lines below i have passed
 module _ (order : Order) (s : Sheet) (i spent : ℕ) where
   pub record Checking : Type 0 where
@@ -92,45 +118,32 @@ module _ (order : Order) (s : Sheet) (i spent : ℕ) (c : Checking order s i spe
       let k : s .count ≡ i = omega arith in
       record { answer = rw (c .left, listed-end (lineAt s) (s .count) i h); values = λ d. rw k (c .values) }
 
-  module _ (h : i < s .count) (l : Line) (e : l ≡ lineAt s i) (r : Decision) (f : (r ≡ answered (decide (valueLineChecks (s .clocks) spent (kindOf l) (bodyOf l)) l)) × IsLineValue l) where
-    -- the checks of line i, its place in the order, and the checks of the lines after it
+  module _ (h : i < s .count) (l : Line) (e : l ≡ lineAt s i) (r : Decision) (f : LineChecked order s i spent l r) where
+    -- the checks of line i, and of the lines after it
     abbrev these : List Check
-    these = valueLineChecks (s .clocks) (sporadics (map kindOf (listed (lineAt s) i))) (kindOf (lineAt s i)) (bodyOf (lineAt s i))
-
-    abbrev place : List Check
-    place = orderChecks order (map keyOf (listed (lineAt s) i)) (keyOf (lineAt s i))
+    these = valueLineChecks (s .clocks) (sporadics (map kindOf (listed (lineAt s) i))) (kindOf (lineAt s i)) (bodyOf (lineAt s i)) ++ orderChecks order (map keyOf (listed (lineAt s) i)) (keyOf (lineAt s i))
 
     abbrev later : List Check
     later = valueLinesChecks order (s .clocks) (listed (lineAt s) i ++ (lineAt s i ∷ [])) (listedFrom (lineAt s) (i + 1) (s .count - (i + 1)))
 
     here : answered (decide these l) ≡ r
-    here = rw (← c .counted, ← e) (sym (f .0))
+    here = rw (← c .counted, ← e) (sym (f .answer))
 
-    turn : linesFault order (sheetValue s) ≡ decide (these ++ (place ++ later)) (sheetValue s)
+    turn : linesFault order (sheetValue s) ≡ decide (these ++ later) (sheetValue s)
     turn = c .left ∙ rw (listed-cons (lineAt s) (s .count) i h)
 
     pub check-refused : {n : ℕ} → r ≡ answer.Refused n → LinesChecked order s (answer.Refused n)
     check-refused g = record {
-      answer = rw (turn, decide-refused (place ++ later) (sheetValue s) these l (answered-refused these l (here ∙ g)));
+      answer = rw (turn, decide-refused later (sheetValue s) these l (answered-refused these l (here ∙ g)));
       values = λ d. refused-done d;
     }
 
-    module _ (g : r ≡ answer.Done) (b : Bool) (o : b ≡ inOrder order (map keyOf (listed (lineAt s) i)) (keyOf l)) where
-      own : linesFault order (sheetValue s) ≡ decide (place ++ later) (sheetValue s)
-      own = turn ∙ decide-passed (place ++ later) (sheetValue s) these (answered-done these l (here ∙ g))
-
-      stands : b ≡ inOrder order (map keyOf (listed (lineAt s) i)) (keyOf (lineAt s i))
-      stands = o ∙ rw e
-
-      pub check-17 : not b ≡ true → LinesChecked order s (answer.Refused 17)
-      check-17 n = record { answer = rw (own, sym stands ∙ not-true b n); values = λ d. refused-done d }
-
-      pub check-more : {m k : ℕ} → not b ≡ false → m ≡ sporadicOf k → k ≡ kindOf l → Checking order s (i + 1) (spent + m)
-      check-more n p q = record {
-        counted = rw (listed-snoc (lineAt s) i, map-append, sporadics-snoc, ← c .counted, p, q, e);
-        values = rw (listed-snoc (lineAt s) i, ← e) (all-snoc IsLineValue (listed (lineAt s) i) (c .values) (f .1));
-        left = own ∙ rw (sym stands ∙ not-false b n, listed-snoc (lineAt s) i);
-      }
+    pub check-more : {m k : ℕ} → r ≡ answer.Done → m ≡ sporadicOf k → k ≡ kindOf l → Checking order s (i + 1) (spent + m)
+    check-more g p q = record {
+      counted = rw (listed-snoc (lineAt s) i, map-append, sporadics-snoc, ← c .counted, p, q, e);
+      values = rw (listed-snoc (lineAt s) i, ← e) (all-snoc IsLineValue (listed (lineAt s) i) (c .values) (f .value));
+      left = turn ∙ decide-passed later (sheetValue s) these (answered-done these l (here ∙ g)) ∙ rw (listed-snoc (lineAt s) i);
+    }
 
 -- ---- the bytes of a sheet's lines from i on
 module _ (s : Sheet) (n i : ℕ) where
