@@ -78,7 +78,7 @@ withLine s l = record { clocks = s .clocks; count = s .count + 1; lines = set (s
 abbrev pub withCell : Instant → ℕ → Tick → ℤ → Instant
 withCell v i t tag = record { ticks = set (v .ticks) i (tickSlot t); tags = set (v .tags) i tag }
 
--- a sheet within its limits, whatever the order of its lines
+-- what sorting asks of a sheet: at most 16 lines, their numbers within their types
 pub record Sortable (s : Sheet) : Type 0 where
   pub few : s .count ≤ 16
   pub values : All IsLineValue (sheetValue s .lines)

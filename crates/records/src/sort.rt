@@ -48,7 +48,7 @@ fn next_above(s: Sheet, sorted: Sheet) -> usize
     least
 }
 
-// The lines of a sheet within its limits, each above the one before it.
+// A sheet with the same lines, each above the one before it.
 fn sort_lines(s: Sheet) -> Sheet
     requires { ⌜ Sortable s ⌝ }
     ensures { λ r. ⌜ SortedSheet s r ⌝ }
