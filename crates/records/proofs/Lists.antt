@@ -30,6 +30,12 @@ Passed cs = All (λ (c : Check). c .holds ≡ false) cs
 pub refused-taken : {A : Type 0} {X : Type 0} {n : ℕ} {v : A} → refused n ≡ taken v → X
 refused-taken e = let z : _≡_ {A = ℕ} 0 1 = cc in absurd (omega arith)
 
+pub taken-same : {A : Type 0} {v w : A} → _≡_ {A = Outcome A} (taken v) (taken w) → v ≡ w
+taken-same e = cc
+
+pub refused-same : {A : Type 0} {m n : ℕ} → _≡_ {A = Outcome A} (refused m) (refused n) → m ≡ n
+refused-same e = cc
+
 module _ {A : Type 0} where
   pub taken-passed : (cs : List Check) {v w : A} → decide cs v ≡ taken w → Passed cs × (v ≡ w)
   taken-passed [] e = (tt, cc)

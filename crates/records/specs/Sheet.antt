@@ -61,8 +61,7 @@ keyIn (whole kind body) = kind ∷ body
 abbrev pub orderChecks : Order → List (List ℕ) → List ℕ → List Check
 orderChecks order before key = (not (inOrder order before key) ⇒ 17) ∷ []
 
--- how a sheet is read: how its lines stand, and the last kind that is a line
--- each line in turn, its own checks and then 17; `before` are those before it
+-- each line in turn, its own checks and then 17; `before` are those before it. A sheet is read by an order, and by the last kind that is a line
 abbrev pub linesChecks : Order → ℕ → ℕ → List Piece → List Piece → List Check
 linesChecks order last c before lines =
     inTurn

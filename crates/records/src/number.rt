@@ -72,6 +72,9 @@ pub const PAIR_BODY: usize = 2;
 
 pub const DELAYED_BODY: usize = 5;
 
+// The longest body of a line.
+pub const MAX_BODY: usize = RELATION_BODY;
+
 pub const CELL_LENGTH: usize = 3;
 
 // Limits: clocks and lines of a sheet, sporadic lines among them, instants of a run, distinct remainders held, obligations of each.
@@ -88,4 +91,4 @@ pub const MAX_LIVE: usize = 32;
 pub const MAX_OWED: usize = 8;
 
 // The longest sheet: the clocks record and 16 of the longest lines.
-pub const MAX_SHEET: usize = HEAD_LENGTH + CLOCKS_BODY + MAX_LINES * (HEAD_LENGTH + RELATION_BODY);
+pub const MAX_SHEET: usize = HEAD_LENGTH + CLOCKS_BODY + MAX_LINES * (HEAD_LENGTH + MAX_BODY);

@@ -2,6 +2,7 @@
 use crate::line::Line;
 use crate::line::body_of;
 use crate::line::kind_of;
+use crate::number;
 ghost use mathlib.Core.Path.{_≡_};
 ghost use Rattle.records.specs.Order.{above, keyOf};
 
@@ -18,7 +19,7 @@ fn body_above(a: [u8; 6], b: [u8; 6]) -> bool
     ensures { λ r. ⌜ r ≡ above a b ⌝ }
 {
     let mut i = 0;
-    while i < 6 {
+    while i < number::MAX_BODY {
         if b[i] < a[i] {
             return true;
         }
@@ -35,9 +36,9 @@ pub(crate) fn is_above(l: Line, other: Line) -> bool
     ensures { λ r. ⌜ r ≡ above (keyOf l) (keyOf other) ⌝ }
 {
     let kind = kind_of(l);
-    let least = kind_of(other);
-    if kind == least {
+    let other_kind = kind_of(other);
+    if kind == other_kind {
         return body_above(body_of(l), body_of(other));
     }
-    least < kind
+    other_kind < kind
 }

@@ -16,7 +16,7 @@ ghost use Prim.Native.Nat.{_+_, _<_};
 ghost use Rattle.records.specs.Sort.{SortsValue, SortsBytes};
 ghost use Rattle.records.specs.Inner.{Sortable, NextAbove, SortedSheet};
 
-// The least line found before place i, or the line at i, if that is less: of those above the lines sorted so far.
+// The place of the least line up to place i that is above those sorted so far: the one found before it, or i.
 fn lesser(s: Sheet, sorted: Sheet, least: usize, i: usize) -> usize
     requires { ⌜ (i < s .count) × NextAbove s sorted i least ⌝ }
     ensures { λ r. ⌜ NextAbove s sorted (i + 1) r ⌝ }

@@ -14,6 +14,7 @@ use Rattle.records.specs.Types.{IsBytes}
 use Rattle.records.specs.Word.{rawOf}
 use Rattle.records.proofs.Lists.{refused-taken}
 use Rattle.records.proofs.sheet.RoundTrip.{sheetOf-value}
+use Rattle.records.proofs.sheet.Writing.{refused-done}
 use Rattle.judge.specs.declared.answer.Answer as code
 use Rattle.judge.specs.declared.answer.Reply.the-variants.{Answered, Refused}
 use Rattle.judge.specs.declared.held.Status.the-variants.{Live}
@@ -41,9 +42,6 @@ use Rattle.judge.proofs.state.Words.{words-same}
 use Rattle.judge.proofs.state.Same.{sheet-beside, state-made, value-made}
 use Rattle.judge.proofs.live.Unused.{keeps-made}
 use Rattle.judge.proofs.live.Keeping.{beside-same}
-
-refused-done : {X : Type 0} {n : ℕ} → told.Refused n ≡ told.Done → X
-refused-done e = let z : _≡_ {A = ℕ} 0 1 = cc in absurd (omega arith)
 
 -- ---- room for each part
 

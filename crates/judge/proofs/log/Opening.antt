@@ -11,6 +11,7 @@ use Rattle.records.specs.declared.sheet.SheetRead.{SheetRead}
 use Rattle.records.specs.Outcome.{Outcome, taken, refused}
 use Rattle.records.specs.Sheet.{SheetValue, readSheet, sheetRead, sheetValue}
 use Rattle.records.specs.Store.{puts}
+use Rattle.records.proofs.sheet.Writing.{refused-done}
 use Rattle.records.proofs.Lists.{refused-taken}
 use Rattle.records.proofs.Store.{puts-front}
 use Rattle.tesl.specs.Lists.{flatMap}
@@ -32,7 +33,7 @@ use Rattle.judge.specs.Log.{judgedOf, entries, watchedAs, watchLog}
 use Rattle.judge.specs.Records.{ObservedRecords, ObservedLog, Counted, CountedLog}
 use Rattle.judge.proofs.progress.Laws.{follows-back}
 use Rattle.judge.proofs.log.Answers.{concluded-count, length-entries}
-use Rattle.judge.proofs.monitor.Opened.{OpenedRows, refused-done, read-answer}
+use Rattle.judge.proofs.monitor.Opened.{OpenedRows, read-answer}
 
 -- ---- what was read
 

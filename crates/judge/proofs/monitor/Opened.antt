@@ -17,6 +17,8 @@ use Rattle.records.specs.Sheet.{SheetValue, sheetValue, sheetRead, readSheet, s
 use Rattle.records.specs.Types.{IsBytes, IsSheet}
 use Rattle.records.proofs.Lists.{refused-taken, taken-passed, passed-taken}
 use Rattle.records.proofs.sheet.Passed.{passed-any}
+use Rattle.records.proofs.sheet.Read.{sheet-refused}
+use Rattle.records.proofs.sheet.Writing.{refused-done}
 use Rattle.records.proofs.sheet.RoundTrip.{read-writes, sheetOf-value}
 use Rattle.tesl.specs.Lists.{all, any, flatMap}
 use Rattle.tesl.specs.Fits.{Obligation, owedAtStart, unmet}
@@ -50,7 +52,7 @@ use Rattle.judge.specs.Rows.{headRows, rowsOf}
 use Rattle.judge.specs.Apply.{foundIn}
 use Rattle.judge.specs.Start.{BegunRows}
 use Rattle.judge.specs.Monitor.{sheetBy, heldBy, blankMonitor, noMonitor, refusal}
-use Rattle.judge.specs.Progress.{rowsMonitor, firstProgress, given, readBack, ReadBack, Ready}
+use Rattle.judge.specs.Progress.{rowsMonitor, firstProgress, given, ReadBack, Ready}
 use Rattle.judge.specs.Promises.{Follows, Opened}
 use Rattle.judge.proofs.rows.Placing.{blank-at}
 use Rattle.judge.proofs.monitor.Limits.{within-limits}
@@ -143,9 +145,6 @@ pub no-monitor-outside : monitorWithin noMonitor ≡ false
 unfolding monitorWithin sheetWithin noMonitor
 no-monitor-outside = refl
 
-pub refused-done : {X : Type 0} {n : ℕ} → told.Refused n ≡ told.Done → X
-refused-done e = let z : _≡_ {A = ℕ} 0 1 = cc in absurd (omega arith)
-
 -- ---- as the code has them: what was read, and the monitor begun
 
 module _ (b : List ℕ) (x : SheetRead) (e : x ≡ sheetRead (readSheet b)) where
@@ -157,11 +156,7 @@ module _ (b : List ℕ) (x : SheetRead) (e : x ≡ sheetRead (readSheet b)) wher
       by-outcome (refused n) h = rw (e, h) (record { few-lines = omega arith; few-clocks = omega arith; size = size })
 
   pub read-answer : {n : ℕ} → x .answer ≡ told.Refused n → readSheet b ≡ refused n
-  read-answer {n} a = by-outcome (readSheet b) refl (ap (λ (y : SheetRead). y .answer) (sym e) ∙ a)
-    where
-      by-outcome : (o : Outcome SheetValue) → readSheet b ≡ o → sheetRead o .answer ≡ told.Refused n → readSheet b ≡ refused n
-      by-outcome (taken s) h a = refused-done (sym a)
-      by-outcome (refused k) h a = let z : k ≡ n = cc in h ∙ ap refused z
+  read-answer a = sheet-refused (readSheet b) x e a
 
   pub opened-refused : {n : ℕ} → x .answer ≡ told.Refused n → (r : CallResult) → r ≡ refusal n (blankMonitor (x .sheet)) → Opened readSheet b r
   unfolding noMonitor

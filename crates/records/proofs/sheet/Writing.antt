@@ -205,12 +205,15 @@ module _ (order : Order) (s : Sheet) (t : Bool) (e : t ≡ clockCount (s .clocks
     }
 
 -- what a sheet that passed is
+pub passed-few : (order : Order) (s : Sheet) → Passed (sheetValueChecks order (sheetValue s)) → s .count ≤ 16
+passed-few order s h = omega (arith, ltb-false 16 (length (sheetValue s .lines)) (h .1 .0), length-listed (lineAt s) (s .count))
+
 module _ (order : Order) (s : Sheet) (r : Decision) (f : Checked order s r) where
   pub checked-passed : r ≡ answer.Done → Passed (sheetValueChecks order (sheetValue s))
   checked-passed p = answered-done (sheetValueChecks order (sheetValue s)) (sheetValue s) (sym (f .answer) ∙ p)
 
   pub few-lines : r ≡ answer.Done → s .count ≤ 16
-  few-lines p = omega (arith, ltb-false 16 (length (sheetValue s .lines)) (checked-passed p .1 .0), length-listed (lineAt s) (s .count))
+  few-lines p = passed-few order s (checked-passed p)
 
 -- the answers of `write_sheet`
 module _ (s : Sheet) (r : Decision) (f : Checked Rising s r) where

@@ -86,8 +86,8 @@ module _ (v w : SheetValue) (s : Sorted v w) where
   unfolding sheetBytes
   sorted-size h = let k = lines-size (w .lines) in omega (arith, fewer, ltb-false 16 (length (v .lines)) (h .1 .0))
 
--- a sheet that rises is its own sorted form
-own-lines : (ls : List Line) → SameLines ls ls
+-- ---- the same lines
+pub own-lines : (ls : List Line) → SameLines ls ls
 own-lines ls = record { there = λ l m. m; back = λ l m. m }
 
 other-lines : {ls ms : List Line} → SameLines ls ms → SameLines ms ls
@@ -96,6 +96,12 @@ other-lines s = record { there = s .back; back = s .there }
 further-lines : {ks ls ms : List Line} → SameLines ks ls → SameLines ls ms → SameLines ks ms
 further-lines s t = record { there = λ l m. t .there l (s .there l m); back = λ l m. s .back l (t .back l m) }
 
+-- sheets of the same clocks and lines have one sorted form
+pub same-form : (v w : SheetValue) → v .clocks ≡ w .clocks → SameLines (v .lines) (w .lines) → (x y : SheetValue) → Sorted v x → Sorted w y → x ≡ y
+same-form v w c same x y s t =
+    one-form x y (s .clocks ∙ c ∙ sym (t .clocks)) (s .rises) (t .rises) (further-lines (other-lines (s .lines)) (further-lines same (t .lines)))
+
+-- ---- what was read
 pub sorted-form : (b : List ℕ) → IsBytes b → (v w : SheetValue) → readUnordered b ≡ taken v → Sorted v w → SortedForm b v w
 sorted-form b h v w e s =
     let r = read-writes Any 23 b h e in
@@ -114,5 +120,4 @@ pub one-file : OneFile
 one-file b c before v w e f k same r q after left x y =
     let s = x .sorts v e in
     let t = y .sorts w f in
-    let u : s .0 ≡ t .0 = one-form (s .0) (t .0) (s .1 .clocks ∙ k ∙ sym (t .1 .clocks)) (s .1 .rises) (t .1 .rises) (further-lines (other-lines (s .1 .lines)) (further-lines same (t .1 .lines))) in
-    s .2 ∙ ap (λ (v : SheetValue). fitted before (sheetBytes v)) u ∙ sym (t .2)
+    s .2 ∙ ap (λ (v : SheetValue). fitted before (sheetBytes v)) (same-form v w k same (s .0) (t .0) (s .1) (t .1)) ∙ sym (t .2)

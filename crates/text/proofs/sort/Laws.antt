@@ -10,13 +10,13 @@ use Rattle.records.specs.declared.record.Written.{Written}
 use Rattle.records.specs.declared.record.Written.the-variants as written
 use Rattle.records.specs.Outcome.{Outcome, taken, refused}
 use Rattle.records.specs.Sheet.{SheetValue, readUnordered, sheetValueChecks, sheetBytes}
-use Rattle.records.specs.Sort.{SameLines, Sorted, SortsBytes}
+use Rattle.records.specs.Sort.{Sorted, SortsBytes}
 use Rattle.records.specs.Store.{Wrote, wrote}
 use Rattle.records.specs.Types.{IsBytes}
-use Rattle.records.proofs.Lists.{taken-passed, refused-taken}
+use Rattle.records.proofs.Lists.{taken-passed, refused-taken, taken-same, refused-same}
 use Rattle.records.proofs.sheet.Front.{read-number}
 use Rattle.records.proofs.sheet.RoundTrip.{read-writes}
-use Rattle.records.proofs.sort.Forms.{one-form, sorted-size}
+use Rattle.records.proofs.sort.Forms.{own-lines, same-form, sorted-size}
 use Rattle.text.specs.Text.{refusalLine}
 use Rattle.text.specs.Output.{printed, printedAs, SortText, SortPrinted, OneSortText}
 
@@ -29,31 +29,27 @@ module _ (sheet : List ℕ) (is : IsBytes sheet) where
   fits v w e s = sorted-size v w s (taken-passed (sheetValueChecks Any v) (read-writes Any 23 sheet is e .checks) .0)
 
   module _ (before : List ℕ) (room : 165 ≤ length before) (r : Written) (after : List ℕ) (s : SortsBytes sheet before r after) where
+    -- what was taken was written whole
+    all-written : (v : SheetValue) (e : readUnordered sheet ≡ taken v) (w : SheetValue) → w ≡ s .sorts v e .0 → wrote r after ≡ wrote (written.Bytes (length (sheetBytes w))) (sheetBytes w ++ drop (length (sheetBytes w)) before)
+    all-written v e w p =
+        let t = s .sorts v e in
+        rw p (t .2 ∙ rw (le-ltb (length before) (length (sheetBytes (t .0))) (omega (arith, fits v (t .0) e (t .1)))))
+
     pub sort-done : {n : ℕ} → r ≡ written.Bytes n → SortPrinted sheet before n after
     sort-done {n} e = by-read (readUnordered sheet) refl
       where
         by-read : (o : Outcome SheetValue) → readUnordered sheet ≡ o → SortPrinted sheet before n after
         by-read (refused k) f = bytes-refused (sym e ∙ ap (λ (w : Wrote). w .answer) (s .refuses k f))
         by-read (taken v) f =
-            let t = s .sorts v f in
-            let w = t .0 in
-            let q : wrote r after ≡ wrote (written.Bytes (length (sheetBytes w))) (sheetBytes w ++ drop (length (sheetBytes w)) before) =
-            t .2 ∙ rw (le-ltb (length before) (length (sheetBytes w)) (omega (arith, fits v w f (t .1)))) in
-            let size : n ≡ length (sheetBytes w) = number (sym e ∙ ap (λ (w : Wrote). w .answer) q) in
+            let w = s .sorts v f .0 in
+            let q = all-written v f w refl in
+            let p : written.Bytes n ≡ written.Bytes (length (sheetBytes w)) = sym e ∙ ap (λ (w : Wrote). w .answer) q in
+            let size : n ≡ length (sheetBytes w) = cc in
             record {
               text = sheetBytes w;
-              sorts = record { refuses = λ k g. taken-refused (sym f ∙ g); sorts = λ u g. (w, subst (λ (x : SheetValue). Sorted x w) (value (sym f ∙ g)) (t .1), refl) };
+              sorts = record { refuses = λ k g. refused-taken (sym g ∙ f); sorts = λ u g. (w, subst (λ (x : SheetValue). Sorted x w) (taken-same (sym f ∙ g)) (s .sorts v f .1), refl) };
               is = λ i. printedAs (size i) (ap (λ (w : Wrote). w .buffer) q i);
             }
-          where
-            number : {k m : ℕ} → written.Bytes k ≡ written.Bytes m → k ≡ m
-            number h = cc
-
-            value : {u : SheetValue} → _≡_ {A = Outcome SheetValue} (taken v) (taken u) → v ≡ u
-            value h = cc
-
-            taken-refused : {X : Type 0} {k : ℕ} → _≡_ {A = Outcome SheetValue} (taken v) (refused k) → X
-            taken-refused h = let z : _≡_ {A = ℕ} 0 1 = cc in absurd (omega arith)
 
     -- refused: the buffer as it was, a number of at most two digits, and its line is what is printed
     pub record Refuses (n : ℕ) : Type 0 where
@@ -65,26 +61,16 @@ module _ (sheet : List ℕ) (is : IsBytes sheet) where
     sort-refused {n} e = by-read (readUnordered sheet) refl
       where
         by-read : (o : Outcome SheetValue) → readUnordered sheet ≡ o → Refuses n
-        by-read (taken v) f =
-            let t = s .sorts v f in
-            let w = t .0 in
-            let q : wrote r after ≡ wrote (written.Bytes (length (sheetBytes w))) (sheetBytes w ++ drop (length (sheetBytes w)) before) =
-            t .2 ∙ rw (le-ltb (length before) (length (sheetBytes w)) (omega (arith, fits v w f (t .1)))) in
-            bytes-refused (sym (ap (λ (w : Wrote). w .answer) q) ∙ e)
+        by-read (taken v) f = bytes-refused (sym (ap (λ (w : Wrote). w .answer) (all-written v f (s .sorts v f .0) refl)) ∙ e)
         by-read (refused k) f =
             let h = s .refuses k f in
-            let q : k ≡ n = number (sym (ap (λ (w : Wrote). w .answer) h) ∙ e) in
+            let p : written.Refused k ≡ written.Refused n = sym (ap (λ (w : Wrote). w .answer) h) ∙ e in
+            let q : k ≡ n = cc in
             record {
               same = ap (λ (w : Wrote). w .buffer) h;
               small = rw q at (read-number Any 23 sheet f);
-              text = record { refuses = λ m g. let p : k ≡ m = outcome (sym f ∙ g) in rw (← q, p) refl; sorts = λ v g. refused-taken (sym f ∙ g) };
+              text = record { refuses = λ m g. ap refusalLine (sym q ∙ refused-same (sym f ∙ g)); sorts = λ v g. refused-taken (sym f ∙ g) };
             }
-          where
-            number : {k m : ℕ} → written.Refused k ≡ written.Refused m → k ≡ m
-            number h = cc
-
-            outcome : {m : ℕ} → _≡_ {A = Outcome SheetValue} (refused k) (refused m) → k ≡ m
-            outcome h = cc
 
     -- the refusal's line was put
     pub sort-line : {n : ℕ} → Refuses n → {size : ℕ} {last : List ℕ} → printedAs size last ≡ printed (refusalLine n) after → SortPrinted sheet before size last
@@ -99,6 +85,4 @@ one-sort-text sheet t u x y = by-read (readUnordered sheet) refl
     by-read (taken v) f =
         let a = x .sorts v f in
         let b = y .sorts v f in
-        let l : SameLines (a .0 .lines) (b .0 .lines) = record { there = λ l m. b .1 .lines .there l (a .1 .lines .back l m); back = λ l m. a .1 .lines .there l (b .1 .lines .back l m) } in
-        let e : a .0 ≡ b .0 = one-form (a .0) (b .0) (a .1 .clocks ∙ sym (b .1 .clocks)) (a .1 .rises) (b .1 .rises) l in
-        a .2 ∙ ap sheetBytes e ∙ sym (b .2)
+        a .2 ∙ ap sheetBytes (same-form v v refl (own-lines (v .lines)) (a .0) (b .0) (a .1) (b .1)) ∙ sym (b .2)
