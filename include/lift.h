@@ -1,16 +1,17 @@
 /*
  * The lift-run monitor: the calls of the static library `gateway`.
  *
- * Sheets, logs, instants and refusal numbers are document 01's; the lines of
- * a sheet stand in the rising order of document 02 (17), in which the program
- * sort writes them. There are two ways to use it: live, instant by instant,
- * with a state that the caller lends, and over a whole log. Every call takes
- * every input.
+ * Sheets, logs, instants and refusal numbers are document 01's; with document
+ * 02 the lines of a sheet stand in rising order (17), in which the program
+ * sort writes them, and kind 24 is a delay counted in ticks, whose count is
+ * not 0 (18). There are two ways to use it: live, instant by instant, with a
+ * state that the caller lends, and over a whole log. Every call takes every
+ * input.
  *
  * The library keeps nothing between calls, takes no heap and writes nowhere
  * but into the state or the buffer that it is lent. Of stack, lift_observe
- * takes 5.5 KB, lift_owing 17.4 KB, the other live calls 3.2 KB and a call
- * over a log at most 45.1 KB, as bench/run measures.
+ * takes 6.6 KB, lift_owing 20.4 KB, the other live calls 3.1 KB and a call over
+ * a log at most 52.7 KB, as bench/run measures.
  *
  * Every pointer must be valid for its length. A length of 0 needs a pointer
  * that is not null all the same; what it points to is not looked at. What is
@@ -71,7 +72,7 @@ extern "C" {
  * The words are all there is of a monitor: a state may be copied, and kept in
  * a file over a restart. They are numbers of 32 bits in the machine's own
  * order, on x86-64 the lowest byte first; the first word tells the format and
- * its version.
+ * its version. A state of another version is no monitor (11).
  *
  * Store a state whole: write a new file, flush it to the disk, then rename it
  * over the old one. Of a state that was damaged, 11 tells only where its
@@ -86,8 +87,8 @@ typedef struct {
  * Opens a sheet: the state becomes its monitor, whatever it was before. The
  * answer is that for no instant, lift_count 0.
  *
- * Refused is a sheet (1 to 9, 17): every other bit is 0, and no word of the
- * state changes. A state that held a monitor still holds it.
+ * Refused is a sheet (1 to 9, 17, 18): every other bit is 0, and no word of
+ * the state changes. A state that held a monitor still holds it.
  */
 uint64_t lift_open(const uint8_t *sheet, size_t sheet_len, lift_state *state);
 
@@ -102,8 +103,8 @@ uint64_t lift_open(const uint8_t *sheet, size_t sheet_len, lift_state *state);
  *
  * 11: the words are no monitor within its limits. The first word is another,
  * or the kind of a line, the side in use or the case of the answer is no such
- * value, or document 01's limits of a monitor fail. Open the sheet again and
- * hand over the log from its start.
+ * value, or the limits of a monitor in documents 01 and 02 fail. Open the
+ * sheet again and hand over the log from its start.
  */
 uint64_t lift_observe(lift_state *state,
                       const uint8_t *record, size_t record_len);
@@ -116,10 +117,11 @@ uint64_t lift_observe(lift_state *state,
 uint64_t lift_last(const lift_state *state);
 
 /*
- * How many of the live remainders owe this clock a tick, in the place of live
- * (lift_live), and the instants held; the answer and clear are 0. For a clock
- * that the sheet does not have, after broken and after exhausted it is 0.
- * Refused is a state (11, every other bit 0).
+ * How many of the live remainders owe this clock a tick, by an obligation or
+ * by a countdown (the D of kind 24), in the place of live (lift_live), and the
+ * instants held; the answer and clear are 0. For a clock that the sheet does
+ * not have, after broken and after exhausted it is 0. Refused is a state (11,
+ * every other bit 0).
  */
 uint64_t lift_owing(const lift_state *state, uint8_t clock);
 
@@ -128,8 +130,8 @@ uint64_t lift_owing(const lift_state *state, uint8_t clock);
 /*
  * Judges a sheet and a whole log: the last answer, and the instants taken.
  * For an empty log the answer is that of opening the sheet. Refused are a
- * sheet (1 to 9, 17, no instant taken) and a record of the log (12 to 16, the
- * instants before it taken); the earliest fault decides.
+ * sheet (1 to 9, 17, 18, no instant taken) and a record of the log (12 to 16,
+ * the instants before it taken); the earliest fault decides.
  */
 uint64_t lift_judge(const uint8_t *sheet, size_t sheet_len,
                     const uint8_t *log, size_t log_len);
@@ -151,17 +153,17 @@ uint64_t lift_watch(const uint8_t *sheet, size_t sheet_len,
 
 /*
  * After a whole log, how many of the live remainders owe this clock a tick,
- * in the place of live (lift_live), beside the refusal number of the sheet or
- * the log as in lift_judge and the instants taken; the other bits are 0. On a
- * refusal, after broken and exhausted, and for a clock that the sheet does
- * not have, the count of remainders is 0.
+ * as in lift_owing, in the place of live (lift_live), beside the refusal
+ * number of the sheet or the log as in lift_judge and the instants taken; the
+ * other bits are 0. On a refusal, after broken and exhausted, and for a clock
+ * that the sheet does not have, the count of remainders is 0.
  */
 uint64_t lift_panel(const uint8_t *sheet, size_t sheet_len,
                     const uint8_t *log, size_t log_len, uint8_t clock);
 
 /* ---- Records alone. */
 
-/* The refusal number of a sheet, 1 to 9 or 17; 0: it is taken. */
+/* The refusal number of a sheet, 1 to 9, 17 or 18; 0: it is taken. */
 uint8_t lift_sheet_number(const uint8_t *sheet, size_t sheet_len);
 
 /*

@@ -1,4 +1,4 @@
-//! Sheets and logs as bytes, by document 01's records.
+//! Sheets and logs as bytes, by the records of documents 01 and 02.
 
 pub fn record(kind: u16, body: &[u8]) -> Vec<u8> {
     let mut bytes = Vec::with_capacity(4 + body.len());
@@ -48,6 +48,11 @@ pub fn strictly(a: u8, b: u8) -> Vec<u8> {
 
 pub fn kills(a: u8, b: u8) -> Vec<u8> {
     record(23, &[a, b])
+}
+
+/// D ticks at B's n-th tick after a tick of A.
+pub fn counted(a: u8, n: u8, b: u8, d: u8) -> Vec<u8> {
+    record(24, &[a, b, d, n])
 }
 
 /// Puts lines in the order of a sheet: rising by kind, then by the bytes of

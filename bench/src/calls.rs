@@ -17,14 +17,15 @@ pub const CALLS: [Call; 4] = [
     Call {
         name: "lift_judge",
         cases: &[
-            "owed", "delays", "meeting", "precedes", "kills", "none", "implies", "typical",
+            "owed", "counted", "delays", "meeting", "precedes", "kills", "none", "implies",
+            "typical",
         ],
         library: |c, n| library::judge(&c.sheet, c.first(n)),
         plain: |c, n| plain::judge(&c.sheet, c.first(n)),
     },
     Call {
         name: "lift_observe",
-        cases: &["owed", "precedes", "none", "typical"],
+        cases: &["owed", "counted", "precedes", "none", "typical"],
         library: observe,
         plain: plain_observe,
     },

@@ -65,6 +65,7 @@ fn all_unseen(tag: i16) -> Vec<(u8, i16)> {
 pub fn all() -> Vec<Case> {
     vec![
         owed(),
+        counted_ticks(),
         delays(),
         meeting(),
         precedes(),
@@ -108,6 +109,45 @@ fn owed() -> Case {
         8,
         lines,
         five_stay,
+    )
+}
+
+/// Clocks 0 and 1 begin countdowns of 3 on their own ticks, the one for clock 4
+/// and the other for itself. Of each are held none, 3, 3 and 2, or 3, 2 and 1:
+/// these a tick leaves as they are, one met, two fallen, one begun. Clocks 2
+/// and 3 both begin a countdown of 1 on each of the two, which its own next
+/// tick meets: none is held, or both. Clocks 4 to 7 begin some of these too.
+/// The remainders are 4 times 4 times 2 sets, 32, the largest of eight
+/// countdowns.
+fn counted_ticks() -> Case {
+    let begin = |a: u8, which: &[u8]| -> Vec<Vec<u8>> {
+        which
+            .iter()
+            .map(|&k| match k {
+                0 => counted(a, 3, 0, 4),
+                1 => counted(a, 3, 1, 1),
+                _ => counted(a, 1, k, k),
+            })
+            .collect()
+    };
+    let begun: [&[u8]; 8] = [
+        &[0],
+        &[1],
+        &[2, 3],
+        &[2, 3],
+        &[0, 1],
+        &[0, 2, 3],
+        &[1, 2, 3],
+        &[2, 3],
+    ];
+    let lines = (0..8).zip(begun).flat_map(|(a, k)| begin(a, k)).collect();
+    case(
+        "counted",
+        "16 counted lines, up to 8 countdowns",
+        100,
+        8,
+        lines,
+        |n| all_unseen(n as i16),
     )
 }
 

@@ -1,8 +1,9 @@
 //! The differential test of the live calls: random lists of calls on states
 //! that are opened, reopened, copied, stored and damaged, beside plain
 //! monitors that go through the same.
-use crate::random::{damage_bytes, damage_head, hex, input, Input, Seen};
+use crate::random::{damage_bytes, damage_head, hex, input, Input, Room, Seen};
 use crate::state::{self, Words, FORMAT, SIDES, WIDTH, WORDS};
+use crate::state::{COUNTDOWNS, FREE, NUMBERS, OWED, PAIRS};
 use crate::xorshift::Xorshift;
 use crate::{library, plain};
 
@@ -51,33 +52,73 @@ fn stored(words: &Words) -> Box<Words> {
 fn damage_word(r: &mut Xorshift, words: &mut Words) {
     let row = WIDTH * (words[4] as usize).min(SIDES[1]);
     let row = row + WIDTH * r.below(1 + words[6].min(32) as u64) as usize;
-    let at = match r.below(16) {
+    let at = match r.below(20) {
         0 => 0,
         n @ 1..=6 => n as usize,
         7 => 8 + r.below(8) as usize,
         8 | 9 => WIDTH + r.below(64) as usize,
         10 => 2 * WIDTH + r.below(32) as usize,
-        11..=14 => row + r.below(49) as usize,
+        11 => return damage_number(r, words),
+        12..=15 => row + r.below(FREE as u64) as usize,
+        16 => return damage_owing(r, &mut words[row + OWED..], &DUES),
+        17 | 18 => return damage_owing(r, &mut words[row + COUNTDOWNS..], &WANTED),
         _ => r.below(WORDS as u64) as usize,
     };
     let near = [
-        0, 1, 2, 3, 7, 8, 9, 15, 16, 17, 23, 24, 32, 33, 39, 256, 4000, 4001,
+        0, 1, 2, 3, 7, 8, 9, 15, 16, 17, 23, 24, 25, 32, 33, 39, 255, 256, 4000, 4001,
     ];
     words[at] = match r.below(4) {
         0 => r.next() as u32,
         1 => words[at] ^ 1 << r.below(32),
         2 => r.pick(&[
-            98302,
-            98303,
+            131070,
+            131071,
             32767,
             65535,
             65536,
             FORMAT,
-            0xffff_8000,
-            0xffff_7fff,
+            FORMAT - 1,
+            0x8000_0000,
+            0xffff_ffff,
         ]),
         _ => r.pick(&near),
     };
+}
+
+/// The first number of a line: of a counted line the last byte counts, and is
+/// not 0.
+fn damage_number(r: &mut Xorshift, words: &mut Words) {
+    let lines = words[2].clamp(1, 16) as u64;
+    words[2 * WIDTH + r.below(lines) as usize] = r.pick(&[0, 1, 255, 256, 257, 65536]);
+}
+
+/// Numbers of an obligation and of a countdown: the last due of all is 98,302,
+/// and 1 to 255 are wanted.
+const DUES: [u32; 6] = [0, 32768, 131070, 131071, 1 << 31, u32::MAX];
+const WANTED: [u32; 6] = [0, 1, 255, 256, 257, 1 << 31];
+
+/// In the obligations or the countdowns of a row, mostly one that is held:
+/// their count, a ninth with it; a clock or an on-clock that is too high; a
+/// number outside its limits.
+fn damage_owing(r: &mut Xorshift, part: &mut [u32], numbers: &[u32]) {
+    let j = r.below(part[0].clamp(1, 8) as u64) as usize;
+    match r.below(4) {
+        0 => part[0] = r.pick(&[0, 1, 7, 8, 9]),
+        1 => part[PAIRS + j] = r.below(9) as u32 + 256 * r.below(9) as u32,
+        2 => part[PAIRS + j] ^= r.pick(&[8, 8 << 8, 1 << 16]),
+        _ => part[NUMBERS + j] = r.pick(numbers),
+    }
+}
+
+/// The plain monitor's call; what it is after an instant is looked at, but not
+/// again once it is exhausted.
+fn taken(m: &mut plain::Monitor, record: &[u8], room: &mut Room) -> u64 {
+    let exhausted = m.exhausted().is_some();
+    let result = m.call(record);
+    if result & 0xff == 0 && !exhausted {
+        room.look(m);
+    }
+    result
 }
 
 #[derive(Default)]
@@ -86,12 +127,14 @@ struct Test {
     calls: u64,
     opened: Seen,
     observed: Seen,
+    room: Room,
     last: Seen,
     owing: Seen,
     some_owing: u64,
     copied: u64,
     stored: u64,
     damaged: u64,
+    counting: u64,
     within: u64,
 }
 
@@ -206,7 +249,7 @@ impl Test {
         let Some(m) = &mut slot.plain else { return };
         let mut differences = 0;
         for record in &slot.instants[..slot.instants.len() - 4] {
-            let due = m.call(record);
+            let due = taken(m, record, &mut self.room);
             self.calls += 1;
             self.observed.result(due);
             differences += (library::observe(&mut slot.words, record) != due) as u64;
@@ -250,7 +293,7 @@ impl Test {
         let result = library::observe(&mut slot.words, record);
         let due = match &mut slot.plain {
             None => NO_MONITOR,
-            Some(m) => m.call(record),
+            Some(m) => taken(m, record, &mut self.room),
         };
         self.calls += 1;
         self.observed.result(due);
@@ -270,6 +313,7 @@ impl Test {
     /// state stays within them.
     fn damaged(&mut self, r: &mut Xorshift, slot: &Slot, record: &[u8]) {
         let mut slot = slot.clone();
+        self.counting += slot.plain.as_ref().is_some_and(|m| m.most()[1] > 0) as u64;
         for _ in 0..r.pick(&[1, 1, 1, 2, 5]) {
             damage_word(r, &mut slot.words);
         }
@@ -374,9 +418,10 @@ pub fn random(seed: u64, count: u64) -> u64 {
         test.owing.numbers[0], test.some_owing
     );
     test.owing.print("lift_owing", &taken);
+    test.room.print();
     println!(
-        "states copied {}, stored and read back {}, with words changed {}, of these within limits {}",
-        test.copied, test.stored, test.damaged, test.within
+        "states copied {}, stored and read back {}, with words changed {}, of these with countdowns {}, within limits {}",
+        test.copied, test.stored, test.damaged, test.counting, test.within
     );
     println!(
         "live {seed}: {count} lists, {} calls, {} differences",

@@ -1,7 +1,7 @@
-//! The yardstick: document 01's monitor written as in careful C. It works in
-//! place and without heap; what the tags alone decide is done once per
-//! instant, what the ticks alone decide once per filling; it stops as soon as
-//! the answer is known. It shares nothing with the library.
+//! The yardstick: the monitor of documents 01 and 02 written as in careful C.
+//! It works in place and without heap; what the tags alone decide is done once
+//! per instant, what the ticks alone decide once per filling; it stops as soon
+//! as the answer is known. It shares nothing with the library.
 
 const MAX_CLOCKS: usize = 8;
 const MAX_LINES: usize = 16;
@@ -9,6 +9,7 @@ const MAX_SPORADIC: usize = 8;
 const MAX_INSTANTS: u32 = 4000;
 const MAX_LIVE: usize = 32;
 const MAX_OWED: usize = 8;
+const MAX_COUNTDOWNS: usize = 8;
 
 const HEAD: usize = 4;
 const ENTRY: usize = 3;
@@ -75,6 +76,14 @@ struct Obligation {
     on: u8,
 }
 
+/// A tick of `clock` owed at the last of the ticks of `on` that are wanted.
+#[derive(Clone, Copy, Default, PartialEq, Eq)]
+struct Countdown {
+    clock: u8,
+    on: u8,
+    wanted: u8,
+}
+
 #[derive(Clone, Copy, Default)]
 struct Relation {
     a: usize,
@@ -99,6 +108,13 @@ struct Delay {
     by: i32,
 }
 
+/// Each tick of `from` begins a countdown.
+#[derive(Clone, Copy, Default)]
+struct Counted {
+    from: u8,
+    begins: Countdown,
+}
+
 #[derive(Clone, Copy, Default)]
 struct Precedes {
     a: u8,
@@ -116,6 +132,7 @@ struct Sheet {
     excludes: List<Pair, MAX_LINES>,
     kills: List<Pair, MAX_LINES>,
     delays: List<Delay, MAX_LINES>,
+    counted: List<Counted, MAX_LINES>,
     precedes: List<Precedes, MAX_LINES>,
 }
 
@@ -139,6 +156,7 @@ fn read_sheet(bytes: &[u8]) -> Result<Sheet, u8> {
         excludes: List::default(),
         kills: List::default(),
         delays: List::default(),
+        counted: List::default(),
         precedes: List::default(),
     };
     let mut at = HEAD + 1;
@@ -167,6 +185,7 @@ fn read_line(sheet: &mut Sheet, kind: u16, body: &[u8]) -> Result<(), u8> {
         17 => (6, 2),
         18 | 19 | 21 | 22 | 23 => (2, 2),
         20 => (5, 3),
+        24 => (4, 3),
         _ => return Err(5),
     };
     if body.len() != length {
@@ -211,7 +230,20 @@ fn read_line(sheet: &mut Sheet, kind: u16, body: &[u8]) -> Result<(), u8> {
             strict: false,
         }),
         22 => sheet.precedes.push(Precedes { a, b, strict: true }),
-        _ => sheet.kills.push(pair),
+        23 => sheet.kills.push(pair),
+        _ => {
+            if body[3] == 0 {
+                return Err(18);
+            }
+            sheet.counted.push(Counted {
+                from: 1 << a,
+                begins: Countdown {
+                    clock: body[2],
+                    on: b,
+                    wanted: body[3],
+                },
+            });
+        }
     }
     Ok(())
 }
@@ -258,11 +290,12 @@ fn whole_instant(bytes: &[u8], clocks: usize) -> Result<Instant, u8> {
 
 // ---- the monitor
 
-/// Obligations without repeats; a lead for each precedes line, in the
-/// sheet's order; the clocks that are stopped.
+/// Obligations and countdowns without repeats; a lead for each precedes line,
+/// in the sheet's order; the clocks that are stopped.
 #[derive(Clone, Copy, Default)]
 struct Remainder {
     owed: List<Obligation, MAX_OWED>,
+    countdowns: List<Countdown, MAX_COUNTDOWNS>,
     leads: [u16; MAX_LINES],
     stopped: u8,
 }
@@ -291,18 +324,26 @@ struct Filling {
     ticks: u8,
     stops: u8,
     begun: List<Obligation, MAX_LINES>,
+    countdowns: List<Countdown, MAX_LINES>,
     needs: [u16; MAX_LINES],
     gains: [u16; MAX_LINES],
 }
 
-struct Exhausted;
+/// What there is no room for: a ninth obligation or countdown of a remainder,
+/// or a 33rd remainder.
+#[derive(Clone, Copy, PartialEq, Eq)]
+pub enum Exhausted {
+    Owed,
+    Countdowns,
+    Live,
+}
 
 #[derive(Clone)]
 pub struct Monitor {
     sheet: Sheet,
     instants: u32,
     tags: [i16; MAX_CLOCKS],
-    exhausted: bool,
+    exhausted: Option<Exhausted>,
     /// Two sets that change places: those held and those found.
     held: usize,
     sets: [Set; 2],
@@ -314,7 +355,7 @@ impl Monitor {
             sheet,
             instants: 0,
             tags: [0; MAX_CLOCKS],
-            exhausted: false,
+            exhausted: None,
             held: 0,
             sets: [Set::empty(), Set::empty()],
         };
@@ -337,7 +378,7 @@ impl Monitor {
     /// Answer, live, clear.
     fn answer(&self) -> [u8; ENTRY] {
         let held = self.held();
-        if self.exhausted {
+        if self.exhausted.is_some() {
             [EXHAUSTED, 0, 0]
         } else if held.live == 0 {
             [BROKEN, 0, 0]
@@ -349,7 +390,7 @@ impl Monitor {
     fn observe(&mut self, instant: &Instant) {
         let first = self.instants == 0;
         self.instants += 1;
-        if self.exhausted || self.held().live == 0 {
+        if self.exhausted.is_some() || self.held().live == 0 {
             return;
         }
         if !tags_fit(&self.sheet, first, &self.tags, &instant.tags) {
@@ -365,7 +406,7 @@ impl Monitor {
         };
         match advance(&self.sheet, instant, held, found) {
             Ok(()) => self.held = 1 - self.held,
-            Err(Exhausted) => self.exhausted = true,
+            Err(why) => self.exhausted = Some(why),
         }
     }
 }
@@ -390,6 +431,7 @@ fn advance(sheet: &Sheet, instant: &Instant, held: &Set, found: &mut Set) -> Res
         ticks: 0,
         stops: 0,
         begun: List::default(),
+        countdowns: List::default(),
         needs: [0; MAX_LINES],
         gains: [0; MAX_LINES],
     };
@@ -427,8 +469,9 @@ fn ticks_fit(sheet: &Sheet, ticks: u8) -> bool {
         && !sheet.kills.all().iter().any(both)
 }
 
-/// The clocks that a filling stops, the obligations it begins (each once),
-/// and for each precedes line the lead it needs and what it adds to it.
+/// The clocks that a filling stops, the obligations and countdowns it begins
+/// (each once), and for each precedes line the lead it needs and what it adds
+/// to it.
 fn fill(sheet: &Sheet, ticks: u8, tags: &[i16; MAX_CLOCKS], f: &mut Filling) {
     f.ticks = ticks;
     f.stops = 0;
@@ -448,6 +491,12 @@ fn fill(sheet: &Sheet, ticks: u8, tags: &[i16; MAX_CLOCKS], f: &mut Filling) {
             if !f.begun.all().contains(&o) {
                 f.begun.push(o);
             }
+        }
+    }
+    f.countdowns.count = 0;
+    for l in sheet.counted.all() {
+        if ticks & l.from != 0 && !f.countdowns.all().contains(&l.begins) {
+            f.countdowns.push(l.begins);
         }
     }
     for (i, l) in sheet.precedes.all().iter().enumerate() {
@@ -487,12 +536,35 @@ fn step(
         }
         next.owed.push(*o);
     }
+    // Those of the same clocks fall together: what differs stays different.
+    next.countdowns.count = 0;
+    for c in r.countdowns.all() {
+        let mut c = *c;
+        if f.ticks >> c.on & 1 != 0 {
+            c.wanted -= 1;
+            if c.wanted == 0 {
+                if f.ticks >> c.clock & 1 == 0 {
+                    return Ok(false);
+                }
+                continue;
+            }
+        }
+        next.countdowns.push(c);
+    }
     for o in f.begun.all() {
         if !next.owed.all().contains(o) {
             if next.owed.count == MAX_OWED {
-                return Err(Exhausted);
+                return Err(Exhausted::Owed);
             }
             next.owed.push(*o);
+        }
+    }
+    for c in f.countdowns.all() {
+        if !next.countdowns.all().contains(c) {
+            if next.countdowns.count == MAX_COUNTDOWNS {
+                return Err(Exhausted::Countdowns);
+            }
+            next.countdowns.push(*c);
         }
     }
     Ok(true)
@@ -507,28 +579,36 @@ fn insert(found: &mut Set, leads: usize) -> Result<(), Exhausted> {
         return Ok(());
     }
     if n == MAX_LIVE {
-        return Err(Exhausted);
+        return Err(Exhausted::Live);
     }
-    found.clear |= x.owed.count == 0;
+    found.clear |= x.owed.count == 0 && x.countdowns.count == 0;
     found.live = n + 1;
     Ok(())
 }
 
-/// Neither lists an obligation twice, so equal counts and one inclusion do.
+/// Neither lists an obligation or a countdown twice, so equal counts and one
+/// inclusion do.
 fn same(x: &Remainder, r: &Remainder, leads: usize) -> bool {
     x.owed.count == r.owed.count
+        && x.countdowns.count == r.countdowns.count
         && x.stopped == r.stopped
         && x.leads[..leads] == r.leads[..leads]
         && x.owed.all().iter().all(|o| r.owed.all().contains(o))
+        && x.countdowns
+            .all()
+            .iter()
+            .all(|c| r.countdowns.all().contains(c))
 }
 
 // ---- live
 
 /// A remainder to be looked at: obligations in order, each a clock, a due and
-/// an on-clock; the leads of the precedes lines; the stopped clocks, a mask.
+/// an on-clock; countdowns in order, each a clock, an on-clock and the ticks
+/// still wanted; the leads of the precedes lines; the stopped clocks, a mask.
 #[derive(Clone, Debug, PartialEq, Eq, PartialOrd, Ord)]
 pub struct Held {
     pub owed: Vec<(u8, i32, u8)>,
+    pub countdowns: Vec<(u8, u8, u8)>,
     pub leads: Vec<u32>,
     pub stopped: u8,
 }
@@ -570,11 +650,38 @@ impl Monitor {
         live.then_some(&self.tags[..self.sheet.clocks])
     }
 
+    /// Those held, none once exhausted.
+    fn live(&self) -> &[Remainder] {
+        let held = self.held();
+        let live = if self.exhausted.is_some() {
+            0
+        } else {
+            held.live
+        };
+        &held.items[..live]
+    }
+
+    /// The most obligations of a remainder held, the most countdowns, and the
+    /// most of both together.
+    pub fn most(&self) -> [usize; 3] {
+        let most =
+            |count: fn(&Remainder) -> usize| self.live().iter().map(count).max().unwrap_or(0);
+        [
+            most(|r| r.owed.count),
+            most(|r| r.countdowns.count),
+            most(|r| r.owed.count + r.countdowns.count),
+        ]
+    }
+
+    /// What there was no room for, once exhausted.
+    pub fn exhausted(&self) -> Option<Exhausted> {
+        self.exhausted
+    }
+
     /// Those held, in order.
     pub fn remainders(&self) -> Vec<Held> {
-        let held = self.held();
-        let live = if self.exhausted { 0 } else { held.live };
-        let mut all: Vec<Held> = held.items[..live]
+        let mut all: Vec<Held> = self
+            .live()
             .iter()
             .map(|r| {
                 let mut owed: Vec<_> = r
@@ -584,9 +691,17 @@ impl Monitor {
                     .map(|o| (o.clock, o.due, o.on))
                     .collect();
                 owed.sort();
+                let mut countdowns: Vec<_> = r
+                    .countdowns
+                    .all()
+                    .iter()
+                    .map(|c| (c.clock, c.on, c.wanted))
+                    .collect();
+                countdowns.sort();
                 let leads = &r.leads[..self.sheet.precedes.count];
                 Held {
                     owed,
+                    countdowns,
                     leads: leads.iter().map(|&n| n as u32).collect(),
                     stopped: r.stopped,
                 }
@@ -677,13 +792,12 @@ pub fn watch(sheet: &[u8], log: &[u8], out: &mut [u8]) -> u64 {
 }
 
 fn owing(m: &Monitor, clock: u8) -> u8 {
-    if m.exhausted {
-        return 0;
-    }
-    let held = m.held();
-    held.items[..held.live]
+    m.live()
         .iter()
-        .filter(|r| r.owed.all().iter().any(|o| o.clock == clock))
+        .filter(|r| {
+            r.owed.all().iter().any(|o| o.clock == clock)
+                || r.countdowns.all().iter().any(|c| c.clock == clock)
+        })
         .count() as u8
 }
 
@@ -699,21 +813,12 @@ pub fn panel(sheet: &[u8], log: &[u8], clock: u8) -> u64 {
     }
 }
 
-/// After a whole log that holds, the most obligations of a remainder.
-pub fn most_owed(sheet: &[u8], log: &[u8]) -> usize {
-    match read_sheet(sheet) {
-        Err(_) => 0,
-        Ok(sheet) => {
-            let mut m = Monitor::open(sheet);
-            follow(&mut m, log, |_| ());
-            let held = m.held();
-            held.items[..held.live]
-                .iter()
-                .map(|r| r.owed.count)
-                .max()
-                .unwrap_or(0)
-        }
-    }
+/// The monitor after a whole log, or after its instants before a refusal; none
+/// of a sheet that is refused.
+pub fn after(sheet: &[u8], log: &[u8]) -> Option<Monitor> {
+    let mut m = Monitor::opened(sheet).ok()?;
+    follow(&mut m, log, |_| ());
+    Some(m)
 }
 
 pub fn sheet_number(sheet: &[u8]) -> u8 {

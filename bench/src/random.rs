@@ -1,6 +1,7 @@
 //! The differential test: random sheets and logs, valid and damaged, through
 //! every call of the library and of the plain monitor.
 use crate::bytes::*;
+use crate::plain::Exhausted;
 use crate::xorshift::Xorshift;
 use crate::{library, plain};
 
@@ -29,10 +30,21 @@ fn tag(r: &mut Xorshift) -> i16 {
     }
 }
 
+/// The count of a counted line: mostly one that is reached, the longest, and
+/// seldom 0, which is refused.
+fn wanted(r: &mut Xorshift) -> u8 {
+    match r.below(80) {
+        0 => 0,
+        1..=4 => 255,
+        5..=12 => 4 + r.below(8) as u8,
+        _ => 1 + r.below(3) as u8,
+    }
+}
+
 fn line(r: &mut Xorshift, clocks: u8) -> Line {
     let mut clock = || r.below(clocks as u64) as u8;
     let (a, b, d) = (clock(), clock(), clock());
-    match r.below(17) {
+    match r.below(22) {
         0..=3 => sporadic(a, tag(r), b),
         4 => {
             if r.once_in(3) {
@@ -55,7 +67,8 @@ fn line(r: &mut Xorshift, clocks: u8) -> Line {
         }
         12 | 13 => weakly(a, b),
         14 => strictly(a, b),
-        _ => kills(a, b),
+        15 | 16 => kills(a, b),
+        _ => counted(a, wanted(r), b, d),
     }
 }
 
@@ -78,11 +91,13 @@ fn lines(r: &mut Xorshift, clocks: u8) -> Vec<Line> {
             let (a, b) = (r.below(clocks as u64) as u8, r.below(clocks as u64) as u8);
             sporadic(a, small(r, 0, 20), b)
         } else if !lines.is_empty() && r.once_in(6) {
-            // One that differs from another in its on-clock alone, or in one
-            // byte of its last number.
+            // One that differs from another in its on-clock alone, in its
+            // count, or in one byte of its last number.
             let mut near = lines[r.below(lines.len() as u64) as usize].clone();
             let last = near.len() - 1;
-            if last > 5 && r.once_in(2) {
+            if near[2] == 24 && r.once_in(2) {
+                near[last] = wanted(r);
+            } else if near[2] != 24 && last > 5 && r.once_in(2) {
                 near[last - r.below(2) as usize] ^= 1;
             } else {
                 near[5] = r.below(clocks as u64) as u8;
@@ -99,11 +114,17 @@ fn lines(r: &mut Xorshift, clocks: u8) -> Vec<Line> {
     lines
 }
 
-/// Lines that keep much in mind: obligations that stay owed for a while,
-/// leads and stopped clocks. Such runs come near 8 obligations and 32 live.
+/// Counts of which many are not reached in a short log.
+const LONG: [u8; 11] = [1, 2, 3, 4, 5, 6, 7, 252, 253, 254, 255];
+
+/// Lines that keep much in mind: obligations that stay owed and countdowns
+/// that go on for a while, leads and stopped clocks. Such runs come near 8
+/// obligations, 8 countdowns and 32 live.
 fn heavy_lines(r: &mut Xorshift, clocks: u8) -> Vec<Line> {
     let mut lines: Vec<Line> = Vec::new();
     let owed = r.below(9);
+    // Of seven lines that begin something, so many begin a countdown.
+    let counting = r.below(8);
     for i in 0..owed {
         lines.push(sporadic(
             r.below(clocks as u64) as u8,
@@ -118,6 +139,7 @@ fn heavy_lines(r: &mut Xorshift, clocks: u8) -> Vec<Line> {
             0 => weakly(a, b),
             1 => kills(a, b),
             2 => excludes(a, b),
+            n if n - 3 < counting => counted(a, r.pick(&LONG), b, d),
             _ => delayed(a, 3 + r.below(5) as u16, b, d),
         });
     }
@@ -266,19 +288,34 @@ pub fn input(r: &mut Xorshift) -> Input {
     v
 }
 
-/// Around 4,000 instants, all ticks seen.
+/// Around 4,000 instants, all ticks seen. Clock 0 may count its own ticks, up
+/// to eight at a time; or clock 1 ticks seldom and begins a long countdown on
+/// clock 0, whose last tick meets it, or is likely to lack the one of clock 1.
 fn long_input(r: &mut Xorshift) -> Input {
-    let clocks = 1 + r.below(2) as u8;
-    let lines = if r.once_in(2) {
-        vec![weakly(0, 0)]
-    } else {
-        Vec::new()
+    let (clocks, lines, seldom) = match r.below(4) {
+        0 => (1 + r.below(2) as u8, vec![], false),
+        1 => (1 + r.below(2) as u8, vec![weakly(0, 0)], false),
+        2 => {
+            let n = 1 + r.below(8) as u8;
+            (1 + r.below(2) as u8, vec![counted(0, n, 0, 0)], false)
+        }
+        _ => {
+            let (n, d) = (r.pick(&[100, 254, 255]), r.pick(&[0, 0, 1]));
+            (2, vec![counted(1, n, 0, d)], true)
+        }
     };
     let count = 3999 + r.below(4);
     let instants = (0..count)
         .map(|n| {
             let cells: Vec<_> = (0..clocks)
-                .map(|_| (r.pick(&[IDLE, TICK]), n as i16))
+                .map(|k| {
+                    let tick = if seldom && k == 1 {
+                        r.once_in(200)
+                    } else {
+                        r.once_in(2)
+                    };
+                    (if tick { TICK } else { IDLE }, n as i16)
+                })
                 .collect();
             instant(&cells)
         })
@@ -324,9 +361,13 @@ impl Input {
             r.below(last as u64 + 1) as usize
         };
         let record = &mut records[which];
-        match r.below(9) {
+        match r.below(10) {
             // Kind.
-            0 => record[2] = r.pick(&[0, 1, 15, 16, 17, 18, 19, 20, 21, 22, 23, 24, 32, 33, any]),
+            0 => {
+                record[2] = r.pick(&[
+                    0, 1, 15, 16, 17, 18, 19, 20, 21, 22, 23, 24, 25, 32, 33, any,
+                ])
+            }
             1 => record[3] = r.pick(&[1, any]),
             // Length, by the field alone or by the body alone.
             2 => record[0] = record[0].wrapping_add(r.pick(&[1, 2, 255])),
@@ -341,6 +382,13 @@ impl Input {
             5 => {
                 record.pop();
                 record[0] = (record.len() - 4) as u8;
+            }
+            // A count of 0, at times beside a clock that is too high.
+            6 if record[2] == 24 => {
+                record[7] = 0;
+                if r.once_in(4) {
+                    record[4 + r.below(3) as usize] = self.clocks;
+                }
             }
             // A clock of a line, a tick byte of an instant.
             _ => {
@@ -390,7 +438,7 @@ pub fn damage_head(r: &mut Xorshift, sheet: &mut Vec<u8>) {
 /// How often each outcome of a call was seen.
 #[derive(Default)]
 pub struct Seen {
-    pub numbers: [u64; 18],
+    pub numbers: [u64; 19],
     exhausted: u64,
     broken: u64,
     clear: u64,
@@ -437,7 +485,47 @@ impl Seen {
         println!("    refused {}", refused.join(", "));
         assert_eq!(
             self.other, 0,
-            "{call}: an outcome that document 01 does not have"
+            "{call}: an outcome that documents 01 and 02 do not have"
+        );
+    }
+}
+
+/// How often countdowns were held, eight in a remainder and eight obligations,
+/// and how often there was no room for one more.
+#[derive(Default)]
+pub struct Room {
+    countdowns: u64,
+    eight_countdowns: u64,
+    eight_owed: u64,
+    eight_of_both: u64,
+    ninth_countdown: u64,
+    ninth_owed: u64,
+    remainder: u64,
+}
+
+impl Room {
+    pub fn look(&mut self, m: &plain::Monitor) {
+        let [owed, countdowns, both] = m.most();
+        self.countdowns += (countdowns > 0) as u64;
+        self.eight_countdowns += (countdowns == 8) as u64;
+        self.eight_owed += (owed == 8) as u64;
+        self.eight_of_both += (both == 16) as u64;
+        match m.exhausted() {
+            None => {}
+            Some(Exhausted::Countdowns) => self.ninth_countdown += 1,
+            Some(Exhausted::Owed) => self.ninth_owed += 1,
+            Some(Exhausted::Live) => self.remainder += 1,
+        }
+    }
+
+    pub fn print(&self) {
+        println!(
+            "countdowns held {}; of a remainder eight countdowns {}, eight obligations {}, eight of both {}",
+            self.countdowns, self.eight_countdowns, self.eight_owed, self.eight_of_both
+        );
+        println!(
+            "exhausted by a ninth countdown {}, by a ninth obligation {}, by a 33rd remainder {}",
+            self.ninth_countdown, self.ninth_owed, self.remainder
         );
     }
 }
@@ -453,6 +541,7 @@ pub fn hex(bytes: &[u8]) -> String {
 struct Test {
     differences: u64,
     judged: Seen,
+    room: Room,
     watched: Seen,
     panelled: Seen,
     owing: u64,
@@ -500,6 +589,9 @@ impl Test {
 
         let judged = plain::judge(&sheet, &log);
         self.judged.result(judged);
+        if let Some(m) = plain::after(&sheet, &log) {
+            self.room.look(&m);
+        }
         self.compare(
             "lift_judge",
             index,
@@ -588,6 +680,7 @@ pub fn random(seed: u64, count: u64) -> u64 {
     let mut test = Test {
         differences: 0,
         judged: Seen::default(),
+        room: Room::default(),
         watched: Seen::default(),
         panelled: Seen::default(),
         owing: 0,
@@ -614,6 +707,7 @@ pub fn random(seed: u64, count: u64) -> u64 {
         "lift_instant_number",
         &format!("taken {}", test.instants.numbers[0]),
     );
+    test.room.print();
     println!(
         "random {seed}: {count} sheets and logs, {} differences",
         test.differences

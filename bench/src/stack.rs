@@ -1,6 +1,6 @@
 //! The stack that a call takes: it runs on a thread whose stack is memory of
 //! ours, filled with a pattern, and what is changed afterwards was used.
-use crate::cases;
+use crate::cases::{self, Case};
 use crate::state::WORDS;
 use crate::{library, plain};
 use std::cell::RefCell;
@@ -58,39 +58,53 @@ fn used(run: &dyn Fn()) -> usize {
     SIZE - 8 * untouched
 }
 
+/// The most that a call takes on the cases with eight obligations and with
+/// eight countdowns.
 pub fn stack() {
     let all = cases::all();
-    let c = all.iter().find(|c| c.name == "owed").unwrap();
+    let find = |name| all.iter().find(|c| c.name == name).unwrap();
+    let [owed, counted] = ["owed", "counted"].map(|name| taken(find(name)));
+    for ((name, a), (_, b)) in owed.into_iter().zip(counted) {
+        println!("{:<28} {:>7} bytes", name, a.max(b));
+    }
+}
+
+/// The stack that each call takes on the first instants of a case; live, on
+/// the instant after them.
+fn taken(c: &Case) -> Vec<(&'static str, usize)> {
     let log = c.first(4);
+    let next = &c.first(5)[log.len()..];
     let idle = used(&|| ());
-    let print = |name: &str, run: &dyn Fn()| println!("{:<28} {:>7} bytes", name, used(run) - idle);
+    let mut all = Vec::new();
+    let mut measure = |name, run: &dyn Fn()| all.push((name, used(run) - idle));
     let state = RefCell::new(Box::new([0; WORDS]));
-    print("lift_open", &|| {
+    measure("lift_open", &|| {
         black_box(library::open(&c.sheet, &mut state.borrow_mut()));
     });
     for record in log.chunks_exact(c.record) {
         library::observe(&mut state.borrow_mut(), record);
     }
-    print("lift_observe", &|| {
-        black_box(library::observe(&mut state.borrow_mut(), &log[..c.record]));
+    measure("lift_observe", &|| {
+        black_box(library::observe(&mut state.borrow_mut(), next));
     });
-    print("lift_last", &|| {
+    measure("lift_last", &|| {
         black_box(library::last(&state.borrow()));
     });
-    print("lift_owing", &|| {
+    measure("lift_owing", &|| {
         black_box(library::owing(&state.borrow(), 0));
     });
-    print("lift_judge", &|| {
+    measure("lift_judge", &|| {
         black_box(library::judge(&c.sheet, log));
     });
-    print("lift_watch", &|| {
+    measure("lift_watch", &|| {
         let mut out = [0; 12];
         black_box(library::watch(&c.sheet, log, &mut out));
     });
-    print("lift_panel", &|| {
+    measure("lift_panel", &|| {
         black_box(library::panel(&c.sheet, log, 0));
     });
-    print("the plain monitor's judge", &|| {
+    measure("the plain monitor's judge", &|| {
         black_box(plain::judge(&c.sheet, log));
     });
+    all
 }

@@ -1,7 +1,7 @@
-//! The words of a state, read as document 01's monitor by the layout of
-//! judge's specs/State.antt and specs/Rows.antt: what the library leaves in
-//! them is held against the plain monitor, and damaged words against the
-//! limits. It shares nothing with the library.
+//! The words of a state, read as the monitor of documents 01 and 02 by the
+//! layout of judge's specs/State.antt and specs/Rows.antt: what the library
+//! leaves in them is held against the plain monitor, and damaged words against
+//! the limits. It shares nothing with the library.
 use crate::bytes;
 use crate::plain::Held;
 
@@ -10,19 +10,26 @@ pub const WORDS: usize = 4608;
 pub type Words = [u32; WORDS];
 
 /// The format and its version, word 0.
-pub const FORMAT: u32 = 0x4c46_0001;
+pub const FORMAT: u32 = 0x4c46_0002;
 
 /// Words of a row, and the first rows of the two sides.
 pub const WIDTH: usize = 64;
 pub const SIDES: [usize; 2] = [6, 39];
 
-/// Where the parts of a remainder begin in its row.
-const COUNT: usize = 0;
-const CLOCKS: usize = 1;
-const ON_CLOCKS: usize = 9;
-const DUES: usize = 17;
-const LEADS: usize = 25;
-const STOPPED: usize = 41;
+/// Where the parts of a remainder begin in its row, and its free words.
+pub const OWED: usize = 0;
+pub const COUNTDOWNS: usize = 17;
+const LEADS: usize = 34;
+const STOPPED: usize = 50;
+pub const FREE: usize = 58;
+
+/// In the parts of obligations and of countdowns: the count, then both clocks
+/// of each in a word, then a number of each.
+pub const PAIRS: usize = 1;
+pub const NUMBERS: usize = 9;
+
+/// The number of an obligation is its due and this.
+const DUE_ZERO: i64 = 32768;
 
 /// A monitor within its limits.
 pub struct Monitor {
@@ -47,16 +54,20 @@ impl Monitor {
     }
 
     fn is_clear(&self) -> bool {
-        self.held.iter().any(|r| r.owed.is_empty())
+        let clear = |r: &Held| r.owed.is_empty() && r.countdowns.is_empty();
+        self.held.iter().any(clear)
     }
 
     pub fn owing(&self, clock: u8) -> u8 {
-        let owes = |r: &&Held| r.owed.iter().any(|o| o.0 == clock);
+        let owes = |r: &&Held| {
+            r.owed.iter().any(|o| o.0 == clock) || r.countdowns.iter().any(|c| c.0 == clock)
+        };
         self.held.iter().filter(owes).count() as u8
     }
 }
 
-/// The bytes of line k, if it has a kind and its clocks are below the count.
+/// The bytes of line k, if it has a kind, its clocks are below the count and
+/// it does not count to 0.
 fn line(w: &Words, k: usize, clocks: usize) -> Option<Vec<u8>> {
     let byte = |part: usize| w[WIDTH + 16 * part + k] as u8;
     let number = |part: usize| w[2 * WIDTH + 16 * part + k] as u16;
@@ -67,38 +78,63 @@ fn line(w: &Words, k: usize, clocks: usize) -> Option<Vec<u8>> {
         17 => bytes::relation(a, x as i16, b, y as i16),
         18 => bytes::implies(a, b),
         19 => bytes::excludes(a, b),
-        20 if d as usize >= clocks => return None,
+        20 | 24 if d as usize >= clocks => return None,
         20 => bytes::delayed(a, x, b, d),
         21 => bytes::weakly(a, b),
         22 => bytes::strictly(a, b),
         23 => bytes::kills(a, b),
+        24 if x as u8 == 0 => return None,
+        24 => bytes::counted(a, x as u8, b, d),
         _ => return None,
     };
     ((a as usize) < clocks && (b as usize) < clocks).then_some(line)
 }
 
-/// The remainder of a row, if it is within the limits.
-fn remainder(row: &[u32], clocks: usize, leads: &[usize], instants: u32) -> Option<Held> {
-    let count = row[COUNT] as usize;
+/// What a part of a row lists, each with its clock, on-clock and number, if
+/// there are at most eight and their clocks are below the count.
+fn listed(part: &[u32], clocks: usize) -> Option<Vec<(u8, u8, u32)>> {
+    let count = part[0] as usize;
     if count > 8 {
         return None;
     }
-    let mut owed: Vec<_> = (0..count)
+    let all: Vec<_> = (0..count)
         .map(|j| {
-            let (clock, on) = (row[CLOCKS + j] as u8, row[ON_CLOCKS + j] as u8);
-            (clock, row[DUES + j] as i32, on)
+            let pair = part[PAIRS + j];
+            (pair as u8, (pair >> 8) as u8, part[NUMBERS + j])
         })
         .collect();
+    let below = |k: u8| (k as usize) < clocks;
+    all.iter()
+        .all(|&(clock, on, _)| below(clock) && below(on))
+        .then_some(all)
+}
+
+/// The remainder of a row, if it is within the limits.
+fn remainder(row: &[u32], clocks: usize, leads: &[usize], instants: u32) -> Option<Held> {
+    let mut owed = Vec::new();
+    for (clock, on, number) in listed(&row[OWED..], clocks)? {
+        let due = number as i64 - DUE_ZERO;
+        if due > 98302 {
+            return None;
+        }
+        owed.push((clock, due as i32, on));
+    }
     owed.sort();
+    let mut countdowns = Vec::new();
+    for (clock, on, number) in listed(&row[COUNTDOWNS..], clocks)? {
+        if !(1..=255).contains(&number) {
+            return None;
+        }
+        countdowns.push((clock, on, number as u8));
+    }
+    countdowns.sort();
     let leads: Vec<u32> = leads.iter().map(|k| row[LEADS + k]).collect();
-    let within = owed.iter().all(|&(clock, due, on)| {
-        (clock as usize) < clocks && (on as usize) < clocks && (-32768..=98302).contains(&due)
-    });
     let stopped = (0..clocks)
         .map(|k| ((row[STOPPED + k] & 1) as u8) << k)
         .sum();
-    (within && leads.iter().all(|&n| n <= instants)).then_some(Held {
+    leads.iter().all(|&n| n <= instants).then_some(Held {
         owed,
+        countdowns,
         leads,
         stopped,
     })
@@ -151,16 +187,29 @@ pub fn is_tidy(w: &Words) -> bool {
     let (clocks, lines, side) = (w[1] as usize, w[2] as usize, w[4] as usize);
     let live = if w[5] == 1 { 0 } else { w[6] as usize };
     let mut rest = Box::new(*w);
+    // What is used becomes 0; the words that are left over stay.
+    rest[..6].fill(0);
+    if w[5] != 1 {
+        rest[6] = 0;
+    }
+    rest[8..8 + clocks].fill(0);
+    for part in 0..4 {
+        rest[WIDTH + 16 * part..][..lines].fill(0);
+    }
+    for part in 0..2 {
+        rest[2 * WIDTH + 16 * part..][..lines].fill(0);
+    }
     for row in rest[WIDTH * side..].chunks_exact_mut(WIDTH).take(live) {
-        let count = row[COUNT] as usize;
-        row[COUNT] = 0;
-        for part in [CLOCKS, ON_CLOCKS, DUES] {
-            row[part..part + count].fill(0);
+        for part in [OWED, COUNTDOWNS] {
+            let count = row[part] as usize;
+            row[part] = 0;
+            row[part + PAIRS..][..count].fill(0);
+            row[part + NUMBERS..][..count].fill(0);
         }
         for k in (0..lines).filter(|k| [21, 22].contains(&w[WIDTH + k])) {
             row[LEADS + k] = 0;
         }
         row[STOPPED..STOPPED + clocks].fill(0);
     }
-    rest[8 + clocks..16].iter().all(|&x| x == 0) && rest[WIDTH * SIDES[0]..].iter().all(|&x| x == 0)
+    rest.iter().all(|&x| x == 0)
 }

@@ -15,10 +15,10 @@ use records::sheet::Sheet;
 ghost use Prim.Native.Nat.{_≤_};
 
 // The tag 0, counted from the least tag.
-const ZERO: u64 = 32768;
+pub(crate) const ZERO: u64 = 32768;
 
 // The habits of four clocks; more are idle.
-fn four(h0: Habit, h1: Habit, h2: Habit, h3: Habit) -> [Habit; 8] {
+pub(crate) fn four(h0: Habit, h1: Habit, h2: Habit, h3: Habit) -> [Habit; 8] {
     let mut habits = [Habit(8, 8, 0, 0); 8];
     habits[0] = h0;
     habits[1] = h1;
@@ -28,7 +28,13 @@ fn four(h0: Habit, h1: Habit, h2: Habit, h3: Habit) -> [Habit; 8] {
 }
 
 // A plan whose tags rise each by itself.
-fn plan(sheet: Sheet, habits: [Habit; 8], first: u64, instants: u64, unseen: u64) -> Plan {
+pub(crate) fn plan(
+    sheet: Sheet,
+    habits: [Habit; 8],
+    first: u64,
+    instants: u64,
+    unseen: u64,
+) -> Plan {
     Plan {
         sheet,
         habits,

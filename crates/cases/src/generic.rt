@@ -1,6 +1,8 @@
 // Cases of every kind of line, 0 to 6 lines.
 use crate::plan::Habit;
 use crate::plan::Plan;
+use crate::plan::count_of;
+use crate::plan::counts;
 use crate::plan::delayed;
 use crate::plan::empty_sheet;
 use crate::plan::pair;
@@ -15,7 +17,7 @@ use records::sheet::Sheet;
 // The first tag is -2.
 const FIRST: u64 = 32766;
 
-// A kind of line for each of 20 draws.
+// A kind of line for each of 24 draws.
 fn kind_of(draw: u64) -> u64 {
     match draw {
         0..=3 => 16,
@@ -25,7 +27,8 @@ fn kind_of(draw: u64) -> u64 {
         13 => 19,
         14..=15 => 21,
         16..=17 => 22,
-        _ => 23,
+        18..=19 => 23,
+        _ => 24,
     }
 }
 
@@ -35,7 +38,7 @@ fn line(d: [u64; 48], i: usize, clocks: u64) -> Line {
         return pair(18, 0, 0);
     }
     let at = 6 + 6 * i;
-    let kind = kind_of(below(d, at, 20));
+    let kind = kind_of(below(d, at, 24));
     let a = below(d, at + 1, clocks);
     let b = below(d, at + 2, clocks);
     let n = below(d, at + 3, 8);
@@ -44,6 +47,7 @@ fn line(d: [u64; 48], i: usize, clocks: u64) -> Line {
         16 => sporadic(a, b, FIRST + n),
         17 => relation(a, b, factor(n), c / 7),
         20 => delayed(a, n % 4, b, below(d, at + 5, clocks)),
+        24 => counts(a, count_of(n), b, below(d, at + 5, clocks)),
         _ => pair(kind, a, b),
     }
 }

@@ -1,4 +1,5 @@
 // Made cases for tests, of a fixed sequence: a sheet, its instants, damaged records between them, and the sheet with its lines out of order.
+mod counting;
 pub mod course;
 pub mod damage;
 pub mod disorder;

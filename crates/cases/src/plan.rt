@@ -91,6 +91,25 @@ pub fn delayed(a: u64, by: u64, b: u64, d: u64) -> Line {
     }
 }
 
+pub fn counts(a: u64, n: u64, b: u64, d: u64) -> Line {
+    Line::Counted {
+        a: byte(a),
+        b: byte(b),
+        d: byte(d),
+        n: byte(n),
+    }
+}
+
+// How far a line counts, for each of 8 draws.
+pub fn count_of(draw: u64) -> u64 {
+    match draw {
+        0..=2 => 1,
+        3..=4 => 2,
+        5..=6 => 3,
+        _ => 255,
+    }
+}
+
 // A line of two clocks, by its kind.
 pub fn pair(kind: u64, a: u64, b: u64) -> Line {
     let x = byte(a);

@@ -18,6 +18,11 @@ fn up_from(k: u8, up: u64) -> u8 {
     byte(place + up % 8)
 }
 
+// A line of two clocks, each so many places up.
+fn moved_pair(kind: u64, a: u8, b: u8, up: u64) -> Line {
+    pair(kind, up_from(a, up) as u64, up_from(b, up) as u64)
+}
+
 fn moved_line(l: Line, up: u64) -> Line {
     match l {
         Line::Sporadic { a, b, t } => Line::Sporadic {
@@ -31,31 +36,22 @@ fn moved_line(l: Line, up: u64) -> Line {
             p,
             q,
         },
-        Line::Implies { a, b } => Line::Implies {
-            a: up_from(a, up),
-            b: up_from(b, up),
-        },
-        Line::Excludes { a, b } => Line::Excludes {
-            a: up_from(a, up),
-            b: up_from(b, up),
-        },
+        Line::Implies { a, b } => moved_pair(18, a, b, up),
+        Line::Excludes { a, b } => moved_pair(19, a, b, up),
         Line::Delayed { a, b, d, by } => Line::Delayed {
             a: up_from(a, up),
             b: up_from(b, up),
             d: up_from(d, up),
             by,
         },
-        Line::Weakly { a, b } => Line::Weakly {
+        Line::Weakly { a, b } => moved_pair(21, a, b, up),
+        Line::Strictly { a, b } => moved_pair(22, a, b, up),
+        Line::Kills { a, b } => moved_pair(23, a, b, up),
+        Line::Counted { a, b, d, n } => Line::Counted {
             a: up_from(a, up),
             b: up_from(b, up),
-        },
-        Line::Strictly { a, b } => Line::Strictly {
-            a: up_from(a, up),
-            b: up_from(b, up),
-        },
-        Line::Kills { a, b } => Line::Kills {
-            a: up_from(a, up),
-            b: up_from(b, up),
+            d: up_from(d, up),
+            n,
         },
     }
 }

@@ -4,6 +4,7 @@ use crate::history::clock_of;
 use crate::obligation::Obligation;
 use crate::obligation::is_kept;
 use crate::obligation::wide;
+use crate::sentence::counted;
 use crate::sentence::delayed;
 use crate::sentence::excludes;
 use crate::sentence::implies;
@@ -46,6 +47,7 @@ fn line_fits(n: usize, f: Filled, l: Line) -> bool
         Line::Weakly { a, b } => weakly(n, clock_of(f, a), clock_of(f, b)),
         Line::Strictly { a, b } => strictly(n, clock_of(f, a), clock_of(f, b)),
         Line::Kills { a, b } => kills(n, clock_of(f, a), clock_of(f, b)),
+        Line::Counted { a, b, d, n: number } => counted(n, f, a, b, d, number),
     }
 }
 

@@ -8,7 +8,7 @@ use crate::remainder::owes_tick;
 use crate::sentence::one_if;
 ghost use Prim.Native.Nat.{_≤_};
 
-// over: one of them has more than 8 obligations. Those past the 33rd are dropped: 33 are already too many.
+// over: one of them has too many obligations. Those past the 33rd are dropped: 33 are already too many.
 pub(crate) struct Found {
     pub(crate) over: bool,
     pub(crate) count: usize,
@@ -78,8 +78,11 @@ fn same_owed(a: Owed, b: Owed) -> bool {
 }
 
 fn same_remainder(a: Remainder, b: Remainder) -> bool {
-    if same_carried(a, b) {
-        same_owed(a.owed, b.owed)
+    if !same_carried(a, b) {
+        return false;
+    }
+    if same_owed(a.owed, b.owed) {
+        same_owed(a.counted, b.counted)
     } else {
         false
     }
@@ -106,10 +109,19 @@ pub(crate) fn none_found() -> Found {
     }
 }
 
+// More than 8 obligations of sporadic and delay lines, or more than 8 of lines that count.
+fn is_over(r: Remainder) -> bool {
+    if 8 < owed_count(r.owed) {
+        true
+    } else {
+        8 < owed_count(r.counted)
+    }
+}
+
 // With one remainder more, unless an equal one is there.
 pub(crate) fn with_remainder(found: Found, r: Remainder) -> Found {
     let mut next = found;
-    if 8 < owed_count(r.owed) {
+    if is_over(r) {
         next.over = true;
         return next;
     }
@@ -124,9 +136,18 @@ pub(crate) fn with_remainder(found: Found, r: Remainder) -> Found {
     next
 }
 
-// More than 32, or one with more than 8 obligations.
+// More than 32, or one with too many obligations.
 pub(crate) fn is_exhausted(found: Found) -> bool {
     if found.over { true } else { 32 < found.count }
+}
+
+// No obligation of either sort.
+fn owes_none(r: Remainder) -> bool {
+    if owed_count(r.owed) == 0 {
+        owed_count(r.counted) == 0
+    } else {
+        false
+    }
 }
 
 // One of them has no obligation.
@@ -134,13 +155,21 @@ pub(crate) fn is_clear(found: Found) -> bool {
     let n = found_count(found);
     let mut i = 0;
     while i < n {
-        let r = found.list[i];
-        if r.owed.count == 0 {
+        if owes_none(found.list[i]) {
             return true;
         }
         i += 1;
     }
     false
+}
+
+// One of its obligations, of either sort, wants a tick of this clock.
+fn owes_clock(r: Remainder, clock: u8) -> bool {
+    if owes_tick(r.owed, clock) {
+        true
+    } else {
+        owes_tick(r.counted, clock)
+    }
 }
 
 // How many of them owe this clock a tick.
@@ -149,8 +178,7 @@ pub(crate) fn owing_count(found: Found, clock: u8) -> usize {
     let mut count = 0;
     let mut i = 0;
     while i < n {
-        let r = found.list[i];
-        count += one_if(owes_tick(r.owed, clock));
+        count += one_if(owes_clock(found.list[i], clock));
         i += 1;
     }
     count

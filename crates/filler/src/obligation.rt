@@ -5,6 +5,7 @@ use crate::history::clock_of;
 ghost use mathlib.Core.Path.{_≡_};
 ghost use Prim.Native.Nat.{_≤_, _<_};
 
+// clock: which is to tick; on: the clock that says when; due: the tag of `on` at which it is to, or, of a line that counts, how many ticks of `on` are still wanted.
 pub(crate) struct Obligation {
     pub(crate) clock: u8,
     pub(crate) on: u8,

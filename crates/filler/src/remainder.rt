@@ -8,6 +8,7 @@ use crate::obligation::begun_at;
 use crate::obligation::is_met;
 use crate::obligation::same_obligation;
 use crate::sentence::tick_count;
+use crate::sentence::ticks_between;
 use crate::sentence::ticks_from;
 use records::line::Line;
 use records::sheet::Sheet;
@@ -20,9 +21,10 @@ pub(crate) struct Owed {
     pub(crate) list: [Obligation; 9],
 }
 
-// leads: of a precedes line 16 and A's ticks minus B's, of any other 0.
+// owed: the unmet obligations of sporadic and delay lines; counted: those of lines that count; leads: of a precedes line 16 and A's ticks minus B's, of any other 0; stopped: the clocks that a kills line has stopped.
 pub(crate) struct Remainder {
     pub(crate) owed: Owed,
+    pub(crate) counted: Owed,
     pub(crate) leads: [usize; 16],
     pub(crate) stopped: [bool; 8],
 }
@@ -124,16 +126,18 @@ fn none_owed() -> Owed {
 // Nothing is owed, no clock leads, none is stopped.
 pub(crate) fn no_remainder() -> Remainder {
     let owed = none_owed();
+    let counted = none_owed();
     let leads = [0usize; 16];
     let stopped = [false; 8];
     Remainder {
         owed,
+        counted,
         leads,
         stopped,
     }
 }
 
-// The unmet obligations.
+// The unmet obligations of sporadic and delay lines.
 fn owed_of(n: usize, s: Sheet, f: Filled) -> Owed
     requires { ⌜ n ≤ 16 ⌝ }
 {
@@ -145,6 +149,66 @@ fn owed_of(n: usize, s: Sheet, f: Filled) -> Owed
         i += 1;
     }
     owed
+}
+
+// With what a tick of A just before instant `from` still wants: the ticks of B that are left of its number, then one of D.
+fn with_wanted(n: usize, f: Filled, b: u8, d: u8, number: u8, from: usize, all: Owed) -> Owed
+    requires { ⌜ n ≤ 16 ⌝ }
+{
+    let wanted = number as usize;
+    let ticks = ticks_between(from, n, clock_of(f, b));
+    if ticks < wanted {
+        let due = (wanted - ticks) as i64;
+        return with_obligation(
+            all,
+            Obligation {
+                clock: d,
+                on: b,
+                due,
+            },
+        );
+    }
+    all
+}
+
+// With what the ticks of A of a line that counts still want.
+fn with_counted(n: usize, f: Filled, a: u8, b: u8, d: u8, number: u8, counted: Owed) -> Owed
+    requires { ⌜ n ≤ 16 ⌝ }
+{
+    let clock = clock_of(f, a);
+    let mut all = counted;
+    let mut i = 0;
+    while i < n {
+        let at = i;
+        i += 1;
+        if clock.ticks[at] {
+            all = with_wanted(n, f, b, d, number, i, all);
+        }
+    }
+    all
+}
+
+fn with_counts(n: usize, f: Filled, l: Line, counted: Owed) -> Owed
+    requires { ⌜ n ≤ 16 ⌝ }
+{
+    match l {
+        Line::Counted { a, b, d, n: number } => with_counted(n, f, a, b, d, number, counted),
+        _ => counted,
+    }
+}
+
+// The unmet obligations of lines that count.
+fn counted_of(n: usize, s: Sheet, f: Filled) -> Owed
+    requires { ⌜ n ≤ 16 ⌝ }
+{
+    let lines = line_count(s);
+    let mut counted = none_owed();
+    let mut i = 0;
+    while i < lines {
+        counted = with_counts(n, f, line_at(s, i), counted);
+        i += 1;
+    }
+    counted
 }
 
 // 16 and A's ticks minus B's.
@@ -223,10 +287,12 @@ pub(crate) fn remainder_of(n: usize, s: Sheet, f: Filled) -> Remainder
     requires { ⌜ n ≤ 16 ⌝ }
 {
     let owed = owed_of(n, s, f);
+    let counted = counted_of(n, s, f);
     let leads = leads_of(n, s, f);
     let stopped = stopped_of(n, s, f);
     Remainder {
         owed,
+        counted,
         leads,
         stopped,
     }

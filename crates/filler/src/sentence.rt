@@ -108,19 +108,27 @@ pub(crate) fn one_if(b: bool) -> usize
     if b { 1 } else { 0 }
 }
 
-// The ticks before instant n.
-pub(crate) fn tick_count(n: usize, a: Clock) -> usize
+// The ticks from instant `from` on, before instant n.
+pub(crate) fn ticks_between(from: usize, n: usize, a: Clock) -> usize
     requires { ⌜ n ≤ 16 ⌝ }
     ensures { λ r. ⌜ r ≤ n ⌝ }
 {
     let mut count = 0;
-    let mut i = 0;
+    let mut i = from;
     while i < n {
         let x = a.ticks[i];
         count += one_if(x);
         i += 1;
     }
     count
+}
+
+// The ticks before instant n.
+pub(crate) fn tick_count(n: usize, a: Clock) -> usize
+    requires { ⌜ n ≤ 16 ⌝ }
+    ensures { λ r. ⌜ r ≤ n ⌝ }
+{
+    ticks_between(0, n, a)
 }
 
 // Up to and with each instant, A has ticked at least as often as B.
@@ -160,6 +168,40 @@ pub(crate) fn delayed(n: usize, f: Filled, a: u8, b: u8, d: u8, by: u16) -> bool
     while i < n {
         let x = clock.ticks[i];
         if x && !is_kept(n, f, begun_at(f, b, d, by, i), i + 1) {
+            return false;
+        }
+        i += 1;
+    }
+    true
+}
+
+// Where B makes its tick number `wanted` from instant `from` on, D ticks.
+fn is_answered(n: usize, b: Clock, d: Clock, from: usize, wanted: usize) -> bool
+    requires { ⌜ n ≤ 16 ⌝ }
+{
+    let mut j = from;
+    while j < n {
+        let x = b.ticks[j];
+        let y = d.ticks[j];
+        j += 1;
+        if x && !y && ticks_between(from, j, b) == wanted {
+            return false;
+        }
+    }
+    true
+}
+
+// After each tick of A, D ticks at the instant at which B makes its later tick of that number; B's ticks count from the following instant on.
+pub(crate) fn counted(n: usize, f: Filled, a: u8, b: u8, d: u8, number: u8) -> bool
+    requires { ⌜ n ≤ 16 ⌝ }
+{
+    let clock = clock_of(f, a);
+    let on = clock_of(f, b);
+    let due = clock_of(f, d);
+    let mut i = 0;
+    while i < n {
+        let x = clock.ticks[i];
+        if x && !is_answered(n, on, due, i + 1, number as usize) {
             return false;
         }
         i += 1;

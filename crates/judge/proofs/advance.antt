@@ -1,5 +1,4 @@
 pub mod Effects
 pub mod Adding
-pub mod StillOwed
 pub mod Row
 pub mod Built

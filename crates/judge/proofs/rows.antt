@@ -1,3 +1,4 @@
 pub mod Laws
 pub mod Storing
 pub mod Placing
+pub mod Reading

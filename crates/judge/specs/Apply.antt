@@ -56,6 +56,7 @@ pub record Applying (rows : List ℕ) (from to n found : ℕ) (p : Plan) (f : Fi
   pub small : FewOwed rows from n
   pub smallFound : FewOwed rows to found
   pub plan : PlanFits p
+  pub ordered : f .owed ≤ f .count
   pub begun : f .count ≤ 16
 
 -- those found with what the rows held become by a filling; none is lost, and the rows that nothing was built in stay

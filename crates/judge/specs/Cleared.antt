@@ -2,7 +2,7 @@
 use mathlib.Core.Bool.{Bool, true, false}
 use mathlib.Core.List.{List}
 use mathlib.Core.Path.{_≡_}
-use Prim.Native.Nat.{ℕ, _+_, _-_, _≤_, _<_}
+use Prim.Native.Nat.{ℕ, _+_, _*_, _-_, _≤_, _<_}
 use lib.ListN.{length}
 use Rattle.records.specs.Sheet.{SheetValue}
 use Rattle.tesl.specs.Answer.{mostLive}
@@ -11,7 +11,7 @@ use Rattle.judge.specs.declared.plan.Plan.{Plan}
 use Rattle.judge.specs.declared.held.Status.{Status}
 use Rattle.judge.specs.View.{liveCount}
 use Rattle.judge.specs.Plan.{PlanFits, Planned}
-use Rattle.judge.specs.Rows.{width, sides, word, rowCount, rowObligation, rowLead, rowOf, Stays, HeadStays, RowsStay}
+use Rattle.judge.specs.Rows.{parts, partWords, leadsPart, stoppedPart, width, sides, word, rowSet, rowObligation, rowLead, rowOf, CountsSame, NothingInParts, Stays, HeadStays, RowsStay}
 use Rattle.judge.specs.Apply.{Side, foundIn, FewOwedIn, builtRows}
 use Rattle.judge.specs.Fill.{workedRows}
 use Rattle.judge.specs.UnusedWords.{leadUsed, NothingInRow, NothingBeside}
@@ -26,29 +26,35 @@ pub record ClearedRows (first n : ℕ) (a b : List ℕ) : Type 0 where
   pub stays : RowsStay first n a b
   pub zero : (h q : ℕ) → first ≤ h → h < first + n → q < width → word b h q ≡ 0
 
--- the places past n obligations of row i are zero; the obligations stay
-pub record ClearedOwed (i n : ℕ) (a b : List ℕ) : Type 0 where
-  pub stays : Stays i 1 25 a b
-  pub owed : (j : ℕ) → j < n → rowObligation b i j ≡ rowObligation a i j
-  pub clocks : (j : ℕ) → n ≤ j → j < 8 → word b i (1 + j) ≡ 0
-  pub on-clocks : (j : ℕ) → n ≤ j → j < 8 → word b i (9 + j) ≡ 0
-  pub dues : (j : ℕ) → n ≤ j → j < 8 → word b i (17 + j) ≡ 0
+-- the places past the first n of a part are zero; those and the count stay
+pub record ClearedOwed (i part n : ℕ) (a b : List ℕ) : Type 0 where
+  pub stays : Stays i (partWords * part + 1) (partWords * part + partWords) a b
+  pub places : (j : ℕ) → j < n → rowObligation b i part j ≡ rowObligation a i part j
+  pub clocks : (j : ℕ) → n ≤ j → j < 8 → word b i (partWords * part + 1 + j) ≡ 0
+  pub numbers : (j : ℕ) → n ≤ j → j < 8 → word b i (partWords * part + 9 + j) ≡ 0
+
+-- so each set of row i, and the words behind the sets
+pub record ClearedSets (i : ℕ) (a b : List ℕ) : Type 0 where
+  pub stays : Stays i 0 leadsPart a b
+  pub count : CountsSame i a b
+  pub set : (part : ℕ) → part < parts → rowSet b i part ≡ rowSet a i part
+  pub nothing : NothingInParts b i
 
 -- the leads of lines that are no precedes lines are zero, the others stay
 pub record ClearedLeads (leaders : ℕ) (precede : List Bool) (i : ℕ) (a b : List ℕ) : Type 0 where
-  pub stays : Stays i 25 41 a b
+  pub stays : Stays i leadsPart stoppedPart a b
   pub used : (k : ℕ) → leadUsed leaders precede k ≡ true → rowLead b i k ≡ rowLead a i k
   pub unused : (k : ℕ) → k < 16 → leadUsed leaders precede k ≡ false → rowLead b i k ≡ 0
 
 -- row i reads as before, for every sheet that the plan is of, and what its remainder doesn't use is zero
 pub record ClearedRow (p : Plan) (i : ℕ) (a b : List ℕ) : Type 0 where
-  pub count : rowCount b i ≡ rowCount a i
+  pub count : CountsSame i a b
   pub row : (v : SheetValue) (lines : List ℕ) → Planned v p lines → usedPart v (rowOf b i) ≡ usedPart v (rowOf a i)
   pub nothing : NothingInRow p b i
 
 -- so row i; the other rows stay
 pub record ClearedUnused (p : Plan) (i : ℕ) (a b : List ℕ) : Type 0 where
-  pub stays : Stays i 1 width a b
+  pub stays : Stays i 0 width a b
   pub cleared : ClearedRow p i a b
 
 -- so each of n rows from `from` on; the other rows stay

@@ -1,46 +1,81 @@
 -- What depends on a filling alone, and what a row becomes by it.
-use mathlib.Core.List.{List}
-use mathlib.Core.Bool.{Bool, false}
+use mathlib.Core.List.{List, [], _∷_, map}
+use mathlib.Core.Bool.{Bool, true, false, cond}
 use mathlib.Core.Path.{_≡_}
-use Prim.Native.Nat.{ℕ, _≤_, _<_}
-use lib.Dec.{T}
-use lib.IntN.{ℤ}
-use lib.ListN.{getD, replicate}
+use Prim.Native.Nat.{ℕ, _+_, _≤_, _<_}
+use lib.Dec.{T, eqb}
+use lib.IntN.{ℤ, pos, _+ℤ_}
+use lib.ListN.{getD, replicate, drop, take}
 use Rattle.records.specs.declared.line.Line.{Line}
-use Rattle.records.specs.Line.{blankLine}
+use Rattle.records.specs.Line.{blankLine, ofDelayed, ofCounted}
 use Rattle.records.specs.Sheet.{SheetValue}
 use Rattle.tesl.specs.Lists.{filter, flatMap}
-use Rattle.tesl.specs.Run.{Filled}
-use Rattle.tesl.specs.Fits.{Obligation, owedFrom}
-use Rattle.tesl.specs.Remainder.{sameObligation}
+use Rattle.tesl.specs.Run.{Filled, tagIn}
+use Rattle.tesl.specs.Fits.{owedFrom}
 use Rattle.theory.specs.Adding.{onceEach}
 use Rattle.work.specs.Advanced.{Advanced, fails, over, onto}
 use Rattle.work.specs.View.{filledOf, usedPart}
+use Rattle.work.specs.Questions.{tickIn}
 use Rattle.work.specs.Lines.{allStopped, smallLeads}
 use Rattle.work.specs.Carried.{needOf, gainOf, lossOf}
-use Rattle.work.specs.Parts.{isRule, Leading}
+use Rattle.work.specs.Owed.{Owings, begunBy, eachOnce}
+use Rattle.work.specs.Parts.{isRule, isDelay, Leading}
 use Rattle.work.specs.Work.{advanced}
+use Rattle.judge.specs.declared.obligation.Obligation as code
 use Rattle.judge.specs.declared.advance.Next.{Next}
 use Rattle.judge.specs.declared.advance.Next.the-variants.{Fails, Over, Onto}
 use Rattle.judge.specs.declared.filling.Filling.{Filling}
 use Rattle.judge.specs.declared.plan.Plan.{Plan}
-use Rattle.judge.specs.View.{firstOf}
-use Rattle.judge.specs.Plan.{planLine, PlanFits, Planned}
-use Rattle.judge.specs.Rows.{width, rowCount, rowOf, Between, Stays}
+use Rattle.judge.specs.Word.{dueNumber}
+use Rattle.judge.specs.View.{obligationOf, countdownOf, sameStored, firstOf}
+use Rattle.judge.specs.Plan.{delaysFrom, countedRows, planLine, planLines, PlanFits, Planned}
+use Rattle.judge.specs.Rows.{width, rowOf, FewInRow, Between, Stays}
 
--- the instant, and what its delay lines begin
+-- the instant, and what its delay lines and its counted lines begin
 abbrev pub filledInstant : Filling → Filled
 filledInstant f = filledOf (f .ticks) (f .tags)
 
-abbrev pub begunIn : Filling → List Obligation
-begunIn f = firstOf (f .count) (f .begun)
+abbrev pub begunIn : Filling → Owings
+begunIn f = record { owed = firstOf (f .owed) (f .begun); countdowns = map countdownOf (drop (f .owed) (take (f .count) (f .begun))) }
 
--- what was gathered of a filling is what the sheet's lines make of it
+-- ---- what lines begin, as it is stored
+
+-- of a counted line, where its A ticks or not
+abbrev pub countStored : Bool → ℕ → ℕ → ℕ → List code.Obligation
+countStored ticks B D n = cond ticks (cond (eqb n 0) [] (record { clock = D; on = B; number = n } ∷ [])) []
+
+abbrev pub storedBy : List Bool → List ℤ → Line → List code.Obligation
+storedBy ticks tags l =
+    ofDelayed (ofCounted [] (λ A B D n. countStored (tickIn ticks A) B D n) l)
+    (λ A B D d. cond (tickIn ticks A) (record { clock = D; on = B; number = dueNumber (tagIn tags B +ℤ pos d) } ∷ []) []) l
+
+-- what a delay line begins, as it is owed
+abbrev pub ReadsOwed : List Bool → List ℤ → Line → Type 0
+ReadsOwed ticks tags l = isDelay l ≡ true → map obligationOf (storedBy ticks tags l) ≡ owedFrom (filledOf ticks tags) l
+
+-- what one line begins
+pub record LineBegins (ticks : List Bool) (tags : List ℤ) (l : Line) (os : List code.Obligation) : Type 0 where
+  pub stored : os ≡ storedBy ticks tags l
+  pub owed : ReadsOwed ticks tags l
+
+-- what n lines of the plan from row `from` on begin, each once
+abbrev pub storedOnce : List Bool → List ℤ → List ℕ → ℕ → ℕ → List code.Obligation
+storedOnce ticks tags lines from n = onceEach sameStored (flatMap (storedBy ticks tags) (planLines lines from n))
+
+-- what the delay lines begin, and behind it what the counted lines do
+pub record LinesBegin (lines : List ℕ) (delays counted : ℕ) (ticks : List Bool) (tags : List ℤ) (owed count : ℕ) (begun : List code.Obligation) : Type 0 where
+  pub ordered : owed ≤ count
+  pub few : count ≤ 16
+  pub obligations : take owed begun ≡ storedOnce ticks tags lines delaysFrom delays
+  pub countdowns : drop owed (take count begun) ≡ storedOnce ticks tags lines countedRows counted
+  pub reads : (j : ℕ) → j < delays → ReadsOwed ticks tags (planLine lines (delaysFrom + j))
+
+-- ---- what was gathered of a filling is what the sheet's lines make of it
 pub record GatheredFor (v : SheetValue) (p : Plan) (f : Filling) : Type 0 where
   pub as-many : p .clocks ≡ v .clocks
   pub few-clocks : v .clocks ≤ 8
   pub leading : Leading v (p .leaders) (p .precede)
-  pub begins : begunIn f ≡ onceEach sameObligation (flatMap (owedFrom (filledInstant f)) (v .lines))
+  pub begins : begunIn f ≡ eachOnce (begunBy (v .lines) (filledInstant f))
   pub ends : f .stops ≡ allStopped (f .ticks) (filter isRule (v .lines)) (replicate 8 false)
   pub needed : (k : ℕ) → k < p .leaders → getD (f .needs) k 0 ≡ needOf (f .ticks) (getD (v .lines) k blankLine)
   pub gained : (k : ℕ) → k < p .leaders → getD (f .gains) k 0 ≡ gainOf (f .ticks) (getD (v .lines) k blankLine)
@@ -61,6 +96,7 @@ pub record LeadChangesOf (lines : List ℕ) (leaders : ℕ) (ticks : List Bool) 
 pub record Gathered (lines : List ℕ) (p : Plan) (ticks : List Bool) (tags : List ℤ) (f : Filling) : Type 0 where
   pub ticked : f .ticks ≡ ticks
   pub tagged : f .tags ≡ tags
+  pub ordered : f .owed ≤ f .count
   pub few : f .count ≤ 16
   pub asked : (v : SheetValue) → Planned v p lines → GatheredFor v p f
 
@@ -75,12 +111,13 @@ nextOf v Onto rows to = onto (usedPart v (rowOf rows to))
 -- row i, and another to build in
 pub record Advancing (rows : List ℕ) (i to : ℕ) (p : Plan) (f : Filling) : Type 0 where
   pub between : Between rows i to
-  pub few : rowCount rows i ≤ 8
+  pub few : FewInRow rows i
   pub plan : PlanFits p
+  pub ordered : f .owed ≤ f .count
   pub begun : f .count ≤ 16
 
 -- the row that it becomes; the other rows stay
 pub record AdvancedRow (p : Plan) (f : Filling) (i to : ℕ) (r : Next) (a b : List ℕ) : Type 0 where
   pub stays : Stays to 0 width a b
-  pub few : r ≡ Onto → rowCount b to ≤ 8
+  pub few : r ≡ Onto → FewInRow b to
   pub row : (v : SheetValue) → GatheredFor v p f → T (smallLeads (usedPart v (rowOf a i))) → nextOf v r b to ≡ advanced v (filledInstant f) (begunIn f) (usedPart v (rowOf a i))

@@ -1,6 +1,8 @@
 -- What the contracts of the monitor's functions cite; what they promise; demands 2 and 3.
 
 -- ---- to be believed: what the public functions promise, and the demands. Read in this order:
+-- what a word is read as: `dueOf`, `flagOf`
+pub mod Word
 -- the code's structs as tesl's values
 pub mod View
 -- an answer and a reply as document 01's
@@ -20,8 +22,7 @@ pub mod Log
 -- demands 2 and 3
 pub mod Demands
 -- ---- to be believed of a monitor in words that a caller lends; the records in Rows and Progress are inner promises
--- what a word, a row of words and six words are read as: `word`, `rowObligation`, `rowLead`, `rowStop`, `lineOfWords`
-pub mod Word
+-- what a row of words and six words are read as: `word`, `rowSet`, `rowLead`, `rowStop`, `lineOfWords`; a row's words that no set uses: `NothingInParts`
 pub mod Rows
 pub mod LineWords
 -- the struct that a sheet, what is kept beside it, and rows stand for: `rowsMonitor`
@@ -35,6 +36,7 @@ pub mod Live
 -- a sheet's lines as words
 pub mod Plan
 -- an instant: what depends on a filling alone, the rows by a filling and by all of them, the fillings listed; the remainder of no instant; remainders stored in rows and read back; words that no remainder uses, and how they are cleared
+pub mod Left
 pub mod Filling
 pub mod Apply
 pub mod Fill

@@ -12,18 +12,19 @@ use Rattle.records.specs.Outcome.{Outcome, taken, refused, decide}
 use Rattle.records.specs.Sheet.{SheetValue, sheetValue, sheetValueChecks}
 use Rattle.records.specs.Types.{IsSheet}
 use Rattle.tesl.specs.Lists.{all}
-use Rattle.tesl.specs.Fits.{Obligation}
+use Rattle.tesl.specs.Fits.{Obligation, Countdown}
+use Rattle.judge.specs.declared.obligation.Obligation as code
 use Rattle.judge.specs.declared.remainder.Remainder as arrays
 use Rattle.judge.specs.declared.held.Status.{Status}
 use Rattle.judge.specs.declared.held.Status.the-variants.{Exhausted, Live}
 use Rattle.judge.specs.declared.monitor.Monitor.{Monitor}
-use Rattle.judge.specs.View.{owedOf, viewOf}
+use Rattle.judge.specs.View.{owedOf, countdownsOf, viewOf}
 
 abbrev pub isTaken : {A : Type 0} → Outcome A → Bool
 isTaken (taken x) = true
 isTaken (refused n) = false
 
--- a sheet value within its own, its lines in any order: 4, 8, 7 and 9 don't apply
+-- a sheet value within its own, its lines in any order: 4, 8, 7, 18 and 9 don't apply
 unfoldable pub sheetWithin : SheetValue → Bool
 sheetWithin v = isTaken (decide (sheetValueChecks Any v) v)
 
@@ -31,10 +32,35 @@ sheetWithin v = isTaken (decide (sheetValueChecks Any v) v)
 unfoldable pub obligationWithin : ℕ → Obligation → Bool
 obligationWithin c o = (ltb (o .clock) c && ltb (o .on) c) && (leZ (negsuc 32767) (o .due) && leZ (o .due) (pos 98302))
 
--- obligations 0 to 8; ticks minus ticks 0 to the instants held, of the precedes lines
+-- clocks below C, 1 to 255 ticks wanted
+unfoldable pub countdownWithin : ℕ → Countdown → Bool
+countdownWithin c x = (ltb (x .clock) c && ltb (x .on) c) && (leb 1 (x .wanted) && leb (x .wanted) 255)
+
+-- as they are stored: the number within bounds; those of dues, counted from the least tag, and of ticks wanted
+unfoldable pub storedWithin : ℕ → ℕ → ℕ → code.Obligation → Bool
+storedWithin c least most o = (ltb (o .clock) c && ltb (o .on) c) && (leb least (o .number) && leb (o .number) most)
+
+abbrev pub leastDue : ℕ
+leastDue = 0
+
+abbrev pub mostDue : ℕ
+mostDue = 131070
+
+abbrev pub leastWanted : ℕ
+leastWanted = 1
+
+abbrev pub mostWanted : ℕ
+mostWanted = 255
+
+-- a set of at most eight, each within bounds
+unfoldable pub setWithin : ℕ → ℕ → ℕ → ℕ → List code.Obligation → Bool
+setWithin c least most n os = leb n 8 && all (storedWithin c least most) os
+
+-- obligations 0 to 8, countdowns 0 to 8; ticks minus ticks 0 to the instants held, of the precedes lines
 unfoldable pub remainderWithin : SheetValue → ℕ → arrays.Remainder → Bool
 remainderWithin v instants r =
-    leb (r .owed) 8 && (all (obligationWithin (v .clocks)) (owedOf r) && all (λ (n : ℕ). leb n instants) (viewOf v r .leads))
+    leb (r .owed) 8 && all (obligationWithin (v .clocks)) (owedOf r)
+    && (leb (r .counting) 8 && all (countdownWithin (v .clocks)) (countdownsOf r) && all (λ (n : ℕ). leb n instants) (viewOf v r .leads))
 
 -- live 0 to 32; none is held once exhausted
 unfoldable pub heldWithin : SheetValue → ℕ → Status → List arrays.Remainder → Bool

@@ -6,7 +6,7 @@ use Prim.Native.Nat.{ℕ, _+_, _%_, _≤_}
 use lib.Dec.{eqb}
 use lib.ListN.{getD}
 use Rattle.records.specs.declared.line.Line.{Line}
-use Rattle.records.specs.declared.line.Line.the-variants.{Sporadic, Relation, Implies, Excludes, Delayed, Weakly, Strictly, Kills}
+use Rattle.records.specs.declared.line.Line.the-variants.{Sporadic, Relation, Implies, Excludes, Delayed, Weakly, Strictly, Kills, Counted}
 use Rattle.records.specs.Word.{tagOf, rawOf}
 use Rattle.judge.specs.declared.line_words.LineWords.{LineWords}
 
@@ -26,9 +26,10 @@ lineBy kind a b d x y =
     (cond (eqb kind 19) (Excludes a b)
     (cond (eqb kind 20) (Delayed a b d x)
     (cond (eqb kind 21) (Weakly a b)
-    (cond (eqb kind 22) (Strictly a b) (Kills a b)))))))
+    (cond (eqb kind 22) (Strictly a b)
+    (cond (eqb kind 24) (Counted a b d (x % 256)) (Kills a b))))))))
 
--- of a clock the last byte counts, of a kind and a number the last two
+-- of a clock and of a count the last byte counts, of a kind and another number the last two
 abbrev pub lineOfWords : LineWords → Line
 lineOfWords w = lineBy (w .kind % 65536) (w .a % 256) (w .b % 256) (w .d % 256) (w .x % 65536) (w .y % 65536)
 
@@ -42,10 +43,11 @@ wordsOf (Delayed a b d by) = wordsBy 20 a b d by 0
 wordsOf (Weakly a b) = wordsBy 21 a b 0 0 0
 wordsOf (Strictly a b) = wordsBy 22 a b 0 0 0
 wordsOf (Kills a b) = wordsBy 23 a b 0 0 0
+wordsOf (Counted a b d n) = wordsBy 24 a b d n 0
 
 -- a line's words, and what they are read as
 pub record WordsOf (l : Line) (w : LineWords) : Type 0 where
   pub words : w ≡ wordsOf l
   pub line : lineOfWords w ≡ l
   pub least : 16 ≤ w .kind
-  pub most : w .kind ≤ 23
+  pub most : w .kind ≤ 24

@@ -10,7 +10,7 @@ use Rattle.records.specs.Lists.{listed}
 use Rattle.records.specs.Line.{blankLine}
 use Rattle.records.specs.Sheet.{SheetValue, sheetValue}
 use Rattle.tesl.specs.Lists.{filter, flatMap}
-use Rattle.work.specs.Parts.{isRelation, isRule, isDelay, Leading}
+use Rattle.work.specs.Parts.{isRelation, isRule, isDelay, isCounted, Leading}
 use Rattle.work.specs.Relevant.{namedBy, flagged}
 use Rattle.judge.specs.declared.plan.Plan.{Plan}
 use Rattle.judge.specs.declared.rules.Rule.{Rule}
@@ -18,17 +18,17 @@ use Rattle.judge.specs.LineWords.{lineBy, wordsAt, lineOfWords}
 
 -- ---- lines in words
 
--- words of a row, rows, words in all; a power of two to a row, so that it is found by a shift
+-- words of a row, rows, words in all
 abbrev pub lineWidth : ℕ
-lineWidth = 8
+lineWidth = 6
 
 abbrev pub planRows : ℕ
-planRows = 64
+planRows = 80
 
 abbrev pub numbers : ℕ
 numbers = lineWidth * planRows
 
--- the rows where relations, rules and delay lines begin
+-- the rows where relations, rules, delay lines and counted lines begin
 abbrev pub relationsFrom : ℕ
 relationsFrom = 16
 
@@ -37,6 +37,9 @@ rulesFrom = 32
 
 abbrev pub delaysFrom : ℕ
 delaysFrom = 48
+
+abbrev pub countedRows : ℕ
+countedRows = 64
 
 -- the line of row j
 abbrev pub planLine : List ℕ → ℕ → Line
@@ -61,9 +64,9 @@ pub record PlanFits (p : Plan) : Type 0 where
   pub leaders : p .leaders ≤ 16
   pub few-relations : p .relations ≤ 16
   pub few-rules : p .rules ≤ 16
-  pub few-delays : p .delays ≤ 16
+  pub few-begin : p .delays + p .counted ≤ 16
 
--- what was found out about a sheet: all lines from row 0 on, and its three parts from their rows on; the precedes lines; the clocks that lines name
+-- what was found out about a sheet: all lines from row 0 on, and its four parts from their rows on; the precedes lines; the clocks that lines name
 pub record Planned (v : SheetValue) (p : Plan) (lines : List ℕ) : Type 0 where
   pub as-many : p .clocks ≡ v .clocks
   pub few-clocks : v .clocks ≤ 8
@@ -71,6 +74,7 @@ pub record Planned (v : SheetValue) (p : Plan) (lines : List ℕ) : Type 0 where
   pub relations : planLines lines relationsFrom (p .relations) ≡ filter isRelation (v .lines)
   pub rules : planLines lines rulesFrom (p .rules) ≡ filter isRule (v .lines)
   pub delays : planLines lines delaysFrom (p .delays) ≡ filter isDelay (v .lines)
+  pub counted : planLines lines countedRows (p .counted) ≡ filter isCounted (v .lines)
   pub leading : Leading v (p .leaders) (p .precede)
   pub named : p .named ≡ flagged (flatMap namedBy (v .lines)) (replicate 8 false)
 

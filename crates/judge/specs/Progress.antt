@@ -10,9 +10,7 @@ use Rattle.records.specs.declared.instant.Instant.{Instant}
 use Rattle.records.specs.Lists.{listed}
 use Rattle.records.specs.Sheet.{sheetValue}
 use Rattle.records.specs.Types.{IsSheet}
-use Rattle.tesl.specs.Fits.{Obligation}
 use Rattle.tesl.specs.Answer.{mostLive}
-use Rattle.judge.specs.declared.obligation.Obligation as code
 use Rattle.judge.specs.declared.remainder.Remainder as arrays
 use Rattle.judge.specs.declared.answer.Answer.{Answer}
 use Rattle.judge.specs.declared.answer.Reply.{Reply}
@@ -31,18 +29,17 @@ use Rattle.judge.specs.Limits.{monitorWithin}
 use Rattle.judge.specs.Monitor.{Accepts}
 use Rattle.judge.specs.Plan.{Planned}
 use Rattle.judge.specs.Stored.{FromRows}
-use Rattle.judge.specs.Rows.{headRows, sides, rowCount, rowObligation, rowLeads, rowStopped, RowsStay}
+use Rattle.judge.specs.Rows.{headRows, sides, rowCount, rowSet, rowLeads, rowStopped, RowsStay}
 use Rattle.judge.specs.Promises.{Called}
 use Rattle.judge.specs.Fill.{Working, workedRows}
-
-abbrev pub asStruct : Obligation → code.Obligation
-asStruct o = record { clock = o .clock; on = o .on; due = o .due }
 
 -- row i as a struct
 abbrev pub rowRemainder : List ℕ → ℕ → arrays.Remainder
 rowRemainder rows i = record {
-  owed = rowCount rows i;
-  obligations = listed (λ j. asStruct (rowObligation rows i j)) (rowCount rows i);
+  owed = rowCount rows i 0;
+  obligations = rowSet rows i 0;
+  counting = rowCount rows i 1;
+  countdowns = rowSet rows i 1;
   leads = rowLeads rows i;
   stopped = rowStopped rows i;
 }

@@ -12,7 +12,7 @@ use Rattle.records.specs.Instant.{readInstant}
 use Rattle.records.specs.Types.{All}
 use Rattle.tesl.specs.Lists.{lastOf}
 use Rattle.tesl.specs.Run.{Instant, tagsOf}
-use Rattle.tesl.specs.Remainder.{Remainder, sameObligation, sameRemainder}
+use Rattle.tesl.specs.Remainder.{Remainder, sameObligation, sameCountdown, sameRemainder}
 use Rattle.tesl.specs.Answer.{exhausted, remainders, answer}
 use Rattle.tesl.specs.Machine.{unlessFull, Reader}
 use Rattle.theory.specs.Sets.{apart, EachOnce}
@@ -25,14 +25,14 @@ use Rattle.judge.specs.Unused.{KeepsNothing}
 use Rattle.judge.specs.Monitor.{sheetBy, heldBy, lastBy, noMonitor, refusal}
 
 -- m is a monitor of the sheet s after the accepted instants run: of the instants it has their number, the last tags and the last answer;
--- while the answer is not exhausted its remainders are the run's distinct ones, each once, and each owes an obligation once; and it is within its limits
+-- while the answer is not exhausted its remainders are the run's distinct ones, each once, and each has an obligation once and a countdown once; and it is within its limits
 pub record Follows (s : SheetValue) (run : List Instant) (m : Monitor) : Type 0 where
   pub sheet : sheetBy m ≡ s
   pub instants : m .instants ≡ length run
   pub last : lastBy m ≡ lastOf (map tagsOf run)
   pub said : saidBy (heldBy m) ≡ answer s run
   pub held : saidBy (heldBy m) ≢ exhausted → EachOnce sameRemainder (heldList (heldBy m)) (remainders s run)
-  pub owed : All (λ (r : Remainder). T (apart sameObligation (r .owed))) (heldList (heldBy m))
+  pub owed : All (λ (r : Remainder). T (apart sameObligation (r .owed)) × T (apart sameCountdown (r .countdowns))) (heldList (heldBy m))
   pub limits : monitorWithin m ≡ true
 
 -- ---- opening

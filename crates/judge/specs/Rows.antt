@@ -1,23 +1,22 @@
--- Remainders in one array of words, a row of 64 each. A row: 0 its count of obligations, 1 to 8 their clocks, 9 to 16 their on-clocks, 17 to 24 their dues; 25 to 40 the leads; 41 to 48 the stopped clocks; 15 words are free. A power of two, so that a row is found by a shift.
-use mathlib.Core.Bool.{Bool, true, cond}
-use mathlib.Core.List.{List}
+-- Remainders in one array of words, a row of 64 each. A row: its two sets, obligations and countdowns, a part of 17 words each: 0 its count, 1 to 8 their clocks and on-clocks, 9 to 16 their numbers; 34 to 49 the leads; 50 to 57 the stopped clocks; the others are free. A power of two, so that a row is found by a shift.
+use mathlib.Core.Bool.{Bool, cond}
+use mathlib.Core.List.{List, [], _∷_, map}
 use mathlib.Core.Option.{Option, none, some}
 use mathlib.Core.Path.{_≡_}
-use Prim.Native.Nat.{ℕ, _+_, _*_, _%_, _-_, _≤_, _<_}
-use lib.ListN.{length, getD}
+use Prim.Native.Nat.{ℕ, _+_, _*_, _/_, _%_, _-_, _≤_, _<_}
+use lib.Dec.{eqb}
+use lib.ListN.{length, getD, take}
 use Rattle.records.specs.Lists.{listed}
 use Rattle.records.specs.Sheet.{SheetValue}
-use Rattle.tesl.specs.Run.{Filled}
-use Rattle.tesl.specs.Fits.{Obligation}
+use Rattle.tesl.specs.Fits.{Obligation, Countdown}
 use Rattle.tesl.specs.Remainder.{Remainder}
 use Rattle.tesl.specs.Lists.{flatMap}
 use Rattle.work.specs.View.{usedPart}
-use Rattle.work.specs.Owed.{added, stillOwed}
+use Rattle.theory.specs.Adding.{addedTo, allAddedTo}
 use Rattle.work.specs.Carried.{either}
-use Rattle.work.specs.Work.{addedAll}
 use Rattle.judge.specs.declared.obligation.Obligation as code
-use Rattle.judge.specs.Word.{dueOf, flagOf}
-use Rattle.judge.specs.View.{firstOf, blankObligation}
+use Rattle.judge.specs.Word.{flagOf}
+use Rattle.judge.specs.View.{obligationOf, countdownOf, sameStored, blankObligation}
 use Rattle.judge.specs.Unused.{BlankFrom}
 
 -- words of a row, rows, words in all
@@ -30,15 +29,22 @@ height = 72
 abbrev pub words : ℕ
 words = 4608
 
--- where a row's leads begin, its stopped clocks, and its free words
+-- the sets of a row, and the words of the part that one takes; part 0 is the set of obligations, part 1 that of countdowns
+abbrev pub parts : ℕ
+parts = 2
+
+abbrev pub partWords : ℕ
+partWords = 17
+
+-- where a row's leads begin, its stopped clocks, and the free words behind them
 abbrev pub leadsPart : ℕ
-leadsPart = 25
+leadsPart = 34
 
 abbrev pub stoppedPart : ℕ
-stoppedPart = 41
+stoppedPart = 50
 
 abbrev pub partsEnd : ℕ
-partsEnd = 49
+partsEnd = 58
 
 -- rows of the head; the first side begins after them, and the second here; both first rows together
 abbrev pub headRows : ℕ
@@ -56,15 +62,26 @@ sides = 45
 abbrev pub word : List ℕ → ℕ → ℕ → ℕ
 word rows i p = getD rows (width * i + p) 0
 
--- how many obligations row i has; obligation j of them, and all
-abbrev pub rowCount : List ℕ → ℕ → ℕ
-rowCount rows i = word rows i 0
+-- how many are in the set of a part of row i; place j of it, and all
+abbrev pub rowCount : List ℕ → ℕ → ℕ → ℕ
+rowCount rows i part = word rows i (partWords * part)
 
-abbrev pub rowObligation : List ℕ → ℕ → ℕ → Obligation
-rowObligation rows i j = record { clock = word rows i (1 + j) % 256; due = dueOf (word rows i (17 + j)); on = word rows i (9 + j) % 256 }
+-- what two words are read as: the clock and the on-clock together, and the number
+abbrev pub storedIn : ℕ → ℕ → code.Obligation
+storedIn clocks number = record { clock = clocks % 256; on = clocks / 256 % 256; number = number }
 
+abbrev pub rowObligation : List ℕ → ℕ → ℕ → ℕ → code.Obligation
+rowObligation rows i part j = storedIn (word rows i (partWords * part + 1 + j)) (word rows i (partWords * part + 9 + j))
+
+abbrev pub rowSet : List ℕ → ℕ → ℕ → List code.Obligation
+rowSet rows i part = listed (rowObligation rows i part) (rowCount rows i part)
+
+-- what row i owes, and its countdowns
 abbrev pub rowOwed : List ℕ → ℕ → List Obligation
-rowOwed rows i = listed (rowObligation rows i) (rowCount rows i)
+rowOwed rows i = map obligationOf (rowSet rows i 0)
+
+abbrev pub rowCountdowns : List ℕ → ℕ → List Countdown
+rowCountdowns rows i = map countdownOf (rowSet rows i 1)
 
 -- the lead of line k, whether clock k is stopped, and all
 abbrev pub rowLead : List ℕ → ℕ → ℕ → ℕ
@@ -81,22 +98,42 @@ rowStopped rows i = listed (rowStop rows i) 8
 
 -- row i, with the leads of sixteen lines and the stopped ones of eight clocks
 abbrev pub rowOf : List ℕ → ℕ → Remainder
-rowOf rows i = record { owed = rowOwed rows i; leads = rowLeads rows i; stopped = rowStopped rows i }
+rowOf rows i = record { owed = rowOwed rows i; countdowns = rowCountdowns rows i; leads = rowLeads rows i; stopped = rowStopped rows i }
 
 -- n rows from `first` on, as remainders of a sheet
 abbrev pub rowsOf : SheetValue → List ℕ → ℕ → ℕ → List Remainder
 rowsOf v rows first n = listed (λ k. usedPart v (rowOf rows (first + k))) n
 
--- each of n rows from `first` on has at most eight obligations
-abbrev pub FewOwed : List ℕ → ℕ → ℕ → Type 0
-FewOwed rows first n = (k : ℕ) → k < n → rowCount rows (first + k) ≤ 8
+-- each set of row i has at most eight; each set of n rows from `first` on
+abbrev pub FewInRow : List ℕ → ℕ → Type 0
+FewInRow rows i = (part : ℕ) → part < parts → rowCount rows i part ≤ 8
 
--- the clocks that row i owes a tick of; that n rows from `from` on do
+abbrev pub FewOwed : List ℕ → ℕ → ℕ → Type 0
+FewOwed rows first n = (k : ℕ) → k < n → FewInRow rows (first + k)
+
+-- row i has as many in each set
+abbrev pub CountsSame : ℕ → List ℕ → List ℕ → Type 0
+CountsSame i a b = (part : ℕ) → part < parts → rowCount b i part ≡ rowCount a i part
+
+-- the clocks whose ticks one in the set of a part asks about: its own, and of a countdown the on-clock too
+abbrev pub clocksAsked : ℕ → code.Obligation → List ℕ
+clocksAsked part o = cond (eqb part 0) (o .clock ∷ []) (o .clock ∷ o .on ∷ [])
+
+-- those of all in a set of row i; of row i; of n rows from `from` on
+abbrev pub partClocks : List ℕ → ℕ → ℕ → List ℕ
+partClocks rows i part = flatMap (clocksAsked part) (rowSet rows i part)
+
 abbrev pub rowClocks : List ℕ → ℕ → List ℕ
-rowClocks rows i = listed (λ j. word rows i (1 + j) % 256) (rowCount rows i)
+rowClocks rows i = flatMap (partClocks rows i) (listed (λ part. part) parts)
 
 abbrev pub rowsClocks : List ℕ → ℕ → ℕ → List ℕ
 rowsClocks rows from n = flatMap (λ k. rowClocks rows (from + k)) (listed (λ k. k) n)
+
+-- the words of row i before its leads that no set uses are zero
+pub record NothingInParts (rows : List ℕ) (i : ℕ) : Type 0 where
+  -- clocks and numbers past a set's count
+  pub clocks : (part j : ℕ) → part < parts → rowCount rows i part ≤ j → j < 8 → word rows i (partWords * part + 1 + j) ≡ 0
+  pub numbers : (part j : ℕ) → part < parts → rowCount rows i part ≤ j → j < 8 → word rows i (partWords * part + 9 + j) ≡ 0
 
 -- x, if there is one
 abbrev pub provided : {A : Type 0} → Bool → A → Option A
@@ -124,11 +161,12 @@ pub record ClearedWords (k end : ℕ) (a b : List ℕ) : Type 0 where
 
 -- ---- contracts: of one row, and of a row that gives another; r tells whether there is one
 
--- row i, of at most eight obligations
-pub record Row (rows : List ℕ) (i : ℕ) : Type 0 where
+-- a part of row i, of at most eight
+pub record Row (rows : List ℕ) (i part : ℕ) : Type 0 where
   pub size : length rows ≡ words
   pub row : i < height
-  pub few : rowCount rows i ≤ 8
+  pub inside : part < parts
+  pub few : rowCount rows i part ≤ 8
 
 -- row i, and another
 pub record Between (rows : List ℕ) (i to : ℕ) : Type 0 where
@@ -137,34 +175,45 @@ pub record Between (rows : List ℕ) (i to : ℕ) : Type 0 where
   pub into : to < height
   pub apart : i ≡ to → ⊥
 
--- an obligation in place j of row i; the others stay
-pub record PutObligation (i j : ℕ) (o : Obligation) (a b : List ℕ) : Type 0 where
-  pub stays : Stays i 1 leadsPart a b
-  pub here : rowObligation b i j ≡ o
-  pub others : (k : ℕ) → k < 8 → (k ≡ j → ⊥) → rowObligation b i k ≡ rowObligation a i k
+-- b is a but for a part of row i
+abbrev pub PartStays : ℕ → ℕ → List ℕ → List ℕ → Type 0
+PartStays i part a b = Stays i (partWords * part) (partWords * part + partWords) a b
 
--- the first n of row i, and nothing past them
-pub record ObligationsAt (i n : ℕ) (os : List code.Obligation) (rows : List ℕ) : Type 0 where
-  pub first : firstOf n os ≡ listed (rowObligation rows i) n
+-- no other part of row x has more in it
+pub record LargerSet (rows : List ℕ) (x part : ℕ) : Type 0 where
+  pub inside : part < parts
+  pub least : rowCount rows x (1 - part) ≤ rowCount rows x part
+
+-- a part of rows i and x, of at most eight each
+pub record Comparing (rows : List ℕ) (i x part : ℕ) : Type 0 where
+  pub one : i < height
+  pub other : x < height
+  pub inside : part < parts
+  pub few-one : rowCount rows i part ≤ 8
+  pub few-other : rowCount rows x part ≤ 8
+
+-- an obligation in place j of a part; the others and the count stay
+pub record PutObligation (i part j : ℕ) (o : code.Obligation) (a b : List ℕ) : Type 0 where
+  pub stays : Stays i (partWords * part + 1) (partWords * part + partWords) a b
+  pub here : rowObligation b i part j ≡ o
+  pub others : (k : ℕ) → k < 8 → (k ≡ j → ⊥) → rowObligation b i part k ≡ rowObligation a i part k
+
+-- the first n of a part, and nothing past them
+pub record ObligationsAt (i part n : ℕ) (os : List code.Obligation) (rows : List ℕ) : Type 0 where
+  pub first : take n os ≡ listed (rowObligation rows i part) n
   pub rest : BlankFrom n blankObligation os
 
--- row `to` owes what an instant leaves of what row i owes, unless one of it is late
-pub record StillOwedRow (f : Filled) (i to : ℕ) (r : Bool) (a b : List ℕ) : Type 0 where
-  pub stays : Stays to 0 leadsPart a b
-  pub owed : provided r (rowOwed b to) ≡ stillOwed f (rowOwed a i)
-  pub few : r ≡ true → rowCount b to ≤ 8
+-- a part with one more, unless a ninth has no room
+pub record AddedRow (i part : ℕ) (o : code.Obligation) (r : Bool) (a b : List ℕ) : Type 0 where
+  pub stays : PartStays i part a b
+  pub set : provided r (rowSet b i part) ≡ addedTo sameStored 8 (rowSet a i part) o
+  pub few : rowCount b i part ≤ 8
 
--- row i with one obligation more, unless a ninth has no room
-pub record AddedRow (i : ℕ) (o : Obligation) (r : Bool) (a b : List ℕ) : Type 0 where
-  pub stays : Stays i 0 leadsPart a b
-  pub owed : provided r (rowOwed b i) ≡ added (rowOwed a i) o
-  pub few : rowCount b i ≤ 8
-
--- row i with the obligations that were begun
-pub record BegunRow (i : ℕ) (os : List Obligation) (r : Bool) (a b : List ℕ) : Type 0 where
-  pub stays : Stays i 0 leadsPart a b
-  pub owed : provided r (rowOwed b i) ≡ addedAll os (rowOwed a i)
-  pub few : rowCount b i ≤ 8
+-- a part with those that were begun
+pub record BegunRow (i part : ℕ) (os : List code.Obligation) (r : Bool) (a b : List ℕ) : Type 0 where
+  pub stays : PartStays i part a b
+  pub set : provided r (rowSet b i part) ≡ allAddedTo sameStored 8 os (rowSet a i part)
+  pub few : rowCount b i part ≤ 8
 
 -- leads with what precedes lines gain and without what they lose, where they are small
 pub record LeadsOn (leaders : ℕ) (gains losses : List ℕ) (i to : ℕ) (a b : List ℕ) : Type 0 where

@@ -9,14 +9,14 @@ use Rattle.records.specs.Sheet.{SheetValue}
 use Rattle.tesl.specs.Lists.{below}
 use Rattle.judge.specs.declared.held.Status.{Status}
 use Rattle.judge.specs.declared.plan.Plan.{Plan}
-use Rattle.judge.specs.Limits.{obligationWithin, remainderWithin, heldWithin}
+use Rattle.judge.specs.Limits.{storedWithin, remainderWithin, heldWithin}
 use Rattle.judge.specs.Plan.{PlanFits, Planned}
 use Rattle.judge.specs.Rows.{secondSide, height, rowObligation, rowLead}
 use Rattle.judge.specs.Progress.{rowRemainder, rowsHeld}
 
--- obligation j of row i, and the lead of line k, which only precedes lines have
-abbrev pub owedFits : ℕ → List ℕ → ℕ → ℕ → Bool
-owedFits clocks rows i j = obligationWithin clocks (rowObligation rows i j)
+-- place j of a part of row i, and the lead of line k, which only precedes lines have
+abbrev pub placeFits : ℕ → ℕ → ℕ → List ℕ → ℕ → ℕ → ℕ → Bool
+placeFits clocks least most rows i part j = storedWithin clocks least most (rowObligation rows i part j)
 
 abbrev pub leadFits : List Bool → ℕ → List ℕ → ℕ → ℕ → Bool
 leadFits precede instants rows i k = not (getD precede k false) || leb (rowLead rows i k) instants

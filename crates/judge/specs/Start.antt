@@ -1,5 +1,6 @@
 -- The remainder of no instant, in the first row of the first side: it owes what the sheet's lines owe from the start.
 use mathlib.Core.List.{List, [], _∷_}
+use mathlib.Core.Bool.{Bool}
 use mathlib.Core.Option.{some}
 use mathlib.Core.Path.{_≡_}
 use Prim.Native.Nat.{ℕ, _≤_, _<_}
@@ -8,10 +9,9 @@ use Rattle.records.specs.Sheet.{SheetValue}
 use Rattle.tesl.specs.Lists.{flatMap}
 use Rattle.tesl.specs.Fits.{Obligation, owedAtStart}
 use Rattle.tesl.specs.Remainder.{remainder}
-use Rattle.work.specs.Owed.{owing}
-use Rattle.work.specs.Work.{addedAll}
+use Rattle.work.specs.Owed.{owing, addedAll}
 use Rattle.judge.specs.declared.held.Status.the-variants.{Live}
-use Rattle.judge.specs.Rows.{leadsPart, width, words, headRows, word, rowsOf, Stays}
+use Rattle.judge.specs.Rows.{width, words, headRows, word, rowCount, rowOwed, rowsOf, provided, PartStays}
 use Rattle.judge.specs.Apply.{FewOwedIn}
 
 -- row i, all words of it 0
@@ -19,8 +19,14 @@ pub record BlankRow (rows : List ℕ) (i : ℕ) : Type 0 where
   pub size : length rows ≡ words
   pub blank : (p : ℕ) → p < width → word rows i p ≡ 0
 
+-- row i with what lines owe from the start, unless a ninth has no room
+pub record StartedRow (i : ℕ) (os : List Obligation) (r : Bool) (a b : List ℕ) : Type 0 where
+  pub stays : PartStays i 0 a b
+  pub owed : provided r (rowOwed b i) ≡ addedAll os (rowOwed a i)
+  pub few : rowCount b i 0 ≤ 8
+
 -- one remainder is held, and every other row stays; where a ninth obligation has no room, nothing is said of what it owes
 pub record BegunRows (v : SheetValue) (a b : List ℕ) : Type 0 where
-  pub stays : Stays headRows 0 leadsPart a b
+  pub stays : PartStays headRows 0 a b
   pub small : FewOwedIn (Live 1) b headRows
-  pub first : v .clocks ≤ 8 → (os : List Obligation) → addedAll (flatMap owedAtStart (v .lines)) [] ≡ some os → rowsOf v b headRows 1 ≡ owing os (remainder v []) ∷ []
+  pub first : v .clocks ≤ 8 → (os : List Obligation) → addedAll (flatMap owedAtStart (v .lines)) [] ≡ some os → rowsOf v b headRows 1 ≡ owing (record { owed = os; countdowns = [] }) (remainder v []) ∷ []

@@ -26,9 +26,9 @@ use Rattle.judge.specs.View.{liveCount}
 use Rattle.judge.specs.Rows.{headRows, secondSide, width, words, word, Stays}
 use Rattle.judge.specs.Progress.{rowsMonitor}
 
--- what word 0 of row 0 is in a state: the format and its version, 0x4C460001
+-- what word 0 of row 0 is in a state: the format and its version, 0x4C460002
 abbrev pub format : ℕ
-format = 1279655937
+format = 1279655938
 
 -- ---- the sheet
 
@@ -86,7 +86,7 @@ hasFormat w = eqb (word w 0 0) format
 
 -- the kinds of lines
 abbrev pub isKind : ℕ → Bool
-isKind w = leb 16 w && leb w 23
+isKind w = leb 16 w && leb w 24
 
 -- each of the first n lines, of sixteen, has a kind; and each below the count
 abbrev pub kindsBelow : ℕ → List ℕ → Bool

@@ -3,20 +3,20 @@ use mathlib.Core.Bool.{Bool, false, cond}
 use mathlib.Core.List.{List, map}
 use mathlib.Core.Path.{_≡_}
 use Prim.Native.Nat.{ℕ, _+_, _%_, _≤_, _<_}
-use lib.Dec.{T, leb}
+use lib.Dec.{T}
 use lib.ListN.{length, getD, take}
 use Rattle.records.specs.Sheet.{SheetValue}
 use Rattle.tesl.specs.Lists.{all}
-use Rattle.tesl.specs.Fits.{Obligation}
 use Rattle.work.specs.View.{usedPart, heldList}
 use Rattle.work.specs.Lines.{smallLeads}
+use Rattle.judge.specs.declared.obligation.Obligation as code
 use Rattle.judge.specs.declared.plan.Plan.{Plan}
 use Rattle.judge.specs.declared.remainder.Remainder as arrays
 use Rattle.judge.specs.declared.held.Status.{Status}
-use Rattle.judge.specs.View.{remainderOf, blankRemainder, viewOf, liveCount, heldIn, sizedIn}
+use Rattle.judge.specs.View.{remainderOf, blankRemainder, viewOf, liveCount, heldIn, fewOwed, sizedIn}
 use Rattle.judge.specs.Unused.{BlankFrom, NothingUnused}
 use Rattle.judge.specs.Plan.{PlanFits, Planned}
-use Rattle.judge.specs.Rows.{leadsPart, stoppedPart, partsEnd, secondSide, headRows, height, words, rowCount, rowOwed, rowLead, rowLeads, rowStop, rowStopped, rowOf, rowsOf, FewOwed, Stays, HeadStays}
+use Rattle.judge.specs.Rows.{leadsPart, stoppedPart, partsEnd, secondSide, headRows, height, words, rowCount, rowSet, rowLead, rowLeads, rowStop, rowStopped, rowOf, rowsOf, FewInRow, FewOwed, Stays, PartStays, HeadStays}
 use Rattle.judge.specs.Apply.{foundIn, FewOwedIn}
 
 -- ---- stored
@@ -26,11 +26,11 @@ pub record Place (rows : List ℕ) (i : ℕ) : Type 0 where
   pub size : length rows ≡ words
   pub row : i < height
 
--- what a remainder owes, its leads and its stopped clocks, in row i
-pub record PutObligations (i n : ℕ) (os : List Obligation) (a b : List ℕ) : Type 0 where
-  pub stays : Stays i 0 leadsPart a b
-  pub count : rowCount b i ≡ n
-  pub owed : rowOwed b i ≡ os
+-- a set, the leads and the stopped clocks of a remainder, in row i
+pub record PutObligations (i part n : ℕ) (os : List code.Obligation) (a b : List ℕ) : Type 0 where
+  pub stays : PartStays i part a b
+  pub count : rowCount b i part ≡ n
+  pub set : rowSet b i part ≡ os
 
 pub record PutLeads (i : ℕ) (xs : List ℕ) (a b : List ℕ) : Type 0 where
   pub stays : Stays i leadsPart stoppedPart a b
@@ -43,7 +43,7 @@ pub record PutStopped (i : ℕ) (xs : List Bool) (a b : List ℕ) : Type 0 where
 -- the row reads as the struct does, and so of every sheet
 pub record PutRemainder (i : ℕ) (r : arrays.Remainder) (a b : List ℕ) : Type 0 where
   pub stays : Stays i 0 partsEnd a b
-  pub count : rowCount b i ≡ r .owed
+  pub few : FewInRow b i
   pub row : rowOf b i ≡ remainderOf r
 
 -- ---- read back
@@ -59,15 +59,15 @@ pub record StoppedAt (clocks i : ℕ) (xs : List Bool) (rows : List ℕ) : Type 
   pub first : (k : ℕ) → k < clocks → getD xs k false ≡ rowStop rows i k
   pub rest : BlankFrom clocks false xs
 
--- row i of at most eight obligations, for a plan
+-- row i, of at most eight in each set, for a plan
 pub record Reading (rows : List ℕ) (i : ℕ) (p : Plan) : Type 0 where
   pub row : i < height
-  pub few : rowCount rows i ≤ 8
+  pub few : FewInRow rows i
   pub plan : PlanFits p
 
 -- the struct reads as the row does, for every sheet that the plan is of, and keeps nothing else
 pub record RemainderAt (p : Plan) (i : ℕ) (r : arrays.Remainder) (rows : List ℕ) : Type 0 where
-  pub few : r .owed ≤ 8
+  pub few : T (fewOwed r)
   pub view : (v : SheetValue) (lines : List ℕ) → Planned v p lines → T (smallLeads (usedPart v (rowOf rows i))) → viewOf v r ≡ usedPart v (rowOf rows i)
   pub unused : (v : SheetValue) (lines : List ℕ) → Planned v p lines → NothingUnused v r
 
@@ -77,7 +77,7 @@ pub record RemainderAt (p : Plan) (i : ℕ) (r : arrays.Remainder) (rows : List 
 pub record Storing (rows : List ℕ) (n : ℕ) (rs : List arrays.Remainder) : Type 0 where
   pub size : length rows ≡ words
   pub held : n ≤ 32
-  pub few : T (all (λ (r : arrays.Remainder). leb (r .owed) 8) (take n rs))
+  pub few : T (all fewOwed (take n rs))
 
 -- each in its row; the head stays
 pub record ToRows (n : ℕ) (rs : List arrays.Remainder) (a b : List ℕ) : Type 0 where

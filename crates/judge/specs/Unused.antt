@@ -20,6 +20,8 @@ BlankFrom n d xs = (k : ℕ) → n ≤ k → getD xs k d ≡ d
 pub record NothingUnused (v : SheetValue) (r : Remainder) : Type 0 where
   -- obligations past its count
   pub obligations : BlankFrom (r .owed) blankObligation (r .obligations)
+  -- countdowns past its count
+  pub countdowns : BlankFrom (r .counting) blankObligation (r .countdowns)
   -- leads of lines that are no precedes lines
   pub leads : (k : ℕ) → getD (r .leads) k 0 ≡ inUse (getD (v .lines) k blankLine) (getD (r .leads) k 0)
   -- stopped clocks from C on

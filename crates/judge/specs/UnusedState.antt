@@ -8,19 +8,17 @@ use Rattle.records.specs.Line.{blankLine}
 use Rattle.records.specs.Sheet.{SheetValue, sheetValue}
 use Rattle.work.specs.Parts.{isPrecedes}
 use Rattle.judge.specs.View.{liveCount}
-use Rattle.judge.specs.Rows.{width, height, headRows, word, rowCount, rowLead}
+use Rattle.judge.specs.Rows.{stoppedPart, width, height, headRows, word, rowLead, NothingInParts}
 use Rattle.judge.specs.State.{stateWords, stateSheet, stateProgress, noWords}
 
 -- the words of row i that a remainder of the sheet doesn't use
 pub record UnusedInRow (v : SheetValue) (rows : List ℕ) (i : ℕ) : Type 0 where
-  -- clock, on-clock and due of obligations past its count
-  pub clocks : (j : ℕ) → rowCount rows i ≤ j → j < 8 → word rows i (1 + j) ≡ 0
-  pub on-clocks : (j : ℕ) → rowCount rows i ≤ j → j < 8 → word rows i (9 + j) ≡ 0
-  pub dues : (j : ℕ) → rowCount rows i ≤ j → j < 8 → word rows i (17 + j) ≡ 0
+  -- places of its sets past their counts
+  pub sets : NothingInParts rows i
   -- leads of lines that are no precedes lines
   pub leads : (k : ℕ) → k < 16 → isPrecedes (getD (v .lines) k blankLine) ≡ false → rowLead rows i k ≡ 0
   -- stopped clocks from C on, and the words behind them
-  pub rest : (q : ℕ) → 41 + v .clocks ≤ q → q < width → word rows i q ≡ 0
+  pub rest : (q : ℕ) → stoppedPart + v .clocks ≤ q → q < width → word rows i q ≡ 0
 
 -- a state keeps nothing in words that nothing uses
 pub record KeepsNothingIn (w : List ℕ) : Type 0 where

@@ -8,7 +8,7 @@ use lib.ListN.{getD}
 use Rattle.judge.specs.declared.plan.Plan.{Plan}
 use Rattle.judge.specs.declared.held.Status.{Status}
 use Rattle.judge.specs.View.{liveCount}
-use Rattle.judge.specs.Rows.{width, height, headRows, word, rowCount, rowLead}
+use Rattle.judge.specs.Rows.{stoppedPart, width, height, headRows, word, rowLead, NothingInParts}
 
 -- line k is a precedes line: before `leaders`, where there is a flag
 abbrev pub leadUsed : ℕ → List Bool → ℕ → Bool
@@ -16,14 +16,11 @@ leadUsed leaders precede k = ltb k leaders && getD precede k false
 
 -- the words of row i that its remainder doesn't use are zero
 pub record NothingInRow (p : Plan) (rows : List ℕ) (i : ℕ) : Type 0 where
-  -- clock, on-clock and due of obligations past its count
-  pub clocks : (j : ℕ) → rowCount rows i ≤ j → j < 8 → word rows i (1 + j) ≡ 0
-  pub on-clocks : (j : ℕ) → rowCount rows i ≤ j → j < 8 → word rows i (9 + j) ≡ 0
-  pub dues : (j : ℕ) → rowCount rows i ≤ j → j < 8 → word rows i (17 + j) ≡ 0
+  pub sets : NothingInParts rows i
   -- leads of lines that are no precedes lines
   pub leads : (k : ℕ) → k < 16 → leadUsed (p .leaders) (p .precede) k ≡ false → rowLead rows i k ≡ 0
   -- stopped clocks from C on, and the words behind them
-  pub rest : (q : ℕ) → 41 + p .clocks ≤ q → q < width → word rows i q ≡ 0
+  pub rest : (q : ℕ) → stoppedPart + p .clocks ≤ q → q < width → word rows i q ≡ 0
 
 -- where `count` remainders are held from row `from` on: every word of the two sides that none of them uses is zero
 pub record NothingBeside (p : Plan) (count : Status) (from : ℕ) (rows : List ℕ) : Type 0 where

@@ -3,12 +3,11 @@ use mathlib.Core.Bool.{Bool, true, false, _&&_}
 use mathlib.Core.List.{List, [], _∷_, map}
 use mathlib.Core.Option.{Option, none, some}
 use Prim.Native.Nat.{ℕ}
-use lib.Dec.{leb}
-use lib.IntN.{pos}
+use lib.Dec.{leb, eqb}
 use lib.ListN.{replicate, take}
 use Rattle.records.specs.Sheet.{SheetValue}
 use Rattle.tesl.specs.Lists.{all}
-use Rattle.tesl.specs.Fits.{Obligation}
+use Rattle.tesl.specs.Fits.{Obligation, Countdown}
 use Rattle.tesl.specs.Remainder.{Remainder}
 use Rattle.work.specs.View.{usedPart, heldList}
 use Rattle.judge.specs.declared.obligation.Obligation as code
@@ -18,14 +17,24 @@ use Rattle.judge.specs.declared.remainder.Remainder as arrays
 use Rattle.judge.specs.declared.held.Status.{Status}
 use Rattle.judge.specs.declared.held.Status.the-variants.{Exhausted, Live}
 use Rattle.judge.specs.declared.held.Held.{Held}
+use Rattle.judge.specs.Word.{dueOf}
 
+-- its number read as a due
 abbrev pub obligationOf : code.Obligation → Obligation
-obligationOf o = record { clock = o .clock; due = o .due; on = o .on }
+obligationOf o = record { clock = o .clock; due = dueOf (o .number); on = o .on }
+
+-- its number read as the ticks still wanted
+abbrev pub countdownOf : code.Obligation → Countdown
+countdownOf o = record { clock = o .clock; on = o .on; wanted = o .number }
+
+-- the same as they are stored
+abbrev pub sameStored : code.Obligation → code.Obligation → Bool
+sameStored a b = eqb (a .clock) (b .clock) && (eqb (a .number) (b .number) && eqb (a .on) (b .on))
 
 -- what a line begins, as the list of it
-abbrev pub newObligation : NewObligation → List Obligation
+abbrev pub newObligation : NewObligation → List code.Obligation
 newObligation Nothing = []
-newObligation (Owed o) = obligationOf o ∷ []
+newObligation (Owed o) = o ∷ []
 
 -- ---- a remainder in arrays
 
@@ -36,16 +45,26 @@ firstOf n os = map obligationOf (take n os)
 abbrev pub owedOf : arrays.Remainder → List Obligation
 owedOf r = firstOf (r .owed) (r .obligations)
 
+abbrev pub countdownsOf : arrays.Remainder → List Countdown
+countdownsOf r = map countdownOf (take (r .counting) (r .countdowns))
+
 -- with the leads of sixteen lines and the stopped ones of eight clocks
 abbrev pub remainderOf : arrays.Remainder → Remainder
-remainderOf r = record { owed = owedOf r; leads = r .leads; stopped = r .stopped }
+remainderOf r = record { owed = owedOf r; countdowns = countdownsOf r; leads = r .leads; stopped = r .stopped }
 
 abbrev pub blankObligation : code.Obligation
-blankObligation = record { clock = 0; on = 0; due = pos 0 }
+blankObligation = record { clock = 0; on = 0; number = 0 }
 
 -- nothing is owed, no line leads, no clock is stopped
 abbrev pub blankRemainder : arrays.Remainder
-blankRemainder = record { owed = 0; obligations = replicate 8 blankObligation; leads = replicate 16 0; stopped = replicate 8 false }
+blankRemainder = record {
+  owed = 0;
+  obligations = replicate 8 blankObligation;
+  counting = 0;
+  countdowns = replicate 8 blankObligation;
+  leads = replicate 16 0;
+  stopped = replicate 8 false;
+}
 
 -- ---- the places in use
 
@@ -73,9 +92,13 @@ liveOf v h = heldList (heldOf v h)
 
 -- ---- counts that their arrays have room for
 
+-- at most eight in each set
+abbrev pub fewOwed : arrays.Remainder → Bool
+fewOwed r = leb (r .owed) 8 && leb (r .counting) 8
+
 abbrev pub sizedIn : Status → List arrays.Remainder → Bool
 sizedIn Exhausted rs = true
-sizedIn (Live n) rs = leb n 32 && all (λ (r : arrays.Remainder). leb (r .owed) 8) (take n rs)
+sizedIn (Live n) rs = leb n 32 && all fewOwed (take n rs)
 
 abbrev pub sized : Held → Bool
 sized h = sizedIn (h .count) (h .remainders)

@@ -1,18 +1,20 @@
 // What a filled instant makes of a row: the row that it becomes, built in place in another row of the same array.
 use crate::filling::Filling;
+use crate::left::Left;
+use crate::left::left_of;
 use crate::obligation::Obligation;
-use crate::obligation::is_late;
-use crate::obligation::is_met;
-use crate::obligation::same_obligation;
 use crate::plan::Plan;
-use crate::rows::COUNT;
+use crate::rows::COUNTDOWNS;
 use crate::rows::LEADS;
+use crate::rows::OBLIGATIONS;
+use crate::rows::PART_WORDS;
 use crate::rows::SIZE;
 use crate::rows::STOPPED;
 use crate::rows::obligation_at;
 use crate::rows::put_obligation;
 use crate::rows::put_word;
 use crate::rows::row_count;
+use crate::rows::row_owes;
 use crate::rows::word_at;
 use crate::word::count_word;
 use crate::word::flag_in;
@@ -20,17 +22,16 @@ use crate::word::flag_word;
 ghost use mathlib.Core.Path.{_≡_};
 ghost use Prim.Native.Nat.{ℕ, _+_, _-_, _<_, _≤_};
 ghost use lib.Dec.{leb};
-ghost use lib.ListN.{getD};
+ghost use lib.ListN.{getD, drop, take};
 ghost use Rattle.records.specs.Lists.{listed};
-ghost use Rattle.tesl.specs.Lists.{any, below};
-ghost use Rattle.tesl.specs.Remainder.{sameObligation};
+ghost use Rattle.tesl.specs.Lists.{below};
 ghost use Rattle.theory.specs.Step.{overlap};
 ghost use Rattle.work.specs.View.{filledOf};
-ghost use Rattle.judge.specs.View.{obligationOf, firstOf};
-ghost use Rattle.judge.specs.Rows.{height, rowCount, rowOwed, rowLead, rowStop, Row, Between, StillOwedRow, AddedRow, BegunRow, LeadsOn, StoppedOn};
+ghost use Rattle.judge.specs.Rows.{height, parts, rowCount, rowLead, rowStop, Row, Between, AddedRow, BegunRow, LeadsOn, StoppedOn};
+ghost use Rattle.judge.specs.Left.{LeftRow};
 ghost use Rattle.judge.specs.Filling.{Advancing, AdvancedRow};
 
-// What becomes of a row: it doesn't fit, it would owe more than eight, or it goes on.
+// What becomes of a row: it doesn't fit, it would have more than eight in a set, or it goes on.
 pub enum Next {
     Fails,
     Over,
@@ -75,83 +76,98 @@ fn leads_hold(rows: &[u32; SIZE], i: usize, leaders: usize, needs: [u16; 16]) ->
     true
 }
 
-// Stores in row `to` what row i owes that a filled instant doesn't meet. False: one of the rest is late.
-fn put_still_owed(
+// Stores in a part of row `to` what a filled instant leaves of that part of row i. False: by one of them the filling doesn't fit.
+fn put_left(
     rows: &mut [u32; SIZE],
     i: usize,
     to: usize,
+    part: usize,
     ticks: [bool; 8],
     tags: [i16; 8],
 ) -> bool
-    requires { ⌜ Between (now rows) i to × (rowCount (now rows) i ≤ 8) ⌝ }
-    ensures { λ r. ⌜ StillOwedRow (filledOf ticks tags) i to r (now (rows .entry)) (now (rows .exit)) ⌝ }
+    requires { ⌜ Between (now rows) i to × ((part < parts) × (rowCount (now rows) i part ≤ 8)) ⌝ }
+    ensures { λ r. ⌜ LeftRow (filledOf ticks tags) part i to r (now (rows .entry)) (now (rows .exit)) ⌝ }
 {
-    let n = row_count(rows, i);
+    let n = row_count(rows, i, part);
     let mut count = 0;
     let mut j = 0;
     while j < n {
-        let o = obligation_at(rows, i, j);
+        let o = obligation_at(rows, i, part, j);
         j += 1;
-        if is_met(o, ticks, tags) {
-            continue;
+        match left_of(part, o, ticks, tags) {
+            Left::Done => {
+                continue;
+            }
+            Left::Unfit => {
+                return false;
+            }
+            Left::Still(left) => {
+                put_obligation(rows, to, part, count, left);
+                count += 1;
+            }
         }
-        if is_late(o, tags) {
-            return false;
-        }
-        put_obligation(rows, to, count, o);
-        count += 1;
     }
-    put_word(rows, to, COUNT, count_word(count));
+    put_word(rows, to, PART_WORDS * part, count_word(count));
     true
 }
 
-// Row i owes o.
-fn row_owes(rows: &[u32; SIZE], i: usize, o: Obligation) -> bool
-    requires { ⌜ (i < height) × (rowCount (now rows) i ≤ 8) ⌝ }
-    ensures { λ r. ⌜ r ≡ any (sameObligation (obligationOf o)) (rowOwed (now (rows .entry)) i) ⌝ }
+// A part of row i with one more, which counts once. False: a ninth has no room.
+pub(crate) fn add_row(rows: &mut [u32; SIZE], i: usize, part: usize, o: Obligation) -> bool
+    requires { ⌜ Row (now rows) i part ⌝ }
+    ensures { λ r. ⌜ AddedRow i part o r (now (rows .entry)) (now (rows .exit)) ⌝ }
 {
-    let n = row_count(rows, i);
-    let mut j = 0;
-    while j < n {
-        if same_obligation(o, obligation_at(rows, i, j)) {
-            return true;
-        }
-        j += 1;
-    }
-    false
-}
-
-// Row i with one obligation more, which counts once. False: a ninth has no room.
-pub(crate) fn add_row(rows: &mut [u32; SIZE], i: usize, o: Obligation) -> bool
-    requires { ⌜ Row (now rows) i ⌝ }
-    ensures { λ r. ⌜ AddedRow i (obligationOf o) r (now (rows .entry)) (now (rows .exit)) ⌝ }
-{
-    if row_owes(rows, i, o) {
+    if row_owes(rows, i, part, o) {
         return true;
     }
-    let n = row_count(rows, i);
+    let n = row_count(rows, i, part);
     if 8 <= n {
         return false;
     }
-    put_obligation(rows, i, n, o);
-    put_word(rows, i, COUNT, count_word(n + 1));
+    put_obligation(rows, i, part, n, o);
+    put_word(rows, i, PART_WORDS * part, count_word(n + 1));
     true
 }
 
-// Row i with the n obligations that were begun. False: one had no room.
-fn begin_row(rows: &mut [u32; SIZE], i: usize, n: usize, begun: [Obligation; 16]) -> bool
-    requires { ⌜ Row (now rows) i × (n ≤ 16) ⌝ }
-    ensures { λ r. ⌜ BegunRow i (firstOf n begun) r (now (rows .entry)) (now (rows .exit)) ⌝ }
+// A part of row i with those begun from place `first` to n. False: one had no room.
+fn begin_row(
+    rows: &mut [u32; SIZE],
+    i: usize,
+    part: usize,
+    first: usize,
+    n: usize,
+    begun: [Obligation; 16],
+) -> bool
+    requires { ⌜ Row (now rows) i part × (n ≤ 16) ⌝ }
+    ensures { λ r. ⌜ BegunRow i part (drop first (take n begun)) r (now (rows .entry)) (now (rows .exit)) ⌝ }
 {
-    let mut j = 0;
+    let mut j = first;
     while j < n {
         let o = begun[j];
-        if !add_row(rows, i, o) {
+        if !add_row(rows, i, part, o) {
             return false;
         }
         j += 1;
     }
     true
+}
+
+// The same with those that a filling begins: where there are none, they aren't copied.
+fn begin_part(
+    rows: &mut [u32; SIZE],
+    i: usize,
+    part: usize,
+    first: usize,
+    n: usize,
+    f: Filling,
+) -> bool
+    requires { ⌜ Row (now rows) i part × (n ≤ 16) ⌝ }
+    ensures { λ r. ⌜ BegunRow i part (drop first (take n (f .begun))) r (now (rows .entry)) (now (rows .exit)) ⌝ }
+{
+    if n <= first {
+        return true;
+    }
+    let begun = f.begun;
+    begin_row(rows, i, part, first, n, begun)
 }
 
 // A lead that would fall below 0 stays 0, and so does one that is no lead.
@@ -184,6 +200,19 @@ fn leads_on(
         put_word(rows, to, LEADS + k, moved(lead, gains[k], losses[k]));
         k += 1;
     }
+}
+
+// The same with what a filling gains and loses: where no line leads, it isn't copied.
+fn lead_part(rows: &mut [u32; SIZE], i: usize, to: usize, leaders: usize, f: Filling)
+    requires { ⌜ Between (now rows) i to × (leaders ≤ 16) ⌝ }
+    ensures { λ _. ⌜ LeadsOn leaders (f .gains) (f .losses) i to (now (rows .entry)) (now (rows .exit)) ⌝ }
+{
+    if leaders == 0 {
+        return;
+    }
+    let gains = f.gains;
+    let losses = f.losses;
+    leads_on(rows, i, to, leaders, gains, losses);
 }
 
 // Stores in row `to` the stopped clocks of row i, with more.
@@ -224,17 +253,21 @@ pub(crate) fn advance_row(
         return Next::Fails;
     }
     let tags = f.tags;
-    if !put_still_owed(rows, i, to, ticks, tags) {
+    if !put_left(rows, i, to, OBLIGATIONS, ticks, tags) {
         return Next::Fails;
     }
-    let count = f.count;
-    let begun = f.begun;
-    if !begin_row(rows, to, count, begun) {
+    if !put_left(rows, i, to, COUNTDOWNS, ticks, tags) {
+        return Next::Fails;
+    }
+    let owed = f.owed;
+    if !begin_part(rows, to, OBLIGATIONS, 0, owed, f) {
         return Next::Over;
     }
-    let gains = f.gains;
-    let losses = f.losses;
-    leads_on(rows, i, to, leaders, gains, losses);
+    let count = f.count;
+    if !begin_part(rows, to, COUNTDOWNS, owed, count, f) {
+        return Next::Over;
+    }
+    lead_part(rows, i, to, leaders, f);
     let stops = f.stops;
     stopped_on(rows, i, to, stops);
     Next::Onto

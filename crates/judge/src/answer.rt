@@ -1,17 +1,21 @@
 // What the monitor answers.
 use crate::held::Status;
+use crate::rows::COUNTDOWNS;
+use crate::rows::OBLIGATIONS;
 use crate::rows::SIZE;
 use crate::rows::row_count;
 ghost use mathlib.Core.Path.{_≡_};
-ghost use Prim.Native.Nat.{_+_, _≤_};
+ghost use mathlib.Core.Bool.{_&&_};
+ghost use Prim.Native.Nat.{_+_, _≤_, _<_};
+ghost use lib.Dec.{eqb};
 ghost use Rattle.records.specs.Sheet.{SheetValue};
 ghost use Rattle.tesl.specs.Lists.{any};
 ghost use Rattle.tesl.specs.Remainder.{isClear};
 ghost use Rattle.judge.specs.Answer.{answerOf, saidBy};
-ghost use Rattle.judge.specs.Rows.{secondSide, height, rowsOf};
+ghost use Rattle.judge.specs.Rows.{secondSide, height, rowCount, rowsOf};
 ghost use Rattle.judge.specs.Apply.{foundIn, FewOwedIn};
 
-// live: how many distinct remainders; clear: one of them has no obligation.
+// live: how many distinct remainders; clear: one of them owes nothing.
 pub enum Answer {
     Exhausted,
     Broken,
@@ -24,14 +28,26 @@ pub enum Reply {
     Refused(u8),
 }
 
-// One of n rows from row `from` on has no obligation.
+// Row i owes nothing: both its sets are empty.
+fn is_clear_row(rows: &[u32; SIZE], i: usize) -> bool
+    requires { ⌜ i < height ⌝ }
+    ensures { λ r. ⌜ r ≡ (eqb (rowCount (now (rows .entry)) i 0) 0 && eqb (rowCount (now (rows .entry)) i 1) 0) ⌝ }
+{
+    if row_count(rows, i, OBLIGATIONS) == 0 {
+        row_count(rows, i, COUNTDOWNS) == 0
+    } else {
+        false
+    }
+}
+
+// One of n rows from row `from` on owes nothing.
 fn is_clear_in(rows: &[u32; SIZE], from: usize, n: usize) -> bool
     requires { ⌜ from + n ≤ height ⌝ }
     ensures { λ r. ⌜ ((v : SheetValue) → r ≡ any isClear (rowsOf v (now (rows .entry)) from n)) ⌝ }
 {
     let mut i = 0;
     while i < n {
-        if row_count(rows, from + i) == 0 {
+        if is_clear_row(rows, from + i) {
             return true;
         }
         i += 1;

@@ -1,12 +1,13 @@
 // Rows compared: whether the row after those found is one of them.
-use crate::obligation::Obligation;
-use crate::obligation::same_obligation;
+use crate::rows::COUNTDOWNS;
 use crate::rows::LEADS;
+use crate::rows::OBLIGATIONS;
+use crate::rows::PARTS;
 use crate::rows::SIZE;
 use crate::rows::STOPPED;
 use crate::rows::obligation_at;
-use crate::rows::obligations_at;
 use crate::rows::row_count;
+use crate::rows::row_owes;
 use crate::rows::word_at;
 use crate::word::flag_in;
 ghost use mathlib.Core.Path.{_≡_};
@@ -16,12 +17,12 @@ ghost use lib.Dec.{eqb};
 ghost use lib.ListN.{getD};
 ghost use Rattle.records.specs.Sheet.{SheetValue};
 ghost use Rattle.tesl.specs.Lists.{any, below};
-ghost use Rattle.tesl.specs.Remainder.{sameObligation};
+ghost use Rattle.theory.specs.Adding.{sameByCount};
 ghost use Rattle.work.specs.View.{usedPart};
 ghost use Rattle.work.specs.Work.{sameCounted};
 ghost use Rattle.work.specs.Parts.{Leading};
-ghost use Rattle.judge.specs.View.{obligationOf, firstOf};
-ghost use Rattle.judge.specs.Rows.{height, rowLead, rowStop, rowOf, rowsOf, FewOwed};
+ghost use Rattle.judge.specs.View.{sameStored};
+ghost use Rattle.judge.specs.Rows.{height, rowSet, rowLead, rowStop, rowOf, rowsOf, FewOwed, LargerSet, Comparing};
 
 // Rows i and x lead alike; only the leads of precedes lines are in use.
 fn same_leads(rows: &[u32; SIZE], i: usize, x: usize, leaders: usize, precede: [bool; 16]) -> bool
@@ -57,22 +58,37 @@ fn same_stopped(rows: &[u32; SIZE], i: usize, x: usize, clocks: usize) -> bool
     true
 }
 
-// One of the first n is o.
-fn owes(n: usize, obligations: [Obligation; 8], o: Obligation) -> bool
-    requires { ⌜ n ≤ 8 ⌝ }
-    ensures { λ r. ⌜ r ≡ any (sameObligation (obligationOf o)) (firstOf n obligations) ⌝ }
+// The same is in a part of rows i and x, where each has it once.
+fn same_set(rows: &[u32; SIZE], i: usize, x: usize, part: usize) -> bool
+    requires { ⌜ Comparing (now rows) i x part ⌝ }
+    ensures { λ r. ⌜ r ≡ sameByCount sameStored (rowSet (now (rows .entry)) x part) (rowSet (now (rows .entry)) i part) ⌝ }
 {
-    let mut i = 0;
-    while i < n {
-        if same_obligation(o, obligations[i]) {
-            return true;
-        }
-        i += 1;
+    let n = row_count(rows, i, part);
+    if row_count(rows, x, part) != n {
+        return false;
     }
-    false
+    let mut j = 0;
+    while j < n {
+        if !row_owes(rows, x, part, obligation_at(rows, i, part, j)) {
+            return false;
+        }
+        j += 1;
+    }
+    true
 }
 
-// Row first + n is one of the n rows from `first` on; the comparison stops at the first equal one.
+// The part of row x that has more in it.
+fn larger_set(rows: &[u32; SIZE], x: usize) -> usize
+    requires { ⌜ x < height ⌝ }
+    ensures { λ r. ⌜ LargerSet (now (rows .entry)) x r ⌝ }
+{
+    if row_count(rows, x, OBLIGATIONS) < row_count(rows, x, COUNTDOWNS) {
+        return COUNTDOWNS;
+    }
+    OBLIGATIONS
+}
+
+// Row first + n is one of the n rows from `first` on; the comparison stops at the first equal one. The larger set's count tells most rows apart, so it is asked first.
 pub(crate) fn is_duplicate(
     rows: &[u32; SIZE],
     first: usize,
@@ -88,13 +104,15 @@ pub(crate) fn is_duplicate(
         return false;
     }
     let x = first + n;
-    let owed = row_count(rows, x);
-    let obligations = obligations_at(rows, x, owed);
+    let most = larger_set(rows, x);
+    let count = row_count(rows, x, most);
+    let least = COUNTDOWNS - most;
+    let fewer = row_count(rows, x, least);
     let mut k = 0;
     'held: while k < n {
         let i = first + k;
         k += 1;
-        if row_count(rows, i) != owed {
+        if row_count(rows, i, most) != count {
             continue;
         }
         if !same_leads(rows, i, x, leaders, precede) {
@@ -103,13 +121,18 @@ pub(crate) fn is_duplicate(
         if !same_stopped(rows, i, x, clocks) {
             continue;
         }
-        let mut j = 0;
-        while j < owed {
-            let o = obligation_at(rows, i, j);
-            if !owes(owed, obligations, o) {
+        if row_count(rows, i, least) != fewer {
+            continue;
+        }
+        if count == 0 {
+            return true;
+        }
+        let mut part = 0;
+        while part < PARTS {
+            if !same_set(rows, i, x, part) {
                 continue 'held;
             }
-            j += 1;
+            part += 1;
         }
         return true;
     }

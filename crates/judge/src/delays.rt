@@ -1,32 +1,33 @@
-// The obligations that the delay lines begin by a filling, each once.
+// What lines of the plan begin by a filling: the obligations of its delay lines, each once, and behind them the countdowns of its counted lines, each once.
 use crate::line::NewObligation;
 use crate::line::begins;
 use crate::obligation::Obligation;
 use crate::obligation::same_obligation;
+use crate::plan::COUNTED;
 use crate::plan::DELAYS;
 use crate::plan::NUMBERS;
 use crate::plan::plan_line;
 ghost use mathlib.Core.Path.{_≡_};
-ghost use Prim.Native.Nat.{_≤_};
-ghost use Rattle.tesl.specs.Lists.{any, flatMap};
-ghost use Rattle.tesl.specs.Fits.{owedFrom};
-ghost use Rattle.tesl.specs.Remainder.{sameObligation};
-ghost use Rattle.theory.specs.Adding.{onceEach};
-ghost use Rattle.work.specs.View.{filledOf};
-ghost use Rattle.judge.specs.View.{obligationOf, firstOf};
-ghost use Rattle.judge.specs.Plan.{planLines, delaysFrom};
+ghost use Prim.Native.Nat.{_+_, _-_, _≤_, _<_};
+ghost use lib.ListN.{drop, take};
+ghost use Rattle.tesl.specs.Lists.{any};
+ghost use Rattle.judge.specs.View.{sameStored};
+ghost use Rattle.judge.specs.Plan.{delaysFrom, countedRows};
+ghost use Rattle.judge.specs.Filling.{LinesBegin};
 
+// The first `owed` are obligations, those from there to `count` countdowns.
 pub(crate) struct NewObligations {
+    pub owed: usize,
     pub count: usize,
     pub begun: [Obligation; 16],
 }
 
-// Whether o is among the first n.
-fn is_begun(n: usize, begun: [Obligation; 16], o: Obligation) -> bool
+// Whether o is among those from place `first` to n.
+fn is_begun(first: usize, n: usize, begun: [Obligation; 16], o: Obligation) -> bool
     requires { ⌜ n ≤ 16 ⌝ }
-    ensures { λ r. ⌜ r ≡ any (sameObligation (obligationOf o)) (firstOf n begun) ⌝ }
+    ensures { λ r. ⌜ r ≡ any (sameStored o) (drop first (take n begun)) ⌝ }
 {
-    let mut j = 0;
+    let mut j = first;
     while j < n {
         if same_obligation(o, begun[j]) {
             return true;
@@ -36,33 +37,68 @@ fn is_begun(n: usize, begun: [Obligation; 16], o: Obligation) -> bool
     false
 }
 
-// What n delay lines begin: at most one obligation to a line.
+// The row of the line of turn j: the delay lines, then the counted ones.
+fn line_row(j: usize, delays: usize) -> usize
+    requires { ⌜ j < 16 ⌝ }
+    ensures { λ r. ⌜ (j < delays → r ≡ delaysFrom + j) × (delays ≤ j → r ≡ countedRows + (j - delays)) ⌝ }
+{
+    if j < delays {
+        return DELAYS + j;
+    }
+    COUNTED + (j - delays)
+}
+
+// Where the part of turn j begins: that of the counted lines behind all that delay lines began.
+fn first_in_part(j: usize, delays: usize, first: usize, count: usize) -> usize
+    ensures { λ r. ⌜ (j ≡ delays → r ≡ count) × ((j ≡ delays → ⊥) → r ≡ first) ⌝ }
+{
+    if j == delays {
+        return count;
+    }
+    first
+}
+
+// How many are obligations: all, unless the counted lines' part begins at `first`.
+fn owed_of(counted: usize, first: usize, count: usize) -> usize
+    ensures { λ r. ⌜ (counted ≡ 0 → r ≡ count) × (0 < counted → r ≡ first) ⌝ }
+{
+    if counted == 0 {
+        return count;
+    }
+    first
+}
+
+// What all those lines begin, at most one to a line. An obligation and a countdown with the same numbers are two things: what is new is looked for in its own part.
 pub(crate) fn begin_delays(
     lines: &[u32; NUMBERS],
-    n: usize,
+    delays: usize,
+    counted: usize,
     ticks: [bool; 8],
     tags: [i16; 8],
 ) -> NewObligations
-    requires { ⌜ n ≤ 16 ⌝ }
-    ensures { λ r. ⌜ (r .count ≤ 16) × (firstOf (r .count) (r .begun) ≡ onceEach sameObligation (flatMap (owedFrom (filledOf ticks tags)) (planLines (now (lines .entry)) delaysFrom n))) ⌝ }
+    requires { ⌜ delays + counted ≤ 16 ⌝ }
+    ensures { λ r. ⌜ LinesBegin (now (lines .entry)) delays counted ticks tags (r .owed) (r .count) (r .begun) ⌝ }
 {
     let none = Obligation {
         clock: 0,
         on: 0,
-        due: 0,
+        number: 0,
     };
     let mut begun = [none; 16];
+    let mut first = 0;
     let mut count = 0;
     let mut j = 0;
-    while j < n {
-        let l = plan_line(lines, DELAYS + j);
+    let all = delays + counted;
+    while j < all {
+        first = first_in_part(j, delays, first, count);
+        let l = plan_line(lines, line_row(j, delays));
         j += 1;
         match begins(l, ticks, tags) {
             NewObligation::Nothing => {
                 continue;
             }
             NewObligation::Owed(o) => {
-                if is_begun(count, begun, o) {
+                if is_begun(first, count, begun, o) {
                     continue;
                 }
                 begun[count] = o;
@@ -70,5 +106,6 @@ pub(crate) fn begin_delays(
             }
         }
     }
-    NewObligations { count, begun }
+    let owed = owed_of(counted, first, count);
+    NewObligations { owed, count, begun }
 }

@@ -92,7 +92,7 @@ fn fill(
                 return n;
             }
             if !flags[k] {
-                // No line and no obligation held asks about this tick: with it nothing more is found.
+                // No line, no obligation and no countdown held asks about this tick: with it nothing more is found.
                 return fill(lines, extent, flags, k + 1, seen, ticks, list, n);
             }
             let idle = fill(lines, extent, flags, k + 1, seen, ticks, list, n);

@@ -8,7 +8,7 @@ use crate::rules::all_stops;
 ghost use Rattle.judge.specs.Plan.{PlanFits};
 ghost use Rattle.judge.specs.Filling.{Gathered};
 
-// The instant; the clocks that lines stop; what precedes lines need, gain and lose; what delay lines begin.
+// The instant; the clocks that lines stop; what precedes lines need, gain and lose; what delay lines begin, the first `owed`, and behind it, up to `count`, what counted lines do.
 pub struct Filling {
     pub ticks: [bool; 8],
     pub tags: [i16; 8],
@@ -16,6 +16,7 @@ pub struct Filling {
     pub needs: [u16; 16],
     pub gains: [u16; 16],
     pub losses: [u16; 16],
+    pub owed: usize,
     pub count: usize,
     pub begun: [Obligation; 16],
 }
@@ -33,12 +34,14 @@ pub(crate) fn gather(
     let leaders = plan.leaders;
     let rules = plan.rules;
     let delays = plan.delays;
+    let counted = plan.counted;
     let stops = all_stops(lines, rules, ticks);
     let changes = lead_changes(lines, leaders, ticks);
-    let begins = begin_delays(lines, delays, ticks, tags);
+    let begins = begin_delays(lines, delays, counted, ticks, tags);
     let needs = changes.needs;
     let gains = changes.gains;
     let losses = changes.losses;
+    let owed = begins.owed;
     let count = begins.count;
     let begun = begins.begun;
     Filling {
@@ -48,6 +51,7 @@ pub(crate) fn gather(
         needs,
         gains,
         losses,
+        owed,
         count,
         begun,
     }

@@ -21,6 +21,7 @@ pub(crate) fn precedes(l: Line) -> bool
         Line::Excludes { .. } => false,
         Line::Delayed { .. } => false,
         Line::Kills { .. } => false,
+        Line::Counted { .. } => false,
     }
 }
 
@@ -82,6 +83,7 @@ fn ask_lead(l: Line, ticks: [bool; 8]) -> Ask
         Line::Excludes { .. } => no_lead(),
         Line::Delayed { .. } => no_lead(),
         Line::Kills { .. } => no_lead(),
+        Line::Counted { .. } => no_lead(),
     }
 }
 

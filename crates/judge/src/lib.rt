@@ -12,6 +12,7 @@ mod fill;
 mod filling;
 pub mod held;
 mod leads;
+mod left;
 mod limits;
 mod line;
 mod line_words;

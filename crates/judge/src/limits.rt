@@ -10,32 +10,36 @@ use records::record::Decision;
 use records::sheet::Sheet;
 use records::sheet::check_sheet;
 ghost use mathlib.Core.Path.{_≡_};
-ghost use mathlib.Core.Bool.{_&&_};
 ghost use Prim.Native.Nat.{ℕ, _≤_};
 ghost use lib.Dec.{leb};
-ghost use lib.IntN.{pos, negsuc};
 ghost use lib.ListN.{take};
-ghost use lib.Signed.{leZ};
 ghost use Rattle.records.specs.Sheet.{sheetValue};
 ghost use Rattle.tesl.specs.Lists.{all};
 ghost use Rattle.theory.specs.Step.{nextLeads};
 ghost use Rattle.work.specs.View.{inUse};
-ghost use Rattle.judge.specs.View.{obligationOf, owedOf};
-ghost use Rattle.judge.specs.Limits.{obligationWithin, remainderWithin, heldWithin, Limited};
+ghost use Rattle.judge.specs.Limits.{storedWithin, setWithin, remainderWithin, heldWithin, Limited};
 
-// From the least tag to the greatest and the longest delay after it.
-fn due_within(due: i32) -> bool
-    ensures { λ r. ⌜ r ≡ (leZ (negsuc 32767) due && leZ due (pos 98302)) ⌝ }
-{
-    if -32768 <= due { due <= 98302 } else { false }
-}
+// The numbers of dues: from the least tag to the greatest and the longest delay after it, 98,302, counted from the least tag.
+pub(crate) const LEAST_DUE: u32 = 0;
 
-pub(crate) fn obligation_within(clocks: u8, o: Obligation) -> bool
-    ensures { λ r. ⌜ r ≡ obligationWithin clocks (obligationOf o) ⌝ }
+pub(crate) const MOST_DUE: u32 = 131070;
+
+// Ticks still wanted.
+pub(crate) const LEAST_WANTED: u32 = 1;
+
+pub(crate) const MOST_WANTED: u32 = 255;
+
+// Its clocks below `clocks`, and its number within bounds.
+pub(crate) fn obligation_within(clocks: u8, least: u32, most: u32, o: Obligation) -> bool
+    ensures { λ r. ⌜ r ≡ storedWithin clocks least most o ⌝ }
 {
     if o.clock < clocks {
         if o.on < clocks {
-            due_within(o.due)
+            if least <= o.number {
+                o.number <= most
+            } else {
+                false
+            }
         } else {
             false
         }
@@ -44,15 +48,21 @@ pub(crate) fn obligation_within(clocks: u8, o: Obligation) -> bool
     }
 }
 
-fn obligations_within(clocks: u8, r: Remainder) -> bool
-    requires { ⌜ r .owed ≤ 8 ⌝ }
-    ensures { λ b. ⌜ b ≡ all (obligationWithin clocks) (owedOf r) ⌝ }
+// Each of the first n.
+fn obligations_within(
+    clocks: u8,
+    least: u32,
+    most: u32,
+    n: usize,
+    obligations: [Obligation; 8],
+) -> bool
+    requires { ⌜ n ≤ 8 ⌝ }
+    ensures { λ b. ⌜ b ≡ all (storedWithin clocks least most) (take n obligations) ⌝ }
 {
-    let n = r.owed;
     let mut i = 0;
     while i < n {
-        let o = r.obligations[i];
-        if obligation_within(clocks, o) {
+        let o = obligations[i];
+        if obligation_within(clocks, least, most, o) {
             i += 1;
         } else {
             return false;
@@ -74,6 +84,7 @@ fn lead_within(l: Line, lead: u16, instants: usize) -> bool
         Line::Excludes { .. } => true,
         Line::Delayed { .. } => true,
         Line::Kills { .. } => true,
+        Line::Counted { .. } => true,
     }
 }
 
@@ -96,21 +107,33 @@ fn leads_within(s: Sheet, leads: [u16; 16], instants: usize) -> bool
     true
 }
 
+// At most eight, each within bounds.
+fn set_within(clocks: u8, least: u32, most: u32, n: usize, obligations: [Obligation; 8]) -> bool
+    ensures { λ b. ⌜ b ≡ setWithin clocks least most n (take n obligations) ⌝ }
+{
+    if number::MAX_OWED < n {
+        return false;
+    }
+    obligations_within(clocks, least, most, n, obligations)
+}
+
 fn remainder_within(s: Sheet, instants: usize, r: Remainder) -> bool
     requires { ⌜ s .count ≤ 16 ⌝ }
     ensures { λ b. ⌜ b ≡ remainderWithin (sheetValue s) instants r ⌝ }
 {
+    let clocks = s.clocks;
     let owed = r.owed;
-    if number::MAX_OWED < owed {
+    let obligations = r.obligations;
+    if !set_within(clocks, LEAST_DUE, MOST_DUE, owed, obligations) {
         return false;
     }
-    let clocks = s.clocks;
-    if obligations_within(clocks, r) {
-        let leads = r.leads;
-        leads_within(s, leads, instants)
-    } else {
-        false
+    let counting = r.counting;
+    let countdowns = r.countdowns;
+    if !set_within(clocks, LEAST_WANTED, MOST_WANTED, counting, countdowns) {
+        return false;
     }
+    let leads = r.leads;
+    leads_within(s, leads, instants)
 }
 
 fn held_within(s: Sheet, instants: usize, h: Held) -> bool

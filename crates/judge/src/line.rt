@@ -4,14 +4,14 @@ use crate::clock::tag_at;
 use crate::clock::ticks_at;
 use crate::clock::wide;
 use crate::obligation::Obligation;
-use crate::obligation::due_of;
+use crate::obligation::due_number;
 use records::line::Line;
 ghost use mathlib.Core.Path.{_≡_};
 ghost use lib.IntN.{_+ℤ_, _*ℤ_};
-ghost use Rattle.tesl.specs.Fits.{eqZ, owedFrom};
-ghost use Rattle.work.specs.View.{filledOf};
+ghost use Rattle.tesl.specs.Fits.{eqZ};
 ghost use Rattle.work.specs.Questions.{tagsHold, stoppedAfter};
 ghost use Rattle.judge.specs.View.{newObligation};
+ghost use Rattle.judge.specs.Filling.{countStored, LineBegins};
 
 // What a line begins at an instant.
 pub(crate) enum NewObligation {
@@ -39,6 +39,7 @@ pub(crate) fn tags_hold(l: Line, tags: [i16; 8]) -> bool
         Line::Weakly { .. } => true,
         Line::Strictly { .. } => true,
         Line::Kills { .. } => true,
+        Line::Counted { .. } => true,
     }
 }
 
@@ -61,12 +62,31 @@ pub(crate) fn stopped_after(l: Line, ticks: [bool; 8], stopped: [bool; 8]) -> [b
         Line::Delayed { .. } => stopped,
         Line::Weakly { .. } => stopped,
         Line::Strictly { .. } => stopped,
+        Line::Counted { .. } => stopped,
     }
 }
 
-// The obligation that a line begins at an instant.
+// The countdown of a counted line, where its A ticks.
+fn begins_count(ticks: bool, b: u8, d: u8, n: u8) -> NewObligation
+    ensures { λ r. ⌜ newObligation r ≡ countStored ticks b d n ⌝ }
+{
+    if !ticks {
+        return NewObligation::Nothing;
+    }
+    let number = n as u32;
+    if number == 0 {
+        return NewObligation::Nothing;
+    }
+    NewObligation::Owed(Obligation {
+        clock: d,
+        on: b,
+        number,
+    })
+}
+
+// The obligation or countdown that a line begins at an instant.
 pub(crate) fn begins(l: Line, ticks: [bool; 8], tags: [i16; 8]) -> NewObligation
-    ensures { λ r. ⌜ newObligation r ≡ owedFrom (filledOf ticks tags) l ⌝ }
+    ensures { λ r. ⌜ LineBegins ticks tags l (newObligation r) ⌝ }
 {
     match l {
         Line::Delayed { a, b, d, by } => {
@@ -74,7 +94,7 @@ pub(crate) fn begins(l: Line, ticks: [bool; 8], tags: [i16; 8]) -> NewObligation
                 NewObligation::Owed(Obligation {
                     clock: d,
                     on: b,
-                    due: due_of(tag_at(tags, b), by),
+                    number: due_number(tag_at(tags, b), by),
                 })
             } else {
                 NewObligation::Nothing
@@ -87,5 +107,6 @@ pub(crate) fn begins(l: Line, ticks: [bool; 8], tags: [i16; 8]) -> NewObligation
         Line::Weakly { .. } => NewObligation::Nothing,
         Line::Strictly { .. } => NewObligation::Nothing,
         Line::Kills { .. } => NewObligation::Nothing,
+        Line::Counted { a, b, d, n } => begins_count(ticks_at(ticks, a), b, d, n),
     }
 }

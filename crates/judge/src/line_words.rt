@@ -5,6 +5,7 @@ use records::line::Line;
 use records::number;
 use records::word::raw_of;
 use records::word::tag_of;
+ghost use Prim.Native.Nat.{_%_};
 ghost use mathlib.Core.Path.{_≡_};
 ghost use Rattle.judge.specs.LineWords.{lineBy, lineOfWords, wordsBy, WordsOf};
 
@@ -15,18 +16,26 @@ pub struct LineWords {
     // Its clocks A and B.
     pub a: u32,
     pub b: u32,
-    // The clock D of a delay line.
+    // The clock D of a delay line or a counted line.
     pub d: u32,
-    // The raw word of a sporadic line's t or a relation's p, or the delay of a delay line.
+    // The raw word of a sporadic line's t or a relation's p, the delay of a delay line, or the count of a counted line.
     pub x: u32,
     // The raw word of a relation's q.
     pub y: u32,
+}
+
+// Of the number of a counted line the last byte counts.
+fn count_of(x: u16) -> u8
+    ensures { λ r. ⌜ r ≡ x % 256 ⌝ }
+{
+    (x % 256) as u8
 }
 
 // The line of a kind, with its clocks A, B and D and two numbers; an unknown kind is kills.
 fn line_by(kind: u16, a: u8, b: u8, d: u8, x: u16, y: u16) -> Line
     ensures { λ r. ⌜ r ≡ lineBy kind a b d x y ⌝ }
 {
+    let n = count_of(x);
     match kind {
         number::SPORADIC => Line::Sporadic { a, b, t: tag_of(x) },
         number::RELATION => Line::Relation {
@@ -40,6 +49,7 @@ fn line_by(kind: u16, a: u8, b: u8, d: u8, x: u16, y: u16) -> Line
         number::DELAYED => Line::Delayed { a, b, d, by: x },
         number::WEAKLY => Line::Weakly { a, b },
         number::STRICTLY => Line::Strictly { a, b },
+        number::COUNTED => Line::Counted { a, b, d, n },
         _ => Line::Kills { a, b },
     }
 }
@@ -85,5 +95,6 @@ pub(crate) fn words_of_line(l: Line) -> LineWords
         Line::Weakly { a, b } => words_by(number::WEAKLY, a, b, 0, 0, 0),
         Line::Strictly { a, b } => words_by(number::STRICTLY, a, b, 0, 0, 0),
         Line::Kills { a, b } => words_by(number::KILLS, a, b, 0, 0, 0),
+        Line::Counted { a, b, d, n } => words_by(number::COUNTED, a, b, d, n as u16, 0),
     }
 }

@@ -75,6 +75,7 @@ fn no_plan() -> Plan
         relations: 0,
         rules: 0,
         delays: 0,
+        counted: 0,
         leaders: 0,
         precede,
         named,

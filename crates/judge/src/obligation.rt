@@ -1,4 +1,4 @@
-// Obligations: a clock that owes a tick where the on-clock's tag is the due.
+// Obligations: a clock that owes a tick where the on-clock's tag is the due. The due is held as a number, counted from the least tag.
 use crate::clock::tag_at;
 use crate::clock::ticks_at;
 use crate::clock::wide;
@@ -7,43 +7,37 @@ ghost use mathlib.Core.Bool.{not};
 ghost use lib.IntN.{pos, _+ℤ_};
 ghost use lib.Signed.{leZ};
 ghost use Rattle.tesl.specs.Run.{tagIn};
-ghost use Rattle.tesl.specs.Fits.{eqZ, meets};
-ghost use Rattle.tesl.specs.Remainder.{sameObligation};
+ghost use Rattle.tesl.specs.Fits.{meets};
 ghost use Rattle.work.specs.View.{filledOf};
-ghost use Rattle.judge.specs.View.{obligationOf};
+ghost use Rattle.judge.specs.Word.{dueOf};
+ghost use Rattle.judge.specs.View.{obligationOf, sameStored};
 
 pub struct Obligation {
+    // its clock
     pub clock: u8,
+    // the clock that it is on
     pub on: u8,
-    pub due: i32,
+    // in the set of obligations the due, counted from the least tag; in the set of countdowns the ticks of the on-clock still wanted
+    pub number: u32,
 }
 
-// A tag, or the t of a sporadic line, as a due: dues, −32,768 to 98,302, fit 32 bits.
-pub(crate) fn as_due(x: i16) -> i32
-    ensures { λ r. ⌜ r ≡ x ⌝ }
+// The tags below 0: the least is −32,768.
+const NEGATIVE_TAGS: i64 = 32768;
+
+// The number of the due of a delay that begins at a tag: the sum is formed in 64 bits, and fits 32.
+pub(crate) fn due_number(tag: i16, delay: u16) -> u32
+    ensures { λ r. ⌜ dueOf r ≡ tag +ℤ pos delay ⌝ }
 {
-    x as i32
+    let number = wide(tag) + (delay as i64) + NEGATIVE_TAGS;
+    number as u32
 }
 
-// The due of a delay that begins at a tag: the sum is formed in 64 bits, and fits 32.
-pub(crate) fn due_of(tag: i16, delay: u16) -> i32
-    ensures { λ r. ⌜ r ≡ tag +ℤ pos delay ⌝ }
-{
-    let due = wide(tag) + (delay as i64);
-    due as i32
-}
-
-fn same_due(a: i32, b: i32) -> bool
-    ensures { λ r. ⌜ r ≡ eqZ a b ⌝ }
-{
-    a == b
-}
-
+// The same as they are stored, whatever their numbers are read as.
 pub(crate) fn same_obligation(a: Obligation, b: Obligation) -> bool
-    ensures { λ r. ⌜ r ≡ sameObligation (obligationOf a) (obligationOf b) ⌝ }
+    ensures { λ r. ⌜ r ≡ sameStored a b ⌝ }
 {
     if a.clock == b.clock {
-        if same_due(a.due, b.due) {
+        if a.number == b.number {
             a.on == b.on
         } else {
             false
@@ -58,7 +52,7 @@ pub(crate) fn is_met(o: Obligation, ticks: [bool; 8], tags: [i16; 8]) -> bool
     ensures { λ r. ⌜ r ≡ meets (filledOf ticks tags) (obligationOf o) ⌝ }
 {
     if ticks_at(ticks, o.clock) {
-        same_due(as_due(tag_at(tags, o.on)), o.due)
+        due_number(tag_at(tags, o.on), 0) == o.number
     } else {
         false
     }
@@ -66,7 +60,7 @@ pub(crate) fn is_met(o: Obligation, ticks: [bool; 8], tags: [i16; 8]) -> bool
 
 // The on-tag has passed the due.
 pub(crate) fn is_late(o: Obligation, tags: [i16; 8]) -> bool
-    ensures { λ r. ⌜ r ≡ not (leZ (tagIn tags (o .on)) (o .due)) ⌝ }
+    ensures { λ r. ⌜ r ≡ not (leZ (tagIn tags (o .on)) (obligationOf o .due)) ⌝ }
 {
-    o.due < as_due(tag_at(tags, o.on))
+    o.number < due_number(tag_at(tags, o.on), 0)
 }

@@ -1,4 +1,4 @@
-// A sheet's lines in a lent array of words, a row to each, and what is found out about the sheet once. All lines stand in the sheet's order from row 0 on; its relations, its rules and its delay lines once more, from rows 16, 32 and 48 on.
+// A sheet's lines in a lent array of words, a row to each, and what is found out about the sheet once. All lines stand in the sheet's order from row 0 on; its relations, its rules, its delay lines and its counted lines once more, from rows 16, 32, 48 and 64 on.
 use crate::held::clocks_of;
 use crate::leads::precedes;
 use crate::line_words::LineWords;
@@ -10,30 +10,33 @@ use records::sheet::Sheet;
 ghost use mathlib.Core.Bool.{cond};
 ghost use mathlib.Core.Path.{_≡_};
 ghost use Prim.Native.Nat.{_+_, _<_};
-ghost use Rattle.work.specs.Parts.{isRelation, isRule, isDelay};
+ghost use Rattle.work.specs.Parts.{isRelation, isRule, isDelay, isCounted};
 ghost use Rattle.judge.specs.LineWords.{lineOfWords};
 ghost use Rattle.judge.specs.Plan.{planRows, planLine, LineRow, PutPlanLine, PutPart, Preparing, PlanOf};
 
-// Words of a row, six of them used; rows; words in all.
-pub(crate) const LINE_WIDTH: usize = 8;
+// Words of a row; rows; words in all.
+pub(crate) const LINE_WIDTH: usize = 6;
 
-const PLAN_ROWS: usize = 64;
+const PLAN_ROWS: usize = 80;
 
 pub(crate) const NUMBERS: usize = LINE_WIDTH * PLAN_ROWS;
 
-// The rows where relations, rules and delay lines begin.
+// The rows where relations, rules, delay lines and counted lines begin.
 pub(crate) const RELATIONS: usize = 16;
 
 pub(crate) const RULES: usize = 32;
 
 pub(crate) const DELAYS: usize = 48;
 
-// Its clocks; how many relations, rules and delay lines there are; where the last precedes line stands, and which lines are precedes lines; the clocks whose ticks lines ask about.
+pub(crate) const COUNTED: usize = 64;
+
+// Its clocks; how many relations, rules, delay lines and counted lines there are; where the last precedes line stands, and which lines are precedes lines; the clocks whose ticks lines ask about.
 pub struct Plan {
     pub clocks: usize,
     pub relations: usize,
     pub rules: usize,
     pub delays: usize,
+    pub counted: usize,
     pub leaders: usize,
     pub precede: [bool; 16],
     pub named: [bool; 8],
@@ -51,6 +54,7 @@ fn is_relation(l: Line) -> bool
         Line::Weakly { .. } => false,
         Line::Strictly { .. } => false,
         Line::Kills { .. } => false,
+        Line::Counted { .. } => false,
     }
 }
 
@@ -67,6 +71,7 @@ fn is_rule(l: Line) -> bool
         Line::Delayed { .. } => false,
         Line::Weakly { .. } => false,
         Line::Strictly { .. } => false,
+        Line::Counted { .. } => false,
     }
 }
 
@@ -79,6 +84,23 @@ fn is_delay(l: Line) -> bool
         Line::Relation { .. } => false,
         Line::Implies { .. } => false,
         Line::Excludes { .. } => false,
+        Line::Weakly { .. } => false,
+        Line::Strictly { .. } => false,
+        Line::Kills { .. } => false,
+        Line::Counted { .. } => false,
+    }
+}
+
+fn is_counted(l: Line) -> bool
+    ensures { λ r. ⌜ r ≡ isCounted l ⌝ }
+{
+    match l {
+        Line::Counted { .. } => true,
+        Line::Sporadic { .. } => false,
+        Line::Relation { .. } => false,
+        Line::Implies { .. } => false,
+        Line::Excludes { .. } => false,
+        Line::Delayed { .. } => false,
         Line::Weakly { .. } => false,
         Line::Strictly { .. } => false,
         Line::Kills { .. } => false,
@@ -151,6 +173,7 @@ pub(crate) fn plan_of(s: Sheet, lines: &mut [u32; NUMBERS]) -> Plan
     let mut relations = 0;
     let mut rules = 0;
     let mut delays = 0;
+    let mut counted = 0;
     let mut leaders = 0;
     let mut precede = [false; 16];
     let mut named = [false; 8];
@@ -163,6 +186,7 @@ pub(crate) fn plan_of(s: Sheet, lines: &mut [u32; NUMBERS]) -> Plan
         relations = put_part(lines, RELATIONS, relations, is_relation(l), w);
         rules = put_part(lines, RULES, rules, is_rule(l), w);
         delays = put_part(lines, DELAYS, delays, is_delay(l), w);
+        counted = put_part(lines, COUNTED, counted, is_counted(l), w);
         let leads = precedes(l);
         precede[i] = leads;
         leaders = leaders_with(leaders, i, leads);
@@ -175,6 +199,7 @@ pub(crate) fn plan_of(s: Sheet, lines: &mut [u32; NUMBERS]) -> Plan
         relations,
         rules,
         delays,
+        counted,
         leaders,
         precede,
         named,

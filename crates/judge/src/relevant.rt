@@ -1,16 +1,17 @@
-// The clocks whose unseen ticks an instant's work asks about: those that a line or an obligation held names.
+// The clocks whose unseen ticks an instant's work asks about: those that a line, an obligation held or a countdown held names.
 use crate::clock::stop;
-use crate::rows::CLOCKS;
+use crate::obligation::Obligation;
+use crate::rows::OBLIGATIONS;
+use crate::rows::PARTS;
 use crate::rows::SIZE;
+use crate::rows::obligation_at;
 use crate::rows::row_count;
-use crate::rows::word_at;
-use crate::word::byte_in;
 use records::line::Line;
 ghost use mathlib.Core.Path.{_≡_};
 ghost use mathlib.Core.List.{_∷_, []};
 ghost use Prim.Native.Nat.{_+_, _≤_, _<_};
 ghost use Rattle.work.specs.Relevant.{namedBy, flagged};
-ghost use Rattle.judge.specs.Rows.{height, rowCount, FewOwed, rowClocks, rowsClocks};
+ghost use Rattle.judge.specs.Rows.{height, parts, rowCount, FewInRow, FewOwed, clocksAsked, partClocks, rowClocks, rowsClocks};
 
 fn flag_both(flags: [bool; 8], a: u8, b: u8) -> [bool; 8]
     ensures { λ r. ⌜ r ≡ flagged (a ∷ b ∷ []) flags ⌝ }
@@ -35,28 +36,60 @@ pub(crate) fn flag_line(l: Line, flags: [bool; 8]) -> [bool; 8]
             d: _,
             by: _,
         } => stop(flags, a),
+        Line::Counted {
+            a,
+            b: _,
+            d: _,
+            n: _,
+        } => stop(flags, a),
         Line::Sporadic { .. } => flags,
         Line::Relation { .. } => flags,
     }
 }
 
-// The flags of the clocks that row i owes a tick of.
-fn flag_row(rows: &[u32; SIZE], i: usize, flags: [bool; 8]) -> [bool; 8]
-    requires { ⌜ (i < height) × (rowCount (now rows) i ≤ 8) ⌝ }
-    ensures { λ r. ⌜ r ≡ flagged (rowClocks (now (rows .entry)) i) flags ⌝ }
+// The flags of the clocks whose ticks one in the set of a part asks about: its own, and of a countdown the on-clock too.
+fn flag_stored(part: usize, o: Obligation, flags: [bool; 8]) -> [bool; 8]
+    ensures { λ r. ⌜ r ≡ flagged (clocksAsked part o) flags ⌝ }
 {
-    let n = row_count(rows, i);
+    if part == OBLIGATIONS {
+        stop(flags, o.clock)
+    } else {
+        flag_both(flags, o.clock, o.on)
+    }
+}
+
+// The flags of those that the set of a part of row i asks about.
+fn flag_part(rows: &[u32; SIZE], i: usize, part: usize, flags: [bool; 8]) -> [bool; 8]
+    requires { ⌜ (i < height) × ((part < parts) × (rowCount (now rows) i part ≤ 8)) ⌝ }
+    ensures { λ r. ⌜ r ≡ flagged (partClocks (now (rows .entry)) i part) flags ⌝ }
+{
+    let n = row_count(rows, i, part);
     let mut after = flags;
     let mut j = 0;
     while j < n {
-        let next = stop(after, byte_in(word_at(rows, i, CLOCKS + j)));
+        let next = flag_stored(part, obligation_at(rows, i, part, j), after);
         after = next;
         j += 1;
     }
     after
 }
 
-// The flags of the clocks that n rows from row `from` on owe a tick of, besides others.
+// Of both sets of row i.
+fn flag_row(rows: &[u32; SIZE], i: usize, flags: [bool; 8]) -> [bool; 8]
+    requires { ⌜ (i < height) × FewInRow (now rows) i ⌝ }
+    ensures { λ r. ⌜ r ≡ flagged (rowClocks (now (rows .entry)) i) flags ⌝ }
+{
+    let mut after = flags;
+    let mut part = 0;
+    while part < PARTS {
+        let next = flag_part(rows, i, part, after);
+        after = next;
+        part += 1;
+    }
+    after
+}
+
+// Of n rows from row `from` on, besides others.
 pub(crate) fn flag_rows(rows: &[u32; SIZE], from: usize, n: usize, flags: [bool; 8]) -> [bool; 8]
     requires { ⌜ (from + n ≤ height) × FewOwed (now rows) from n ⌝ }
     ensures { λ r. ⌜ r ≡ flagged (rowsClocks (now (rows .entry)) from n) flags ⌝ }

@@ -1,15 +1,16 @@
 // A monitor in a lent array of words: six rows are its head; then its remainders, a row each, both those held and those found.
 use crate::obligation::Obligation;
+use crate::obligation::same_obligation;
 use crate::word::byte_in;
-use crate::word::byte_word;
+use crate::word::bytes_word;
 use crate::word::count_in;
-use crate::word::due_in;
-use crate::word::due_word;
+use crate::word::next_byte_in;
 ghost use mathlib.Core.Path.{_≡_};
 ghost use Prim.Native.Nat.{_+_, _*_, _<_, _≤_};
 ghost use lib.ListN.{length, set};
-ghost use Rattle.judge.specs.View.{obligationOf};
-ghost use Rattle.judge.specs.Rows.{height, width, words, word, rowCount, rowObligation, ClearedWords, PutObligation, ObligationsAt};
+ghost use Rattle.tesl.specs.Lists.{any};
+ghost use Rattle.judge.specs.View.{sameStored};
+ghost use Rattle.judge.specs.Rows.{height, width, words, parts, word, rowCount, rowObligation, rowSet, ClearedWords, PutObligation, ObligationsAt};
 
 // All words, and those of a row.
 pub(crate) const SIZE: usize = 4608;
@@ -25,18 +26,24 @@ pub(crate) const SIDE: usize = 33;
 // The first rows of the two sides, 6 and 39, together.
 pub(crate) const SIDES: usize = 45;
 
-// Where a row's parts begin: its count of obligations, their clocks, their on-clocks and their dues; the leads; the stopped clocks.
-pub(crate) const COUNT: usize = 0;
+// The sets of a row, and which is which; a set takes a part of so many words.
+pub(crate) const PARTS: usize = 2;
 
-pub(crate) const CLOCKS: usize = 1;
+pub(crate) const OBLIGATIONS: usize = 0;
 
-pub(crate) const ON_CLOCKS: usize = 9;
+pub(crate) const COUNTDOWNS: usize = 1;
 
-pub(crate) const DUES: usize = 17;
+pub(crate) const PART_WORDS: usize = 17;
 
-pub(crate) const LEADS: usize = 25;
+// In a part, behind its count: where the clocks with their on-clocks begin, and the numbers.
+pub(crate) const PART_CLOCKS: usize = 1;
 
-pub(crate) const STOPPED: usize = 41;
+pub(crate) const PART_NUMBERS: usize = 9;
+
+// Behind the parts: where the leads begin, and the stopped clocks.
+pub(crate) const LEADS: usize = 34;
+
+pub(crate) const STOPPED: usize = 50;
 
 // Word p of row i.
 pub(crate) fn word_at(rows: &[u32; SIZE], i: usize, p: usize) -> u32
@@ -65,54 +72,75 @@ pub(crate) fn clear_words(rows: &mut [u32; SIZE], k: usize, end: usize)
     }
 }
 
-// How many obligations row i has.
-pub(crate) fn row_count(rows: &[u32; SIZE], i: usize) -> usize
-    requires { ⌜ i < height ⌝ }
-    ensures { λ r. ⌜ r ≡ rowCount (now (rows .entry)) i ⌝ }
+// How many there are in a part of row i.
+pub(crate) fn row_count(rows: &[u32; SIZE], i: usize, part: usize) -> usize
+    requires { ⌜ (i < height) × (part < parts) ⌝ }
+    ensures { λ r. ⌜ r ≡ rowCount (now (rows .entry)) i part ⌝ }
 {
-    count_in(word_at(rows, i, COUNT))
+    count_in(word_at(rows, i, PART_WORDS * part))
 }
 
-// Obligation j of row i.
-pub(crate) fn obligation_at(rows: &[u32; SIZE], i: usize, j: usize) -> Obligation
-    requires { ⌜ (i < height) × (j < 8) ⌝ }
-    ensures { λ r. ⌜ obligationOf r ≡ rowObligation (now (rows .entry)) i j ⌝ }
+// Place j of a part of row i.
+pub(crate) fn obligation_at(rows: &[u32; SIZE], i: usize, part: usize, j: usize) -> Obligation
+    requires { ⌜ (i < height) × ((part < parts) × (j < 8)) ⌝ }
+    ensures { λ r. ⌜ r ≡ rowObligation (now (rows .entry)) i part j ⌝ }
 {
-    let clock = byte_in(word_at(rows, i, CLOCKS + j));
-    let on = byte_in(word_at(rows, i, ON_CLOCKS + j));
-    let due = due_in(word_at(rows, i, DUES + j));
-    Obligation { clock, on, due }
+    let clocks = word_at(rows, i, PART_WORDS * part + PART_CLOCKS + j);
+    let number = word_at(rows, i, PART_WORDS * part + PART_NUMBERS + j);
+    let clock = byte_in(clocks);
+    let on = next_byte_in(clocks);
+    Obligation { clock, on, number }
 }
 
-// Stores an obligation in place j of row i.
-pub(crate) fn put_obligation(rows: &mut [u32; SIZE], i: usize, j: usize, o: Obligation)
-    requires { ⌜ (length (now rows) ≡ words) × ((i < height) × (j < 8)) ⌝ }
-    ensures { λ _. ⌜ PutObligation i j (obligationOf o) (now (rows .entry)) (now (rows .exit)) ⌝ }
+// Stores an obligation in place j of a part of row i.
+pub(crate) fn put_obligation(rows: &mut [u32; SIZE], i: usize, part: usize, j: usize, o: Obligation)
+    requires { ⌜ (length (now rows) ≡ words) × ((i < height) × ((part < parts) × (j < 8))) ⌝ }
+    ensures { λ _. ⌜ PutObligation i part j o (now (rows .entry)) (now (rows .exit)) ⌝ }
 {
     let clock = o.clock;
     let on = o.on;
-    let due = o.due;
-    put_word(rows, i, CLOCKS + j, byte_word(clock));
-    put_word(rows, i, ON_CLOCKS + j, byte_word(on));
-    put_word(rows, i, DUES + j, due_word(due));
+    let number = o.number;
+    put_word(
+        rows,
+        i,
+        PART_WORDS * part + PART_CLOCKS + j,
+        bytes_word(clock, on),
+    );
+    put_word(rows, i, PART_WORDS * part + PART_NUMBERS + j, number);
 }
 
-// The first n obligations of row i, at the front of eight places; blank ones past them.
-pub(crate) fn obligations_at(rows: &[u32; SIZE], i: usize, n: usize) -> [Obligation; 8]
-    requires { ⌜ (i < height) × (n ≤ 8) ⌝ }
-    ensures { λ r. ⌜ ObligationsAt i n r (now (rows .entry)) ⌝ }
+// The first n of a part of row i, at the front of eight places; blank ones past them.
+pub(crate) fn obligations_at(rows: &[u32; SIZE], i: usize, part: usize, n: usize) -> [Obligation; 8]
+    requires { ⌜ (i < height) × ((part < parts) × (n ≤ 8)) ⌝ }
+    ensures { λ r. ⌜ ObligationsAt i part n r (now (rows .entry)) ⌝ }
 {
     let none = Obligation {
         clock: 0,
         on: 0,
-        due: 0,
+        number: 0,
     };
     let mut all = [none; 8];
     let mut j = 0;
     while j < n {
-        let o = obligation_at(rows, i, j);
+        let o = obligation_at(rows, i, part, j);
         all[j] = o;
         j += 1;
     }
     all
+}
+
+// A part of row i has o.
+pub(crate) fn row_owes(rows: &[u32; SIZE], i: usize, part: usize, o: Obligation) -> bool
+    requires { ⌜ (i < height) × ((part < parts) × (rowCount (now rows) i part ≤ 8)) ⌝ }
+    ensures { λ r. ⌜ r ≡ any (sameStored o) (rowSet (now (rows .entry)) i part) ⌝ }
+{
+    let n = row_count(rows, i, part);
+    let mut j = 0;
+    while j < n {
+        if same_obligation(o, obligation_at(rows, i, part, j)) {
+            return true;
+        }
+        j += 1;
+    }
+    false
 }

@@ -1,8 +1,14 @@
 // The limits of remainders in rows, refusal 11, tested where they stand.
 use crate::held::Status;
+use crate::limits::LEAST_DUE;
+use crate::limits::LEAST_WANTED;
+use crate::limits::MOST_DUE;
+use crate::limits::MOST_WANTED;
 use crate::limits::obligation_within;
 use crate::plan::Plan;
+use crate::rows::COUNTDOWNS;
 use crate::rows::LEADS;
+use crate::rows::OBLIGATIONS;
 use crate::rows::SIZE;
 use crate::rows::obligation_at;
 use crate::rows::row_count;
@@ -14,18 +20,27 @@ ghost use mathlib.Core.Bool.{not, _||_};
 ghost use Prim.Native.Nat.{_≤_, _<_};
 ghost use lib.Dec.{leb};
 ghost use Rattle.tesl.specs.Lists.{below};
-ghost use Rattle.judge.specs.Rows.{height};
-ghost use Rattle.judge.specs.RowsLimits.{owedFits, leadFits, Testing, TestingAll, RowWithin, EachRowWithin, RowsWithin};
+ghost use Rattle.judge.specs.Limits.{setWithin};
+ghost use Rattle.judge.specs.Rows.{height, parts, rowCount, rowSet};
+ghost use Rattle.judge.specs.RowsLimits.{placeFits, leadFits, Testing, TestingAll, RowWithin, EachRowWithin, RowsWithin};
 
-// The first n obligations of row i.
-fn row_owed_within(rows: &[u32; SIZE], i: usize, n: usize, clocks: u8) -> bool
-    requires { ⌜ (i < height) × (n ≤ 8) ⌝ }
-    ensures { λ r. ⌜ r ≡ below n (owedFits clocks (now (rows .entry)) i) ⌝ }
+// The first n of a part of row i.
+fn row_owed_within(
+    rows: &[u32; SIZE],
+    i: usize,
+    part: usize,
+    n: usize,
+    clocks: u8,
+    least: u32,
+    most: u32,
+) -> bool
+    requires { ⌜ (i < height) × ((part < parts) × (n ≤ 8)) ⌝ }
+    ensures { λ r. ⌜ r ≡ below n (placeFits clocks least most (now (rows .entry)) i part) ⌝ }
 {
     let mut j = 0;
     while j < n {
-        let o = obligation_at(rows, i, j);
-        if obligation_within(clocks, o) {
+        let o = obligation_at(rows, i, part, j);
+        if obligation_within(clocks, least, most, o) {
             j += 1;
         } else {
             return false;
@@ -68,23 +83,40 @@ fn row_leads_within(
     true
 }
 
-// Row i; its obligations are read only if there are at most eight.
+// The set of a part of row i; its places are read only if there are at most eight.
+fn row_set_within(
+    rows: &[u32; SIZE],
+    i: usize,
+    part: usize,
+    clocks: u8,
+    least: u32,
+    most: u32,
+) -> bool
+    requires { ⌜ (i < height) × (part < parts) ⌝ }
+    ensures { λ r. ⌜ r ≡ setWithin clocks least most (rowCount (now (rows .entry)) i part) (rowSet (now (rows .entry)) i part) ⌝ }
+{
+    let n = row_count(rows, i, part);
+    if number::MAX_OWED < n {
+        return false;
+    }
+    row_owed_within(rows, i, part, n, clocks, least, most)
+}
+
+// Row i: its sets and its leads.
 fn row_within(rows: &[u32; SIZE], i: usize, plan: Plan, instants: usize) -> bool
     requires { ⌜ Testing i plan ⌝ }
     ensures { λ r. ⌜ RowWithin plan instants (now (rows .entry)) i r ⌝ }
 {
-    let n = row_count(rows, i);
-    if number::MAX_OWED < n {
+    let clocks = plan.clocks as u8;
+    if !row_set_within(rows, i, OBLIGATIONS, clocks, LEAST_DUE, MOST_DUE) {
         return false;
     }
-    let clocks = plan.clocks as u8;
-    if row_owed_within(rows, i, n, clocks) {
-        let leaders = plan.leaders;
-        let precede = plan.precede;
-        row_leads_within(rows, i, leaders, precede, instants)
-    } else {
-        false
+    if !row_set_within(rows, i, COUNTDOWNS, clocks, LEAST_WANTED, MOST_WANTED) {
+        return false;
     }
+    let leaders = plan.leaders;
+    let precede = plan.precede;
+    row_leads_within(rows, i, leaders, precede, instants)
 }
 
 // Each of n rows from row `from` on.

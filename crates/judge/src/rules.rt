@@ -66,6 +66,7 @@ fn holds(r: Rule, ticks: [bool; 8]) -> bool
         number::DELAYED => true,
         number::WEAKLY => true,
         number::STRICTLY => true,
+        number::COUNTED => true,
         _ => not_both(ticks_at(ticks, r.b), ticks_at(ticks, r.a)),
     }
 }
@@ -107,6 +108,7 @@ fn is_settled(r: Rule, k: usize) -> bool
         number::DELAYED => false,
         number::WEAKLY => false,
         number::STRICTLY => false,
+        number::COUNTED => false,
         number::IMPLIES => both_below(r.a, r.b, k),
         number::EXCLUDES => both_below(r.a, r.b, k),
         _ => both_below(r.a, r.b, k),

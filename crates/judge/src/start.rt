@@ -2,29 +2,31 @@
 use crate::advance::add_row;
 use crate::line::NewObligation;
 use crate::obligation::Obligation;
-use crate::obligation::as_due;
+use crate::obligation::due_number;
 use crate::rows::HEAD;
+use crate::rows::OBLIGATIONS;
 use crate::rows::SIZE;
 use records::line::Line;
 use records::sheet::Sheet;
 use records::sheet::line_at;
 ghost use mathlib.Core.Path.{_≡_};
+ghost use mathlib.Core.List.{map};
 ghost use Rattle.records.specs.Sheet.{sheetValue};
 ghost use Rattle.tesl.specs.Lists.{flatMap};
 ghost use Rattle.tesl.specs.Fits.{owedAtStart};
-ghost use Rattle.judge.specs.View.{newObligation};
-ghost use Rattle.judge.specs.Rows.{headRows, Row, BegunRow};
-ghost use Rattle.judge.specs.Start.{BlankRow, BegunRows};
+ghost use Rattle.judge.specs.View.{obligationOf, newObligation};
+ghost use Rattle.judge.specs.Rows.{headRows, Row};
+ghost use Rattle.judge.specs.Start.{BlankRow, StartedRow, BegunRows};
 
 // The obligation that a line is from the start.
 fn owed_at_start(l: Line) -> NewObligation
-    ensures { λ r. ⌜ newObligation r ≡ owedAtStart l ⌝ }
+    ensures { λ r. ⌜ map obligationOf (newObligation r) ≡ owedAtStart l ⌝ }
 {
     match l {
         Line::Sporadic { a, b, t } => NewObligation::Owed(Obligation {
             clock: a,
             on: b,
-            due: as_due(t),
+            number: due_number(t, 0),
         }),
         Line::Relation { .. } => NewObligation::Nothing,
         Line::Implies { .. } => NewObligation::Nothing,
@@ -33,13 +35,14 @@ fn owed_at_start(l: Line) -> NewObligation
         Line::Weakly { .. } => NewObligation::Nothing,
         Line::Strictly { .. } => NewObligation::Nothing,
         Line::Kills { .. } => NewObligation::Nothing,
+        Line::Counted { .. } => NewObligation::Nothing,
     }
 }
 
 // Row i with what each line owes from the start. False: one had no room.
 fn start_row(rows: &mut [u32; SIZE], i: usize, s: Sheet) -> bool
-    requires { ⌜ Row (now rows) i ⌝ }
-    ensures { λ r. ⌜ BegunRow i (flatMap owedAtStart (sheetValue s .lines)) r (now (rows .entry)) (now (rows .exit)) ⌝ }
+    requires { ⌜ Row (now rows) i 0 ⌝ }
+    ensures { λ r. ⌜ StartedRow i (flatMap owedAtStart (sheetValue s .lines)) r (now (rows .entry)) (now (rows .exit)) ⌝ }
 {
     let n = s.count;
     let mut j = 0;
@@ -51,7 +54,7 @@ fn start_row(rows: &mut [u32; SIZE], i: usize, s: Sheet) -> bool
                 continue;
             }
             NewObligation::Owed(o) => {
-                if !add_row(rows, i, o) {
+                if !add_row(rows, i, OBLIGATIONS, o) {
                     return false;
                 }
             }

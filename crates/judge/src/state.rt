@@ -28,7 +28,7 @@ ghost use Rattle.judge.specs.Rows.{words};
 ghost use Rattle.judge.specs.State.{stateWords, clocksBy, stateSlot, stateSheet, countBy, stateTag, stateProgress, hasFormat, isKind, kindsBelow, hasKinds, isSide, isCase, isState, PutFormat, FewIn, PutCount, PutLastTags, PuttingProgress, PutProgress, PutWords, noWords, SlotWords, PutLines, PutSheet};
 
 // The format and its version.
-pub(crate) const FORMAT: u32 = 1279655937;
+pub(crate) const FORMAT: u32 = 1279655938;
 
 // The answer's case: exhausted, or any other.
 const EXHAUSTED: u32 = 1;
@@ -42,10 +42,10 @@ const NUMBERS_ROW: usize = 2;
 
 const PLACES: usize = 16;
 
-// Kinds of lines, from sporadic to kills.
+// Kinds of lines, from sporadic to counted.
 const FIRST_KIND: u32 = 16;
 
-const LAST_KIND: u32 = 23;
+const LAST_KIND: u32 = 24;
 
 // The words of row 0, the top: the format, the clocks and the lines of the sheet, the instants, the first row of the side in use, the answer's case, live, and the last tags of eight clocks.
 const TOP: usize = 0;

@@ -7,9 +7,11 @@ use crate::plan::Plan;
 use crate::progress::Progress;
 use crate::remainder::Remainder;
 use crate::remainder::blank_remainder;
-use crate::rows::COUNT;
+use crate::rows::COUNTDOWNS;
 use crate::rows::HEAD;
 use crate::rows::LEADS;
+use crate::rows::OBLIGATIONS;
+use crate::rows::PART_WORDS;
 use crate::rows::SIZE;
 use crate::rows::STOPPED;
 use crate::rows::obligations_at;
@@ -26,23 +28,31 @@ use records::sheet::Sheet;
 ghost use mathlib.Core.Path.{_≡_};
 ghost use mathlib.Core.Bool.{cond};
 ghost use Prim.Native.Nat.{_%_, _<_, _≤_};
-ghost use Rattle.judge.specs.View.{firstOf};
+ghost use lib.Dec.{T};
+ghost use lib.ListN.{take};
+ghost use Rattle.judge.specs.View.{fewOwed};
 ghost use Rattle.judge.specs.Stored.{Place, PutObligations, PutLeads, PutStopped, PutRemainder, LeadsAt, StoppedAt, Reading, RemainderAt, Storing, ToRows, StoringHeld, StoredHeld, Copying, CopiedRows, FindingRows, FromRows};
-ghost use Rattle.judge.specs.Rows.{height};
+ghost use Rattle.judge.specs.Rows.{height, parts};
 ghost use Rattle.judge.specs.Progress.{ReadBack};
 
-// Stores the first n obligations in row i.
-fn put_obligations(rows: &mut [u32; SIZE], i: usize, n: usize, obligations: [Obligation; 8])
-    requires { ⌜ Place (now rows) i × (n ≤ 8) ⌝ }
-    ensures { λ _. ⌜ PutObligations i n (firstOf n obligations) (now (rows .entry)) (now (rows .exit)) ⌝ }
+// Stores the first n in a part of row i.
+fn put_obligations(
+    rows: &mut [u32; SIZE],
+    i: usize,
+    part: usize,
+    n: usize,
+    obligations: [Obligation; 8],
+)
+    requires { ⌜ Place (now rows) i × ((part < parts) × (n ≤ 8)) ⌝ }
+    ensures { λ _. ⌜ PutObligations i part n (take n obligations) (now (rows .entry)) (now (rows .exit)) ⌝ }
 {
     let mut j = 0;
     while j < n {
         let o = obligations[j];
-        put_obligation(rows, i, j, o);
+        put_obligation(rows, i, part, j, o);
         j += 1;
     }
-    put_word(rows, i, COUNT, count_word(n));
+    put_word(rows, i, PART_WORDS * part, count_word(n));
 }
 
 fn put_leads(rows: &mut [u32; SIZE], i: usize, leads: [u16; 16])
@@ -69,12 +79,15 @@ fn put_stopped(rows: &mut [u32; SIZE], i: usize, stopped: [bool; 8])
 
 // Stores a remainder in row i.
 fn put_remainder(rows: &mut [u32; SIZE], i: usize, r: Remainder)
-    requires { ⌜ Place (now rows) i × (r .owed ≤ 8) ⌝ }
+    requires { ⌜ Place (now rows) i × T (fewOwed r) ⌝ }
     ensures { λ _. ⌜ PutRemainder i r (now (rows .entry)) (now (rows .exit)) ⌝ }
 {
     let owed = r.owed;
     let obligations = r.obligations;
-    put_obligations(rows, i, owed, obligations);
+    put_obligations(rows, i, OBLIGATIONS, owed, obligations);
+    let counting = r.counting;
+    let countdowns = r.countdowns;
+    put_obligations(rows, i, COUNTDOWNS, counting, countdowns);
     let leads = r.leads;
     put_leads(rows, i, leads);
     let stopped = r.stopped;
@@ -123,8 +136,10 @@ fn remainder_at(rows: &[u32; SIZE], i: usize, plan: Plan) -> Remainder
     requires { ⌜ Reading (now rows) i plan ⌝ }
     ensures { λ r. ⌜ RemainderAt plan i r (now (rows .entry)) ⌝ }
 {
-    let owed = row_count(rows, i);
-    let obligations = obligations_at(rows, i, owed);
+    let owed = row_count(rows, i, OBLIGATIONS);
+    let obligations = obligations_at(rows, i, OBLIGATIONS, owed);
+    let counting = row_count(rows, i, COUNTDOWNS);
+    let countdowns = obligations_at(rows, i, COUNTDOWNS, counting);
     let leaders = plan.leaders;
     let precede = plan.precede;
     let leads = leads_at(rows, i, leaders, precede);
@@ -133,6 +148,8 @@ fn remainder_at(rows: &[u32; SIZE], i: usize, plan: Plan) -> Remainder
     Remainder {
         owed,
         obligations,
+        counting,
+        countdowns,
         leads,
         stopped,
     }

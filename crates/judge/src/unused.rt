@@ -2,10 +2,11 @@
 use crate::held::Status;
 use crate::held::live_in;
 use crate::plan::Plan;
-use crate::rows::CLOCKS;
-use crate::rows::DUES;
 use crate::rows::LEADS;
-use crate::rows::ON_CLOCKS;
+use crate::rows::PART_CLOCKS;
+use crate::rows::PART_NUMBERS;
+use crate::rows::PART_WORDS;
+use crate::rows::PARTS;
 use crate::rows::SIDE;
 use crate::rows::SIDES;
 use crate::rows::SIZE;
@@ -15,9 +16,9 @@ use crate::rows::clear_words;
 use crate::rows::put_word;
 use crate::rows::row_count;
 ghost use Prim.Native.Nat.{_+_, _<_, _≤_};
-ghost use Rattle.judge.specs.Rows.{height, width};
+ghost use Rattle.judge.specs.Rows.{height, width, parts, FewInRow};
 ghost use Rattle.judge.specs.Stored.{Reading, Copying, FindingRows};
-ghost use Rattle.judge.specs.Cleared.{ClearedPart, ClearedRows, ClearedOwed, ClearedLeads, ClearedUnused, ClearedEach, Holding, ClearedBeside, ClearedFound, Tidying, Tidied};
+ghost use Rattle.judge.specs.Cleared.{ClearedPart, ClearedRows, ClearedOwed, ClearedSets, ClearedLeads, ClearedUnused, ClearedEach, Holding, ClearedBeside, ClearedFound, Tidying, Tidied};
 
 // Clears the words lo to hi - 1 of row i.
 fn clear_part(rows: &mut [u32; SIZE], i: usize, lo: usize, hi: usize)
@@ -35,14 +36,27 @@ pub(crate) fn clear_rows(rows: &mut [u32; SIZE], first: usize, n: usize)
     clear_words(rows, WIDTH * first, WIDTH * (first + n));
 }
 
-// Clears the places of row i past its n obligations.
-fn clear_owed(rows: &mut [u32; SIZE], i: usize, n: usize)
-    requires { ⌜ (i < height) × (n ≤ 8) ⌝ }
-    ensures { λ _. ⌜ ClearedOwed i n (now (rows .entry)) (now (rows .exit)) ⌝ }
+// Clears the places of a part of row i past its first n.
+fn clear_owed(rows: &mut [u32; SIZE], i: usize, part: usize, n: usize)
+    requires { ⌜ (i < height) × ((part < parts) × (n ≤ 8)) ⌝ }
+    ensures { λ _. ⌜ ClearedOwed i part n (now (rows .entry)) (now (rows .exit)) ⌝ }
 {
-    clear_part(rows, i, CLOCKS + n, ON_CLOCKS);
-    clear_part(rows, i, ON_CLOCKS + n, DUES);
-    clear_part(rows, i, DUES + n, LEADS);
+    let at = PART_WORDS * part;
+    clear_part(rows, i, at + PART_CLOCKS + n, at + PART_NUMBERS);
+    clear_part(rows, i, at + PART_NUMBERS + n, at + PART_WORDS);
+}
+
+// Clears the places of row i past the counts of its sets.
+fn clear_sets(rows: &mut [u32; SIZE], i: usize)
+    requires { ⌜ (i < height) × FewInRow (now rows) i ⌝ }
+    ensures { λ _. ⌜ ClearedSets i (now (rows .entry)) (now (rows .exit)) ⌝ }
+{
+    let mut part = 0;
+    while part < PARTS {
+        let n = row_count(rows, i, part);
+        clear_owed(rows, i, part, n);
+        part += 1;
+    }
 }
 
 // Clears the leads of row i but those of precedes lines: before `leaders`, where there is a flag.
@@ -67,8 +81,7 @@ fn clear_unused(rows: &mut [u32; SIZE], i: usize, plan: Plan)
     requires { ⌜ Reading (now rows) i plan ⌝ }
     ensures { λ _. ⌜ ClearedUnused plan i (now (rows .entry)) (now (rows .exit)) ⌝ }
 {
-    let n = row_count(rows, i);
-    clear_owed(rows, i, n);
+    clear_sets(rows, i);
     let leaders = plan.leaders;
     let precede = plan.precede;
     clear_leads(rows, i, leaders, precede);

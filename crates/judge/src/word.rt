@@ -1,7 +1,7 @@
 // Words of 32 bits: what is stored in one and read back. Every word reads as something.
 ghost use mathlib.Core.Path.{_≡_};
-ghost use Prim.Native.Nat.{_%_, _≤_};
-ghost use Rattle.judge.specs.Word.{dueOf, flagOf};
+ghost use Prim.Native.Nat.{_/_, _%_, _≤_};
+ghost use Rattle.judge.specs.Word.{flagOf};
 
 pub(crate) fn count_in(w: u32) -> usize
     ensures { λ r. ⌜ r ≡ w ⌝ }
@@ -22,31 +22,18 @@ pub(crate) fn byte_in(w: u32) -> u8
     (w % 256) as u8
 }
 
-pub(crate) fn byte_word(x: u8) -> u32
-    ensures { λ r. ⌜ r % 256 ≡ x ⌝ }
+// The byte beside it.
+pub(crate) fn next_byte_in(w: u32) -> u8
+    ensures { λ r. ⌜ r ≡ w / 256 % 256 ⌝ }
 {
-    x as u32
+    (w / 256 % 256) as u8
 }
 
-// The due of a word, in two's complement.
-pub(crate) fn due_in(w: u32) -> i32
-    ensures { λ r. ⌜ r ≡ dueOf w ⌝ }
+// Two bytes together.
+pub(crate) fn bytes_word(x: u8, y: u8) -> u32
+    ensures { λ r. ⌜ (r % 256 ≡ x) × (r / 256 % 256 ≡ y) ⌝ }
 {
-    if w < 2147483648 {
-        w as i32
-    } else {
-        -1 - ((4294967295 - w) as i32)
-    }
-}
-
-pub(crate) fn due_word(due: i32) -> u32
-    ensures { λ r. ⌜ dueOf r ≡ due ⌝ }
-{
-    if due < 0 {
-        4294967295 - ((-1 - due) as u32)
-    } else {
-        due as u32
-    }
+    (x as u32) + 256 * (y as u32)
 }
 
 pub(crate) fn number_in(w: u32) -> u16

@@ -24,14 +24,24 @@ const KIND_IN_LINE: usize = 2;
 
 const DELAY_IN_LINE: usize = 7;
 
-// Dues at both ends, 98,302 and -32,768, and beyond them, in 32 bits of two's complement.
-const DUE_HIGHEST: u32 = 98302;
+// The format of the version before countdowns, 0x4C460001, and a kind that no line has.
+const OLD_FORMAT: u32 = 1279655937;
 
-const DUE_TOO_HIGH: u32 = 98303;
+const NO_KIND: u32 = 25;
 
-const DUE_LOWEST: u32 = 4294934528;
+// Dues at both ends, 98,302 and -32,768, and beyond them: counted from the least tag, in 32 bits of two's complement.
+const DUE_HIGHEST: u32 = 131070;
 
-const DUE_TOO_LOW: u32 = 4294934527;
+const DUE_TOO_HIGH: u32 = 131071;
+
+const DUE_LOWEST: u32 = 0;
+
+const DUE_TOO_LOW: u32 = 4294967295;
+
+// A clock with its on-clock: 2 on 0, and 1 on 2.
+pub const OF_CLOCK_2: u32 = 2;
+
+pub const ON_CLOCK_2: u32 = 513;
 
 // 0 delayed by 2 on 0 implies 1, 0 weakly precedes 1: a tick at -3, unseen at -2. Two remainders are held.
 pub fn two_held() -> [u32; STATE_WORDS] {
@@ -76,7 +86,7 @@ fn with_word(from: [u32; STATE_WORDS], at: usize, word: u32) -> [u32; STATE_WORD
 }
 
 // The word at a place.
-fn word_of(state: [u32; STATE_WORDS], at: usize) -> u32 {
+pub fn word_of(state: &[u32; STATE_WORDS], at: usize) -> u32 {
     if STATE_WORDS <= at {
         return 0;
     }
@@ -84,7 +94,7 @@ fn word_of(state: [u32; STATE_WORDS], at: usize) -> u32 {
 }
 
 // The calls on a state with one word made another; then the next instant with the word as it was.
-fn refused(what: &[u8], from: [u32; STATE_WORDS], at: usize, word: u32) {
+pub fn refused(what: &[u8], from: [u32; STATE_WORDS], at: usize, word: u32) {
     step(what);
     let before = with_word(from, at, word);
     let mut state = before;
@@ -93,8 +103,31 @@ fn refused(what: &[u8], from: [u32; STATE_WORDS], at: usize, word: u32) {
     met(&mut state);
     compared(&before, &state);
     say(b"  restored\n");
-    let mut again = with_word(state, at, word_of(from, at));
+    let mut again = with_word(state, at, word_of(&from, at));
     met(&mut again);
+}
+
+// Words of the first remainder's row.
+fn refused_in_row(s: [u32; STATE_WORDS]) {
+    let row = place::HELD;
+    refused(b"9 obligations", s, row + place::OWED, 9);
+    refused(
+        b"an obligation of clock 2",
+        s,
+        row + place::CLOCK,
+        OF_CLOCK_2,
+    );
+    refused(
+        b"an obligation on clock 2",
+        s,
+        row + place::CLOCK,
+        ON_CLOCK_2,
+    );
+    refused(b"a due of 98,303", s, row + place::DUE, DUE_TOO_HIGH);
+    refused(b"a due of -32,769", s, row + place::DUE, DUE_TOO_LOW);
+    refused(b"9 countdowns", s, row + place::COUNTING, 9);
+    refused(b"a countdown that wants 0", s, row + place::COUNTING, 1);
+    refused(b"a lead of 3", s, row + place::LEAD, 3);
 }
 
 pub fn outside() {
@@ -103,6 +136,7 @@ pub fn outside() {
     );
     let s = two_held();
     refused(b"another format", s, place::FORMAT, 1);
+    refused(b"the format before", s, place::FORMAT, OLD_FORMAT);
     refused(b"no clocks", s, place::CLOCKS, 0);
     refused(b"9 clocks", s, place::CLOCKS, 9);
     refused(b"17 lines", s, place::LINES, 17);
@@ -111,17 +145,12 @@ pub fn outside() {
     refused(b"side 7", s, place::SIDE, 7);
     refused(b"case 3", s, place::CASE, 3);
     refused(b"33 live", s, place::LIVE, 33);
-    refused(b"a line of kind 24", s, place::KIND, 24);
-    refused(b"9 obligations", s, place::OWED, 9);
-    refused(b"an obligation of clock 2", s, place::CLOCK, 2);
-    refused(b"an obligation on clock 2", s, place::ON_CLOCK, 2);
-    refused(b"a due of 98,303", s, place::DUE, DUE_TOO_HIGH);
-    refused(b"a due of -32,769", s, place::DUE, DUE_TOO_LOW);
-    refused(b"a lead of 3", s, place::LEAD, 3);
+    refused(b"a line of kind 25", s, place::KIND, NO_KIND);
+    refused_in_row(s);
 }
 
 // What is asked of a state with one word made another.
-fn held(what: &[u8], from: [u32; STATE_WORDS], at: usize, word: u32) {
+pub fn held(what: &[u8], from: [u32; STATE_WORDS], at: usize, word: u32) {
     step(what);
     let state = with_word(from, at, word);
     last(&state);
@@ -134,10 +163,12 @@ pub fn at_limits() {
     held(b"8 clocks", s, place::CLOCKS, 8);
     held(b"4,000 instants", s, place::INSTANTS, 4000);
     held(b"32 live", s, place::LIVE, 32);
-    held(b"8 obligations", s, place::OWED, 8);
-    held(b"a due of 98,302", s, place::DUE, DUE_HIGHEST);
-    held(b"a due of -32,768", s, place::DUE, DUE_LOWEST);
-    held(b"a lead of 2", s, place::LEAD, 2);
+    held(b"a line of kind 24", s, place::KIND, 24);
+    let row = place::HELD;
+    held(b"8 obligations", s, row + place::OWED, 8);
+    held(b"a due of 98,302", s, row + place::DUE, DUE_HIGHEST);
+    held(b"a due of -32,768", s, row + place::DUE, DUE_LOWEST);
+    held(b"a lead of 2", s, row + place::LEAD, 2);
 }
 
 // The calls on a state with one word made another, and two instants more.
@@ -150,26 +181,72 @@ fn taken(what: &[u8], from: [u32; STATE_WORDS], at: usize, word: u32) {
     late(&mut state);
 }
 
+// Words of the same row.
+fn taken_in_row(s: [u32; STATE_WORDS]) {
+    let row = place::HELD;
+    taken(
+        b"the lead of the delay line 3",
+        s,
+        row + place::DELAY_LEAD,
+        3,
+    );
+    taken(
+        b"an eighth due of 98,303",
+        s,
+        row + place::EIGHTH_DUE,
+        DUE_TOO_HIGH,
+    );
+    taken(
+        b"256 wanted by an eighth countdown",
+        s,
+        row + place::EIGHTH_WANTED,
+        256,
+    );
+}
+
+// Words of rows that no remainder has.
+fn taken_beside(s: [u32; STATE_WORDS]) {
+    let third = place::THIRD;
+    taken(
+        b"9 obligations behind the two held",
+        s,
+        third + place::OWED,
+        9,
+    );
+    taken(
+        b"9 countdowns behind the two held",
+        s,
+        third + place::COUNTING,
+        9,
+    );
+    let other = place::OTHER;
+    taken(
+        b"9 obligations in the other side",
+        s,
+        other + place::OWED,
+        9,
+    );
+    taken(
+        b"9 countdowns in the other side",
+        s,
+        other + place::COUNTING,
+        9,
+    );
+}
+
 pub fn unused() {
     say(b"The same state: a word that is not in use made another\n");
     let s = two_held();
     taken(b"none", s, place::FREE, 0);
     taken(b"a free word of the head", s, place::FREE, 1);
-    taken(b"the kind of a third line 24", s, place::UNUSED_KIND, 24);
-    taken(b"the lead of the delay line 3", s, place::DELAY_LEAD, 3);
     taken(
-        b"an eighth due of 98,303",
+        b"the kind of a third line 25",
         s,
-        place::EIGHTH_DUE,
-        DUE_TOO_HIGH,
+        place::UNUSED_KIND,
+        NO_KIND,
     );
-    taken(
-        b"9 obligations behind the two held",
-        s,
-        place::THIRD_OWED,
-        9,
-    );
-    taken(b"9 obligations in the other side", s, place::OTHER_OWED, 9);
+    taken_in_row(s);
+    taken_beside(s);
 }
 
 pub fn no_monitor() {

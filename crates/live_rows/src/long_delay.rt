@@ -2,19 +2,15 @@
 use crate::row::row;
 use crate::row::row_of;
 use crate::row::step;
+use crate::state::IDLE;
+use crate::state::TICK;
+use crate::state::UNSEEN;
 use crate::state::last;
 use crate::state::owing;
 use crate::text::say;
 use gateway::lift_observe;
 use gateway::lift_open;
 use judge::live::STATE_WORDS;
-
-// How a clock is seen.
-const IDLE: u8 = 0;
-
-const TICK: u8 = 1;
-
-const UNSEEN: u8 = 2;
 
 fn opened(state: &mut [u32; STATE_WORDS]) {
     let r = lift_open(
@@ -47,23 +43,28 @@ fn idle(state: &mut [u32; STATE_WORDS], tag: u8) {
     row_of(b"observe, idle at ", tag as u64, r);
 }
 
+// Nine ticks of clock 0, at tags 1 to 9, and an instant more.
+pub fn nine_ticks(state: &mut [u32; STATE_WORDS]) {
+    tick(state, 1);
+    tick(state, 2);
+    tick(state, 3);
+    tick(state, 4);
+    tick(state, 5);
+    tick(state, 6);
+    tick(state, 7);
+    tick(state, 8);
+    owing(state, 1);
+    tick(state, 9);
+    owing(state, 1);
+    idle(state, 10);
+    last(state);
+}
+
 pub fn ticks() {
     say(b"L9: a delay of 100, nine ticks\n");
     let mut state = [0u32; STATE_WORDS];
     opened(&mut state);
-    tick(&mut state, 1);
-    tick(&mut state, 2);
-    tick(&mut state, 3);
-    tick(&mut state, 4);
-    tick(&mut state, 5);
-    tick(&mut state, 6);
-    tick(&mut state, 7);
-    tick(&mut state, 8);
-    owing(&state, 1);
-    tick(&mut state, 9);
-    owing(&state, 1);
-    idle(&mut state, 10);
-    last(&state);
+    nine_ticks(&mut state);
 }
 
 fn first_unseen(state: &mut [u32; STATE_WORDS]) {

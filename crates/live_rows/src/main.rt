@@ -1,5 +1,7 @@
 // The calls on a state of words, for C and Rust: a row per call, with the whole result.
 mod altered;
+mod altered_countdowns;
+mod countdowns;
 mod full;
 mod listing;
 mod long_delay;
@@ -16,9 +18,13 @@ fn main() {
     long_delay::ticks();
     long_delay::unseen_ticks();
     long_delay::restarted();
+    countdowns::fourth_pulse();
+    countdowns::many();
     altered::outside();
     altered::at_limits();
     altered::unused();
+    altered_countdowns::outside();
+    altered_countdowns::at_limits();
     altered::no_monitor();
     reopened::all();
     full::run();

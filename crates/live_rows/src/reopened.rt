@@ -21,13 +21,28 @@ fn refusals(state: &mut [u32; STATE_WORDS]) {
     refused(state, b"open, 9 clocks", b"\x01\x00\x01\x00\x09");
     refused(
         state,
-        b"open, kind 24",
+        b"open, kind 25",
+        b"\x01\x00\x01\x00\x02\x02\x00\x19\x00\x00\x01",
+    );
+    refused(
+        state,
+        b"open, kind 24 of two bytes",
         b"\x01\x00\x01\x00\x02\x02\x00\x18\x00\x00\x01",
     );
     refused(
         state,
         b"open, clock 2 of two",
         b"\x01\x00\x01\x00\x02\x02\x00\x12\x00\x00\x02",
+    );
+    refused(
+        state,
+        b"open, a count of 0",
+        b"\x01\x00\x01\x00\x02\x04\x00\x18\x00\x00\x00\x01\x00",
+    );
+    refused(
+        state,
+        b"open, a count of 0, clock 2 of two",
+        b"\x01\x00\x01\x00\x02\x04\x00\x18\x00\x00\x00\x02\x00",
     );
 }
 

@@ -8,6 +8,7 @@ use crate::due::panel_due;
 use crate::due::result_due;
 use crate::due::short_due;
 use crate::tally;
+use crate::tally::Answers;
 use cases::tally::count;
 use cases::tally::count_if;
 use gateway::lift_judge;
@@ -48,20 +49,29 @@ fn packed(j: Judged) -> u64 {
     }
 }
 
-// Counts a result by its number, or its answer.
-fn with_result(r: u64, t: [u64; 40]) -> [u64; 40] {
-    let t = with_number((r % 256) as u8, t);
+// Counts a result by its answer, if it has one.
+fn with_answer(r: u64, t: [u64; 40], places: Answers) -> [u64; 40] {
     match r / 256 % 256 {
-        1 => count(t, tally::EXHAUSTED),
-        2 => count(t, tally::BROKEN),
+        1 => count(t, places.exhausted),
+        2 => count(t, places.broken),
         3 => {
             if r / 16777216 % 256 == 0 {
-                return count(t, tally::OWED);
+                return count(t, places.owed);
             }
-            count(t, tally::CLEAR)
+            count(t, places.clear)
         }
         _ => t,
     }
+}
+
+// Counts a result by its number, or its answer.
+fn with_result(r: u64, is_counted: bool, t: [u64; 40]) -> [u64; 40] {
+    let t = with_number((r % 256) as u8, t);
+    let t = with_answer(r, t, tally::all_answers());
+    if is_counted {
+        return with_answer(r, t, tally::counted_answers());
+    }
+    t
 }
 
 fn judged(sheet: &[u8], log: &[u8], due: Due, t: [u64; 40]) -> [u64; 40] {
@@ -69,7 +79,8 @@ fn judged(sheet: &[u8], log: &[u8], due: Due, t: [u64; 40]) -> [u64; 40] {
     let j = judge_log(sheet, log);
     let t = held(packed(j) == wanted, t, tally::JUDGE_LOG);
     let r = lift_judge(sheet, log);
-    held(r == wanted, with_result(r, t), tally::LIFT_JUDGE)
+    let t = with_result(r, due.is_counted, t);
+    held(r == wanted, t, tally::LIFT_JUDGE)
 }
 
 // A result, and the buffer after it.
@@ -141,14 +152,21 @@ fn watched_short(sheet: &[u8], log: &[u8], due: Due, t: [u64; 40]) -> [u64; 40] 
     held(is_due, with_number(number, t), tally::SHORT)
 }
 
+// Counts a panel's result that has a tick owed.
+fn with_owing(r: u64, is_counted: bool, t: [u64; 40]) -> [u64; 40] {
+    if r / 65536 % 256 == 0 {
+        return t;
+    }
+    count_if(is_counted, count(t, tally::OWING), tally::COUNTED_OWING)
+}
+
 // Every clock, and one that no sheet has.
 fn shown(sheet: &[u8], log: &[u8], due: Due, tally: [u64; 40]) -> [u64; 40] {
     let mut t = tally;
     let mut clock = 0u8;
     while clock < 9 {
         let r = lift_panel(sheet, log, clock);
-        let owing = 0 < r / 65536 % 256;
-        let more = count_if(owing, t, tally::OWING);
+        let more = with_owing(r, due.is_counted, t);
         t = held(r == panel_due(due, clock), more, tally::LIFT_PANEL);
         clock += 1;
     }

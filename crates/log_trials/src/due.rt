@@ -9,12 +9,13 @@ ghost use Prim.Native.Nat.{_≤_};
 // An answer, live, clear: as bytes.
 pub struct Entry(pub u8, pub u8, pub u8);
 
-// The number of the refusal, 0 for none; the instants taken; the entries of opening and of every instant; how many of the remainders owe each clock a tick.
+// The number of the refusal, 0 for none; the instants taken; the entries of opening and of every instant; how many of the remainders owe each clock a tick; whether the lines are all counted, false where a refusal is due.
 pub struct Due {
     pub number: u8,
     pub taken: usize,
     pub entries: [u8; 51],
     pub owing: [usize; 8],
+    pub is_counted: bool,
 }
 
 pub fn holding(live: usize, clear: bool) -> Entry {

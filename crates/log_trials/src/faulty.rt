@@ -7,6 +7,9 @@ use cases::tape::with_byte;
 use cases::tape::with_record;
 use records::sheet::Sheet;
 
+// In how many ways a sheet is damaged.
+pub const WAYS: u64 = 18;
+
 pub struct Faulty {
     pub tape: Tape,
     pub number: u8,
@@ -89,7 +92,7 @@ fn torn(t: Tape) -> Tape {
     cut(t, n - 1)
 }
 
-// One of fifteen ways, of a sheet with fewer than 16 lines; i is the place of one of them.
+// One of the ways, of a sheet with fewer than 16 lines; i is the place of one of them. Of two faults of a line the earlier checked decides.
 pub fn faulty_sheet(t: Tape, s: Sheet, how: u64, i: usize) -> Faulty {
     match how {
         0 => fault(torn(t), 1),
@@ -98,14 +101,17 @@ pub fn faulty_sheet(t: Tape, s: Sheet, how: u64, i: usize) -> Faulty {
         3 => fault(with_byte(t, 0, 0), 3),
         4 => fault(with_byte(t, 4, 0), 4),
         5 => fault(with_byte(t, 4, 9), 4),
-        6 => fault(with_record(t, line(24, 2, 0)), 5),
-        7 => fault(with_record(t, line(18, 3, 0)), 6),
-        8 => fault(with_record(t, line(18, 2, s.clocks)), 7),
-        9 => fault(relations(t, 17), 8),
-        10 => fault(sporadics(t, 9), 9),
-        11 => fault(with_record(relations(t, 16), ending(line(17, 6, 0), 15)), 8),
-        12 => fault(with_record(sporadics(t, 8), ending(line(16, 4, 0), 7)), 9),
-        13 => disordered(t, s, false, i),
+        6 => fault(with_record(t, line(15, 2, 0)), 5),
+        7 => fault(with_record(t, line(25, 2, 0)), 5),
+        8 => fault(with_record(t, line(18, 3, 0)), 6),
+        9 => fault(with_record(t, line(18, 2, s.clocks)), 7),
+        10 => fault(with_record(t, line(24, 4, s.clocks)), 7),
+        11 => fault(with_record(t, line(24, 4, 0)), 18),
+        12 => fault(relations(t, 17), 8),
+        13 => fault(sporadics(t, 9), 9),
+        14 => fault(with_record(relations(t, 16), ending(line(17, 6, 0), 15)), 8),
+        15 => fault(with_record(sporadics(t, 8), ending(line(16, 4, 0), 7)), 9),
+        16 => disordered(t, s, false, i),
         _ => disordered(t, s, true, i),
     }
 }

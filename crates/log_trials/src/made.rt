@@ -5,6 +5,7 @@ use crate::compare::with_number;
 use crate::due::Due;
 use crate::due::beginning;
 use crate::due::entries_of;
+use crate::faulty::WAYS;
 use crate::faulty::faulty_sheet;
 use crate::tally;
 use cases::course;
@@ -18,6 +19,7 @@ use cases::plan::Plan;
 use cases::random::below;
 use cases::random::draw;
 use cases::tally::count;
+use cases::tally::count_if;
 use cases::tape::Tape;
 use cases::tape::front;
 use cases::tape::no_bytes;
@@ -30,7 +32,9 @@ use filler::whole_run::owing;
 use gateway::lift_instant_number;
 use gateway::lift_sheet_number;
 use records::instant::Instant;
+use records::line::Line;
 use records::sheet::Sheet;
+use records::sheet::line_at;
 
 const NARROW_CASES: u64 = 3000;
 
@@ -100,6 +104,35 @@ fn compared(sheet: Tape, log: Tape, due: Due, t: [u64; 40]) -> [u64; 40] {
     compare(front(&a, sheet.len), front(&b, log.len), due, t)
 }
 
+fn is_counted(l: Line) -> bool {
+    match l {
+        Line::Counted {
+            a: _,
+            b: _,
+            d: _,
+            n: _,
+        } => true,
+        _ => false,
+    }
+}
+
+// Lines rise by kind: the last one tells whether one is counted.
+fn has_counted(s: Sheet) -> bool {
+    let n = s.count;
+    if n == 0 {
+        return false;
+    }
+    is_counted(line_at(s, n - 1))
+}
+
+// Lines rise by kind: the first one tells whether all are counted.
+fn all_counted(s: Sheet) -> bool {
+    if s.count == 0 {
+        return false;
+    }
+    is_counted(line_at(s, 0))
+}
+
 // A log of the first n instants.
 fn taken(c: Made, n: usize, t: [u64; 40]) -> [u64; 40] {
     let sheet = c.sheet;
@@ -113,6 +146,7 @@ fn taken(c: Made, n: usize, t: [u64; 40]) -> [u64; 40] {
         taken: n,
         entries,
         owing: counts,
+        is_counted: all_counted(sheet),
     };
     compared(tape, log, due, t)
 }
@@ -125,6 +159,7 @@ fn refused(number: u8, n: usize, entries: [u8; 51]) -> Due {
         taken: n,
         entries,
         owing,
+        is_counted: false,
     }
 }
 
@@ -159,7 +194,7 @@ fn sheet_number(tape: Tape, wanted: u8, t: [u64; 40]) -> [u64; 40] {
     held(n == wanted, with_number(n, t), tally::SHEET_NUMBER)
 }
 
-// The sheet as it is, then damaged in one of 15 ways, with a log of the first n instants.
+// The sheet as it is, then damaged in one way, with a log of the first n instants.
 fn damaged_sheet(c: Made, n: usize, d: [u64; 48], t: [u64; 40]) -> [u64; 40] {
     let sheet = c.sheet;
     let clocks = sheet.clocks;
@@ -168,7 +203,7 @@ fn damaged_sheet(c: Made, n: usize, d: [u64; 48], t: [u64; 40]) -> [u64; 40] {
     let tape = c.tape;
     let t = sheet_number(tape, 0, t);
     let i = below(d, 3, sheet.count as u64) as usize;
-    let f = faulty_sheet(tape, sheet, below(d, 2, 15), i);
+    let f = faulty_sheet(tape, sheet, below(d, 2, WAYS), i);
     let bad = f.tape;
     let t = sheet_number(bad, f.number, t);
     let log = with_records(no_bytes(), clocks, run, 0, n);
@@ -223,7 +258,8 @@ fn case(is_wide: bool, number: u64, from: u64, tally: [u64; 40]) -> Ended {
     let drawn = draw(made.last);
     let e = drawn.numbers;
     let place = if is_wide { tally::WIDE } else { tally::NARROW };
-    let told = tried(c, e, count(tally, place));
+    let told = count_if(has_counted(sheet), count(tally, place), tally::COUNTED);
+    let told = tried(c, e, told);
     Ended {
         last: drawn.last,
         tally: told,

@@ -1,8 +1,12 @@
 // The table of what was counted.
 use crate::tally;
+use crate::tally::Answers;
 use crate::text::number;
 use crate::text::say;
 use cases::tally::counted;
+
+// The last number of a refusal.
+const LAST_NUMBER: usize = 18;
 
 // A row: what is counted, and how often.
 fn line(t: [u64; 40], what: &[u8], at: usize) {
@@ -17,6 +21,7 @@ fn cases(t: [u64; 40]) {
     say(b"Cases, each with a whole log, a beginning of it, a damaged log and a damaged sheet\n");
     line(t, b"of at most four clocks", tally::NARROW);
     line(t, b"of five to eight clocks", tally::WIDE);
+    line(t, b"with a counted line", tally::COUNTED);
 }
 
 fn calls(t: [u64; 40]) {
@@ -27,22 +32,26 @@ fn calls(t: [u64; 40]) {
     line(t, b"lift_watch, a byte too little room", tally::SHORT);
     line(t, b"lift_panel", tally::LIFT_PANEL);
     line(t, b"lift_panel, a tick is owed", tally::OWING);
+    line(
+        t,
+        b"lift_panel, a tick is owed, all lines counted",
+        tally::COUNTED_OWING,
+    );
     line(t, b"lift_sheet_number", tally::SHEET_NUMBER);
     line(t, b"lift_instant_number", tally::INSTANT_NUMBER);
 }
 
-fn answers(t: [u64; 40]) {
-    say(b"Answers of lift_judge\n");
-    line(t, b"holding, clear", tally::CLEAR);
-    line(t, b"holding, owed", tally::OWED);
-    line(t, b"broken", tally::BROKEN);
-    line(t, b"exhausted", tally::EXHAUSTED);
+fn answers(t: [u64; 40], at: Answers) {
+    line(t, b"holding, clear", at.clear);
+    line(t, b"holding, owed", at.owed);
+    line(t, b"broken", at.broken);
+    line(t, b"exhausted", at.exhausted);
 }
 
 // A row for each number; 11 and 16 are beyond these logs.
 fn numbers(t: [u64; 40]) {
     let mut n = 1;
-    while n < 18 {
+    while n <= LAST_NUMBER {
         say(b"  ");
         number(n as u64);
         say(b": ");
@@ -55,7 +64,10 @@ fn numbers(t: [u64; 40]) {
 pub fn table(t: [u64; 40]) {
     cases(t);
     calls(t);
-    answers(t);
+    say(b"Answers of lift_judge\n");
+    answers(t, tally::all_answers());
+    say(b"Answers of lift_judge, all lines counted\n");
+    answers(t, tally::counted_answers());
     say(
         b"Refusals of lift_judge, lift_sheet_number and lift_instant_number, and of a buffer too short\n",
     );

@@ -18,17 +18,41 @@ pub const SHEET_NUMBER: usize = 7;
 
 pub const INSTANT_NUMBER: usize = 8;
 
-pub const CLEAR: usize = 9;
-
-pub const OWED: usize = 10;
-
-pub const BROKEN: usize = 11;
-
-pub const EXHAUSTED: usize = 12;
-
 pub const OWING: usize = 13;
 
 pub const DIFFERENT: usize = 14;
 
+pub const COUNTED: usize = 15;
+
 // The number n is at the place n further.
 pub const NUMBERS: usize = 16;
+
+pub const COUNTED_OWING: usize = 35;
+
+// The places of the four answers.
+pub struct Answers {
+    pub clear: usize,
+    pub owed: usize,
+    pub broken: usize,
+    pub exhausted: usize,
+}
+
+// Of all sheets.
+pub fn all_answers() -> Answers {
+    Answers {
+        clear: 9,
+        owed: 10,
+        broken: 11,
+        exhausted: 12,
+    }
+}
+
+// Of sheets whose lines are all counted.
+pub fn counted_answers() -> Answers {
+    Answers {
+        clear: 36,
+        owed: 37,
+        broken: 38,
+        exhausted: 39,
+    }
+}

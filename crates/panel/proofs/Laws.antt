@@ -1,5 +1,5 @@
 -- How a list is counted entry by entry, and which of a monitor's entries the panel counts. Assumes nothing.
-use mathlib.Core.Bool.{Bool, true, false, not, cond}
+use mathlib.Core.Bool.{Bool, true, false, not, cond, _||_, and-false}
 use mathlib.Core.List.{List, [], _∷_}
 use mathlib.Core.Path.{_≡_, refl, sym, _∙_, subst}
 use Prim.Native.Nat.{ℕ, zero, suc, _+_, _≤_, _<_}
@@ -8,18 +8,32 @@ use native.Mathlib.Omega.{arith}
 use lib.Dec.{T, leb, leb→le}
 use lib.ListN.{length, getD, take, drop}
 use lib.Seq.{drop-cons}
-use borrow.Author.Tests.{not-true, not-false}
+use borrow.Author.Tests.{lt-leb, le-leb, not-true, not-false}
 use Rattle.records.specs.Outcome.{taken, refused}
 use Rattle.records.proofs.Lists.{both}
 use Rattle.tesl.proofs.Tests.{≡→T}
 use Rattle.theory.specs.Step.{bit}
+use Rattle.theory.proofs.Lists.{any-map}
 use Rattle.judge.specs.declared.remainder.Remainder.{Remainder}
 use Rattle.judge.specs.declared.held.Status.{Status}
 use Rattle.judge.specs.declared.held.Status.the-variants.{Exhausted, Live}
 use Rattle.judge.specs.declared.monitor.Monitor.{Monitor}
 use Rattle.judge.specs.Limits.{sheetWithin, heldWithin, monitorWithin}
 use Rattle.judge.specs.Monitor.{sheetBy}
-use Rattle.panel.specs.Panel.{entryOwes, owingCount, panelCount}
+use Rattle.panel.specs.Panel.{owesIn, entryOwes, owingCount, panelCount}
+
+-- ---- an entry
+
+module _ (clock : ℕ) (r : Remainder) where
+  pub over-owed : 8 < r .owed → false ≡ entryOwes clock r
+  over-owed h = simp (lt-leb _ _ h)
+
+  pub over-counting : 8 < r .counting → false ≡ entryOwes clock r
+  over-counting h = simp (lt-leb _ _ h, and-false)
+
+  -- within both limits, one of either
+  pub owes-either : r .owed ≤ 8 → r .counting ≤ 8 → (owesIn clock (r .owed) (r .obligations) || owesIn clock (r .counting) (r .countdowns)) ≡ entryOwes clock r
+  owes-either h k = rw (le-leb _ _ h, le-leb _ _ k, any-map, any-map) refl
 
 -- ---- a list
 

@@ -1,8 +1,8 @@
 -- For a monitor that follows a run the panel counts the run's distinct remainders: those held are each of them once, a clock's debt can't tell apart what is the same, and two lists without repeats that are the same set are as long. Assumes nothing.
-use mathlib.Core.Bool.{Bool, true, false, cond}
+use mathlib.Core.Bool.{Bool, true, false, cond, _||_}
 use mathlib.Core.List.{List, [], _∷_, map}
 use mathlib.Core.Option.{Option, none, some}
-use mathlib.Core.Path.{_≡_, refl, sym, ap, _∙_, subst}
+use mathlib.Core.Path.{_≡_, refl, sym, ap, ap₂, _∙_, subst}
 use Prim.Native.Nat.{ℕ, suc}
 use native.Mathlib.Omega.{arith}
 use lib.Dec.{T, eqb, leb}
@@ -12,19 +12,19 @@ use Rattle.records.specs.Sheet.{SheetValue}
 use Rattle.records.proofs.Lists.{both}
 use Rattle.tesl.specs.Lists.{all, filter, count}
 use Rattle.tesl.specs.Run.{Instant, runFillings}
-use Rattle.tesl.specs.Fits.{Obligation, fits}
+use Rattle.tesl.specs.Fits.{Obligation, Countdown, fits}
 use Rattle.tesl.specs.Remainder.{Remainder, remainder, sameRemainder}
 use Rattle.tesl.specs.Answer.{exhausted, remainders, judged}
 use Rattle.tesl.proofs.Tests.{and-l, and-r, T→≡, ≡→T}
 use Rattle.theory.specs.Sets.{apart, EachOnce}
 use Rattle.theory.proofs.Sets.{distinct-apart, length-same, filter-once}
-use Rattle.theory.proofs.Respect.{alike, any-owed, remainder-equivalence}
+use Rattle.theory.proofs.Respect.{alike, owed-equality, count-equality, any-equal, remainder-equivalence}
 use Rattle.work.specs.View.{heldList}
 use Rattle.judge.specs.declared.remainder.Remainder as arrays
 use Rattle.judge.specs.declared.held.Status.{Status}
 use Rattle.judge.specs.declared.held.Status.the-variants.{Exhausted, Live}
 use Rattle.judge.specs.declared.monitor.Monitor.{Monitor}
-use Rattle.judge.specs.View.{viewOf, heldIn, sizedIn}
+use Rattle.judge.specs.View.{viewOf, heldIn, fewOwed, sizedIn}
 use Rattle.judge.specs.Answer.{saidBy}
 use Rattle.judge.specs.Limits.{monitorWithin}
 use Rattle.judge.specs.Monitor.{sheetBy, heldBy}
@@ -44,7 +44,11 @@ count-filter p (x ∷ xs) = by-test (p x) (count-filter p xs)
     by-test false e = e
 
 owes-same : (clock : ℕ) (a b : Remainder) → T (sameRemainder a b) → T (owesClock clock a) → T (owesClock clock b)
-owes-same clock a b s t = subst T (any-owed (λ (o : Obligation). eqb (o .clock) clock) (a .owed) (b .owed) (alike a b s .owed)) t
+owes-same clock a b s t =
+    let h = alike a b s in
+    let o = any-equal owed-equality (λ (o : Obligation). eqb (o .clock) clock) (a .owed) (b .owed) (h .owed) in
+    let c = any-equal count-equality (λ (c : Countdown). eqb (c .clock) clock) (a .countdowns) (b .countdowns) (h .countdowns) in
+    subst T (ap₂ _||_ o c) t
 
 count-once : (clock : ℕ) {xs ys : List Remainder} → EachOnce sameRemainder xs ys → T (apart sameRemainder ys) → count (owesClock clock) xs ≡ count (owesClock clock) ys
 count-once clock {xs} {ys} h a =
@@ -61,16 +65,14 @@ apart-remainders s run = distinct-apart sameRemainder remainder-equivalence (map
 -- ---- those held
 
 -- an entry within its limits owes what its view owes
-entries-count : (clock : ℕ) (v : SheetValue) (rs : List arrays.Remainder) → T (all (λ (r : arrays.Remainder). leb (r .owed) 8) rs) → count (entryOwes clock) rs ≡ count (owesClock clock) (map (viewOf v) rs)
+entries-count : (clock : ℕ) (v : SheetValue) (rs : List arrays.Remainder) → T (all fewOwed rs) → count (entryOwes clock) rs ≡ count (owesClock clock) (map (viewOf v) rs)
 entries-count clock v [] t = refl
-entries-count clock v (r ∷ rs) t =
-    let few : arrays.Remainder → Bool = λ r. leb (r .owed) 8 in
-    rw (T→≡ (few r) (and-l (few r) (all few rs) t), entries-count clock v rs (and-r (few r) (all few rs) t))
+entries-count clock v (r ∷ rs) t = rw (T→≡ (fewOwed r) (and-l (fewOwed r) (all fewOwed rs) t), entries-count clock v rs (and-r (fewOwed r) (all fewOwed rs) t))
 
 held-count : (clock : ℕ) (v : SheetValue) (c : Status) (rs : List arrays.Remainder) → T (sizedIn c rs) → owingCount clock (liveEntries c rs) ≡ count (owesClock clock) (heldList (heldIn v c rs))
 unfolding owingCount
 held-count clock v Exhausted rs t = refl
-held-count clock v (Live n) rs t = entries-count clock v (take n rs) (and-r (leb n 32) (all (λ (r : arrays.Remainder). leb (r .owed) 8) (take n rs)) t)
+held-count clock v (Live n) rs t = entries-count clock v (take n rs) (and-r (leb n 32) (all fewOwed (take n rs)) t)
 
 pub within-count : (clock : ℕ) (m : Monitor) → monitorWithin m ≡ true → panelCount clock m ≡ taken (count (owesClock clock) (heldList (heldBy m)))
 unfolding panelCount

@@ -2,12 +2,13 @@
 use judge::held::Status;
 use judge::monitor::Monitor;
 use judge::monitor::within_limits;
+use judge::obligation::Obligation;
 use judge::remainder::Remainder;
 use records::number;
 ghost use mathlib.Core.Path.{_≡_};
 ghost use Prim.Native.Nat.{_≤_};
 ghost use lib.ListN.{take};
-ghost use Rattle.panel.specs.Panel.{entryOwes, owingCount, panelOf, panelCount};
+ghost use Rattle.panel.specs.Panel.{owesIn, entryOwes, owingCount, panelOf, panelCount};
 
 // The count, or the number of a refusal.
 pub enum Panel {
@@ -15,23 +16,40 @@ pub enum Panel {
     Refused(u8),
 }
 
-// An entry with more than eight obligations owes none.
-fn owes(r: Remainder, clock: u8) -> bool
-    ensures { λ b. ⌜ b ≡ entryOwes clock r ⌝ }
+// One of the first n, of eight at most, is a tick of the clock.
+fn ticks_in(n: usize, owed: [Obligation; 8], clock: u8) -> bool
+    requires { ⌜ n ≤ 8 ⌝ }
+    ensures { λ b. ⌜ b ≡ owesIn clock n owed ⌝ }
 {
-    let owed = r.owed;
-    if number::MAX_OWED < owed {
-        return false;
-    }
     let mut i = 0;
-    while i < owed {
-        let o = r.obligations[i];
+    while i < n {
+        let o = owed[i];
         if o.clock == clock {
             return true;
         }
         i += 1;
     }
     false
+}
+
+// An entry with more than eight obligations, or more than eight countdowns, owes none.
+fn owes(r: Remainder, clock: u8) -> bool
+    ensures { λ b. ⌜ b ≡ entryOwes clock r ⌝ }
+{
+    let owed = r.owed;
+    let counting = r.counting;
+    if number::MAX_OWED < owed {
+        return false;
+    }
+    if number::MAX_OWED < counting {
+        return false;
+    }
+    let obligations = r.obligations;
+    if ticks_in(owed, obligations, clock) {
+        return true;
+    }
+    let countdowns = r.countdowns;
+    ticks_in(counting, countdowns, clock)
 }
 
 // How many entries of the list owe this clock a tick; the clock is compared as it stands.

@@ -1,24 +1,17 @@
 // The panel's counts along stored runs: a row per monitor.
+mod countdowns;
+mod made;
 mod row;
 mod text;
 
+use crate::made::after;
+use crate::made::counted;
+use crate::made::opened;
+use crate::made::owing;
 use crate::row::row;
 use crate::text::say;
-use judge::held::Held;
 use judge::held::Status;
 use judge::monitor::Monitor;
-use judge::monitor::observe;
-use judge::monitor::open;
-
-fn opened(sheet: &[u8]) -> Monitor {
-    let given = open(sheet);
-    given.monitor
-}
-
-fn after(m: Monitor, instant: &[u8]) -> Monitor {
-    let given = observe(m, instant);
-    given.monitor
-}
 
 // 0 delayed by 2 on 0 implies 1.
 fn listing() {
@@ -62,33 +55,6 @@ fn long_delay() {
     row(b"at 6, exhausted", m);
 }
 
-// The monitor with others held.
-fn holding(m: Monitor, held: Held) -> Monitor {
-    let mut next = m;
-    next.held = held;
-    next
-}
-
-// The monitor with another count of those held, each like its first.
-fn counted(m: Monitor, count: Status) -> Monitor {
-    let held = m.held;
-    let all = held.remainders;
-    let first = all[0];
-    let remainders = [first; 32];
-    holding(m, Held { count, remainders })
-}
-
-// The monitor with another number of obligations in its first remainder.
-fn owing(m: Monitor, owed: usize) -> Monitor {
-    let held = m.held;
-    let count = held.count;
-    let mut remainders = held.remainders;
-    let mut first = remainders[0];
-    first.owed = owed;
-    remainders[0] = first;
-    holding(m, Held { count, remainders })
-}
-
 // 0 sporadic 1 on 1, 0 sporadic 2 on 1, 1 sporadic 3 on 0.
 fn sporadic() {
     say(b"Three sporadic lines: an entry that owes twice counts once\n");
@@ -112,4 +78,5 @@ fn main() {
     listing();
     long_delay();
     sporadic();
+    countdowns::all();
 }

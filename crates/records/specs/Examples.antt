@@ -1,10 +1,10 @@
--- The order of lines on bytes (document 02, Q-1): one statement, a row each, by computation. Assumes nothing.
+-- The order of lines on bytes (document 02, Q-1), and lines that count (Q-2): a row each, by computation. Assumes nothing.
 use mathlib.Core.List.{List, [], _∷_, _++_}
 use mathlib.Core.Path.{_≡_, refl}
 use Prim.Native.Nat.{ℕ}
 use lib.IntN.{pos}
 use Rattle.records.specs.declared.line.Line.{Line}
-use Rattle.records.specs.declared.line.Line.the-variants.{Sporadic, Implies}
+use Rattle.records.specs.declared.line.Line.the-variants.{Sporadic, Implies, Counted}
 use Rattle.records.specs.declared.order.Order.the-variants.{Any}
 use Rattle.records.specs.Outcome.{taken, refused}
 use Rattle.records.specs.Word.{signed}
@@ -43,7 +43,7 @@ pub record OrderExamples : Type 0 where
   equal : (readSheet (clock ++ at1 ++ at1) ≡ refused 17) × (readSheet (clock ++ at1) ≡ taken (sheet (Sporadic 0 0 (pos 1) ∷ [])))
   -- in a line's own turn: 17 of the second before 7 of the third, and 7 of the second before 17 of the third
   turns : (readSheet (clock ++ at1 ++ at1 ++ noClock) ≡ refused 17) × (readSheet (clock ++ at1 ++ noClock ++ at1) ≡ refused 7)
-  -- document 01's own rule
+  -- any order, repeats allowed
   unordered : readUnordered (clock ++ at1 ++ at256 ++ at1) ≡ taken (sheet (Sporadic 0 0 (pos 1) ∷ Sporadic 0 0 (pos 256) ∷ Sporadic 0 0 (pos 1) ∷ []))
   -- a last kind that is read: 18 is one kind too many for 17
   last : (readBy Any 17 (clock ++ at1 ++ implies) ≡ refused 5) × (readBy Any 18 (clock ++ at1) ≡ readUnordered (clock ++ at1))
@@ -58,3 +58,24 @@ order-examples = record {
   unordered = refl;
   last = (refl, refl);
 }
+
+-- after a tick of clock 0, D ticks at the n-th later tick of clock 0; and the same body as kind 25
+abbrev counts : ℕ → ℕ → List ℕ
+counts d n = 0x04 ∷ 0x00 ∷ 0x18 ∷ 0x00 ∷ 0x00 ∷ 0x00 ∷ d ∷ n ∷ []
+
+abbrev kind25 : List ℕ
+kind25 = 0x04 ∷ 0x00 ∷ 0x19 ∷ 0x00 ∷ 0x00 ∷ 0x00 ∷ 0x00 ∷ 0x01 ∷ []
+
+pub record CountedExamples : Type 0 where
+  -- the least count and the greatest
+  read : (readSheet (clock ++ counts 0 1) ≡ taken (sheet (Counted 0 0 0 1 ∷ []))) × (readSheet (clock ++ counts 0 255) ≡ taken (sheet (Counted 0 0 0 255 ∷ [])))
+  -- n is 0; a D that is no clock comes first
+  zero : (readSheet (clock ++ counts 0 0) ≡ refused 18) × (readUnordered (clock ++ counts 0 0) ≡ refused 18) × (readSheet (clock ++ counts 1 0) ≡ refused 7)
+  -- 18 of a line comes before its 17
+  order : (readSheet (clock ++ counts 0 1 ++ counts 0 0) ≡ refused 18) × (readSheet (clock ++ counts 0 2 ++ counts 0 1) ≡ refused 17)
+  -- the last kind that is a line, and document 01's own
+  last : (readSheet (clock ++ kind25) ≡ refused 5) × (readBy Any 23 (clock ++ counts 0 1) ≡ refused 5) × (readBy Any 23 (clock ++ at1) ≡ readUnordered (clock ++ at1))
+
+pub counted-examples : CountedExamples
+unfolding signed isTorn front cut lengthOf clocksOf lineOf above readBy
+counted-examples = record { read = (refl, refl); zero = (refl, refl, refl); order = (refl, refl); last = (refl, refl, refl) }

@@ -18,7 +18,7 @@ use Rattle.records.specs.declared.record.Decision.the-variants.{Done, Re
 use Rattle.records.specs.Outcome.{Outcome, taken, refused, _⇒_, decide}
 use Rattle.records.specs.Record.{Piece}
 use Rattle.records.specs.Lists.{listed}
-use Rattle.records.specs.Line.{isLine, isSporadic, lengthOf, clocksOf, valueLineChecks, kindOf, bodyOf}
+use Rattle.records.specs.Line.{isLine, isSporadic, lengthOf, valueLineChecks, kindOf, bodyOf}
 use Rattle.records.specs.Order.{above, keyOf, aboveLast}
 use Rattle.records.specs.Sheet.{SheetValue, lineIn, slotOf, lineAt, sheetValue, sheetOf, orderChecks, linesChecks, valueLinesChecks, sheetValueChecks}
 use Rattle.records.specs.Instant.{Cell, rawCells, tickAbove, cellOf, tickSlot}
@@ -27,7 +27,7 @@ use Rattle.records.specs.Types.{All, IsLineValue, IsSheet}
 
 -- what the table of kinds says
 abbrev pub shapeOf : ℕ → Shape
-shapeOf kind = record { line = isLine kind; length = lengthOf kind; clocks = clocksOf kind }
+shapeOf kind = record { line = isLine kind; length = lengthOf kind }
 
 -- how many sporadic lines a line of a kind is
 abbrev pub sporadicOf : ℕ → ℕ

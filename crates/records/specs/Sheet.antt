@@ -84,11 +84,11 @@ readBy order last b = decide (sheetChecks order last (pieces b)) (sheetIn (piece
 
 -- lines of every kind, in rising order
 abbrev pub readSheet : List ℕ → Outcome SheetValue
-readSheet b = readBy Rising 23 b
+readSheet b = readBy Rising 24 b
 
--- the same in any order, repeats allowed: document 01's own rule
+-- the same in any order, repeats allowed; document 01's own rule is `readBy Any 23`
 abbrev pub readUnordered : List ℕ → Outcome SheetValue
-readUnordered b = readBy Any 23 b
+readUnordered b = readBy Any 24 b
 
 -- ---- the struct
 
@@ -117,7 +117,7 @@ sheetRead (refused n) = record { answer = answer.Refused n; sheet = sheetOf (rec
 
 -- ---- writing
 
--- line by line 7, 9, 17; `before` are the lines before
+-- line by line 7, 18, 9, 17; `before` are the lines before
 abbrev pub valueLinesChecks : Order → ℕ → List Line → List Line → List Check
 valueLinesChecks order c before lines =
     inTurn
@@ -125,7 +125,7 @@ valueLinesChecks order c before lines =
     before
     lines
 
--- 4; 8; then line by line 7, 9, 17
+-- 4; 8; then line by line 7, 18, 9, 17
 abbrev pub sheetValueChecks : Order → SheetValue → List Check
 sheetValueChecks order v =
     (not (clockCount (v .clocks)) ⇒ 4)

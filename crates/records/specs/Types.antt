@@ -4,7 +4,7 @@ use mathlib.Core.List.{List, [], _∷_}
 use lib.IntN.{ℤ}
 use lib.Signed.{mag}
 use Rattle.records.specs.declared.line.Line.{Line}
-use Rattle.records.specs.declared.line.Line.the-variants.{Sporadic, Relation, Implies, Excludes, Delayed, Weakly, Strictly, Kills}
+use Rattle.records.specs.declared.line.Line.the-variants.{Sporadic, Relation, Implies, Excludes, Delayed, Weakly, Strictly, Kills, Counted}
 use Rattle.records.specs.Sheet.{SheetValue}
 use Rattle.records.specs.Instant.{Cell}
 
@@ -35,6 +35,7 @@ IsLineValue (Delayed a b d by) = IsByte a × IsByte b × IsByte d × IsWord by
 IsLineValue (Weakly a b) = IsByte a × IsByte b
 IsLineValue (Strictly a b) = IsByte a × IsByte b
 IsLineValue (Kills a b) = IsByte a × IsByte b
+IsLineValue (Counted a b d n) = IsByte a × IsByte b × IsByte d × IsByte n
 
 abbrev pub IsSheet : SheetValue → Type 0
 IsSheet v = IsByte (v .clocks) × All IsLineValue (v .lines)

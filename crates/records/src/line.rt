@@ -1,4 +1,4 @@
-// The lines of a sheet: one of eight cases, each told by its kind, with its own length and fields.
+// The lines of a sheet: one of nine cases, each told by its kind, with its own length and fields.
 use crate::number;
 use crate::record::Decision;
 use crate::record::put_head;
@@ -15,7 +15,7 @@ ghost use lib.Dec.{leb};
 ghost use Rattle.records.specs.Outcome.{decide};
 ghost use Rattle.records.specs.Lists.{filled};
 ghost use Rattle.records.specs.Record.{whole};
-ghost use Rattle.records.specs.Line.{isLine, isSporadic, lengthOf, allBelow, lineChecks, valueLineChecks, lineOf, kindOf, bodyOf, lineBytes};
+ghost use Rattle.records.specs.Line.{isLine, isSporadic, lengthOf, clocksOf, allBelow, noCount, lineChecks, valueLineChecks, lineOf, kindOf, bodyOf, lineBytes};
 ghost use Rattle.records.specs.Store.{puts};
 ghost use Rattle.records.specs.Types.{IsLineValue};
 ghost use Rattle.records.specs.Inner.{shapeOf, sporadicOf, lineRead, answered};
@@ -32,6 +32,8 @@ pub enum Line {
     Weakly { a: u8, b: u8 },
     Strictly { a: u8, b: u8 },
     Kills { a: u8, b: u8 },
+    // D ticks at B's n-th tick after a tick of A.
+    Counted { a: u8, b: u8, d: u8, n: u8 },
 }
 
 // A line place of a sheet.
@@ -39,11 +41,10 @@ pub struct Slot {
     pub line: Line,
 }
 
-// What a kind says of a record: whether it is a line, the length of its body, and how many clocks stand at the body's front.
+// What a kind says of a record: whether it is a line, and the length of its body.
 pub(crate) struct Shape {
     pub(crate) line: bool,
     pub(crate) length: usize,
-    pub(crate) clocks: usize,
 }
 
 pub(crate) enum LineRead {
@@ -58,28 +59,39 @@ pub(crate) fn line_shape(kind: u16) -> Shape
         number::SPORADIC => Shape {
             line: true,
             length: number::SPORADIC_BODY,
-            clocks: 2,
         },
         number::RELATION => Shape {
             line: true,
             length: number::RELATION_BODY,
-            clocks: 2,
         },
         number::DELAYED => Shape {
             line: true,
             length: number::DELAYED_BODY,
-            clocks: 3,
+        },
+        number::COUNTED => Shape {
+            line: true,
+            length: number::COUNTED_BODY,
         },
         number::IMPLIES..=number::EXCLUDES | number::WEAKLY..=number::KILLS => Shape {
             line: true,
             length: number::PAIR_BODY,
-            clocks: 2,
         },
         _ => Shape {
             line: false,
             length: 0,
-            clocks: 0,
         },
+    }
+}
+
+// How many clocks stand at the front of a line's body.
+fn front_clocks(kind: u16) -> usize
+    ensures { λ r. ⌜ r ≡ clocksOf kind ⌝ }
+{
+    match kind {
+        number::DELAYED => 3,
+        number::COUNTED => 3,
+        number::SPORADIC..=number::KILLS => 2,
+        _ => 0,
     }
 }
 
@@ -96,6 +108,18 @@ fn clocks_below(body: &[u8], n: usize, clocks: u8) -> bool
         i += 1;
     }
     true
+}
+
+// Whether a line of a kind counts to 0, from a body at least as long as the kind's.
+fn is_uncounted(kind: u16, body: &[u8]) -> bool
+    requires { ⌜ lengthOf kind ≤ length (now body) ⌝ }
+    ensures { λ r. ⌜ r ≡ noCount kind (now (body .entry)) ⌝ }
+{
+    if kind == number::COUNTED {
+        body[3] == 0
+    } else {
+        false
+    }
 }
 
 // How many sporadic lines a line of a kind is.
@@ -145,11 +169,17 @@ fn line_of(kind: u16, body: &[u8]) -> Line
         },
         number::WEAKLY => Line::Weakly { a, b },
         number::STRICTLY => Line::Strictly { a, b },
+        number::COUNTED => Line::Counted {
+            a,
+            b,
+            d: body[2],
+            n: body[3],
+        },
         _ => Line::Kills { a, b },
     }
 }
 
-// A line record of a sheet whose last kind of line is given, `lines` lines and `spent` sporadic ones among them standing before it: 8, 5, 6, 7, 9, or the line.
+// A line record of a sheet whose last kind of line is given, `lines` lines and `spent` sporadic ones among them standing before it: 8, 5, 6, 7, 18, 9, or the line.
 pub(crate) fn read_line(
     kind: u16,
     body: &[u8],
@@ -174,8 +204,11 @@ pub(crate) fn read_line(
     if body.len() != shape.length {
         return LineRead::Refused(number::LINE_LENGTH);
     }
-    if !clocks_below(body, shape.clocks, clocks) {
+    if !clocks_below(body, front_clocks(kind), clocks) {
         return LineRead::Refused(number::CLOCK_NUMBER);
+    }
+    if is_uncounted(kind, body) {
+        return LineRead::Refused(number::NO_COUNT);
     }
     if is_ninth(kind, spent) {
         return LineRead::Refused(number::NINTH_SPORADIC);
@@ -205,6 +238,12 @@ pub(crate) fn kind_of(l: Line) -> u16
         Line::Weakly { a: _, b: _ } => number::WEAKLY,
         Line::Strictly { a: _, b: _ } => number::STRICTLY,
         Line::Kills { a: _, b: _ } => number::KILLS,
+        Line::Counted {
+            a: _,
+            b: _,
+            d: _,
+            n: _,
+        } => number::COUNTED,
     }
 }
 
@@ -228,18 +267,21 @@ pub(crate) fn body_of(l: Line) -> [u8; 6]
         Line::Weakly { a, b } => [a, b, 0, 0, 0, 0],
         Line::Strictly { a, b } => [a, b, 0, 0, 0, 0],
         Line::Kills { a, b } => [a, b, 0, 0, 0, 0],
+        Line::Counted { a, b, d, n } => [a, b, d, n, 0, 0],
     }
 }
 
-// A line of a value to write, `spent` sporadic lines standing before it: 7, 9.
+// A line of a value to write, `spent` sporadic lines standing before it: 7, 18, 9.
 pub(crate) fn check_line(l: Line, clocks: u8, spent: usize) -> Decision
     ensures { λ r. ⌜ (r ≡ answered (decide (valueLineChecks clocks spent (kindOf l) (bodyOf l)) l)) × IsLineValue l ⌝ }
 {
     let kind = kind_of(l);
-    let shape = line_shape(kind);
     let body = body_of(l);
-    if !clocks_below(&body, shape.clocks, clocks) {
+    if !clocks_below(&body, front_clocks(kind), clocks) {
         return Decision::Refused(number::CLOCK_NUMBER);
+    }
+    if is_uncounted(kind, &body) {
+        return Decision::Refused(number::NO_COUNT);
     }
     if is_ninth(kind, spent) {
         return Decision::Refused(number::NINTH_SPORADIC);

@@ -35,6 +35,8 @@ pub const INSTANTS_HELD: u8 = 16;
 
 pub const NOT_ABOVE: u8 = 17;
 
+pub const NO_COUNT: u8 = 18;
+
 // Kinds of records.
 pub const CLOCKS: u16 = 1;
 
@@ -54,8 +56,10 @@ pub const STRICTLY: u16 = 22;
 
 pub const KILLS: u16 = 23;
 
+pub const COUNTED: u16 = 24;
+
 // The last kind that is a line.
-pub const LAST_LINE: u16 = KILLS;
+pub const LAST_LINE: u16 = COUNTED;
 
 pub const INSTANT: u16 = 32;
 
@@ -71,6 +75,8 @@ pub const RELATION_BODY: usize = 6;
 pub const PAIR_BODY: usize = 2;
 
 pub const DELAYED_BODY: usize = 5;
+
+pub const COUNTED_BODY: usize = 4;
 
 // The longest body of a line.
 pub const MAX_BODY: usize = RELATION_BODY;

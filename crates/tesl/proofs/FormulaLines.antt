@@ -3,23 +3,23 @@ use mathlib.Core.Bool.{Bool, true, false, not, cond, _&&_, _||_}
 use mathlib.Core.List.{List, [], _∷_, _++_}
 use mathlib.Core.Logic.{_↔_, _⊎_, inl, inr}
 use mathlib.Core.Path.{_≡_, refl, sym, ap, _∙_, subst}
-use Prim.Native.Nat.{ℕ, suc, _≤_, _<_}
-use native.Mathlib.Nat.{le-of-lt}
+use Prim.Native.Nat.{ℕ, zero, suc, _+_, _≤_, _<_}
+use native.Mathlib.Nat.{le-of-lt, le-of-suc-le-suc, not-suc-le-zero}
 use native.Mathlib.Omega.{arith}
-use lib.Dec.{T, T-not, not-T, leb→le, le→leb}
+use lib.Dec.{T, T-not, not-T, eqb, leb→le, le→leb, eqb→eq, eqb-refl}
 use lib.IntN.{ℤ, pos, _+ℤ_, _*ℤ_}
 use lib.ListN.{length, getD, take, drop}
 use lib.Seq.{take-suc, length-take-le, getD-take}
 use Rattle.records.specs.declared.line.Line.{Line}
-use Rattle.records.specs.declared.line.Line.the-variants.{Sporadic, Relation, Implies, Excludes, Delayed, Weakly, Strictly, Kills}
+use Rattle.records.specs.declared.line.Line.the-variants.{Sporadic, Relation, Implies, Excludes, Delayed, Weakly, Strictly, Kills, Counted}
 use Rattle.tesl.specs.Lists.{any}
 use Rattle.tesl.specs.Run.{Filled, ticksAt}
-use Rattle.tesl.specs.Fits.{lastTags, ticksIn, Obligation}
-use Rattle.tesl.specs.Formula.{instant, Ticking, tag, LastTagAtMost, Holds, noInstant}
+use Rattle.tesl.specs.Fits.{lastTags, ticksIn, nthTick, countedAt, Obligation}
+use Rattle.tesl.specs.Formula.{instant, Ticking, tag, ticksBelow, LastTagAtMost, Holds, noInstant}
 use Rattle.tesl.proofs.Tests.{and-l, and-r, and-i, or-e, T→≡, ≡→T}
 use Rattle.tesl.proofs.FormulaLists.{any-find, any-has}
 use Rattle.tesl.proofs.FormulaParts.{paid, Part}
-use Rattle.tesl.proofs.FormulaOwed.{eqZ→eq, eq→eqZ, ticks-below, ticks-with, MetFrom, paid-one}
+use Rattle.tesl.proofs.FormulaOwed.{eqZ→eq, eq→eqZ, ticks-below, ticks-with, ticks-between, MetFrom, paid-one}
 
 module _ (run : List Filled) (A B : ℕ) where
   -- K's ticks up to and with instant n
@@ -134,6 +134,60 @@ module _ (run : List Filled) (A B : ℕ) where
           let l : w .0 < suc m = omega (arith, w .1, length-take-le (suc m) run b) in
           (w .0, omega arith, ap (λ (g : Filled). ticksAt g A) (sym (getD-take (suc m) run (w .0) noInstant l)) ∙ T→≡ (ticksAt (getD (take (suc m) run) (w .0) noInstant) A) (w .2))
 
+-- ---- counted: at each instant of each tick of A before it
+
+counted-each : (A B D n : ℕ) (before : List Filled) (f : Filled) → T (countedAt A B D n before f)
+    ↔ ((i : ℕ) → i < length before → ticksAt (getD before i noInstant) A ≡ true → T (nthTick B n (drop (suc i) before) f) → T (ticksAt f D))
+counted-each A B D n [] f = (λ t i h. absurd (not-suc-le-zero h), λ h. tt)
+counted-each A B D n (g ∷ between) f =
+    let r = counted-each A B D n between f in (
+      λ t. elim [
+        | zero ↦ λ h e u. asked (ticksAt g A) here (ticksAt f D) (and-l first rest t) e u
+        | suc i ↦ λ h e u. r .0 (and-r first rest t) i (le-of-suc-le-suc h) e u
+      ],
+      λ h. and-i first rest (given (ticksAt g A) here (ticksAt f D) (h 0 (omega arith))) (r .1 (λ i b. h (suc i) (omega arith))),
+    )
+  where
+    here : Bool
+    here = nthTick B n between f
+
+    first : Bool
+    first = not (ticksAt g A && here) || ticksAt f D
+
+    rest : Bool
+    rest = countedAt A B D n between f
+
+    asked : (a c d : Bool) → T (not (a && c) || d) → a ≡ true → T c → T d
+    asked a c d t e u = or-e (not (a && c)) d t (λ v. absurd (T-not (a && c) v (and-i a c (≡→T e) u))) (λ v. v)
+
+    given : (a c d : Bool) → (a ≡ true → T c → T d) → T (not (a && c) || d)
+    given true true d h = h refl tt
+    given true false d h = tt
+    given false c d h = tt
+
+counted-law : (A B D n : ℕ) (run : List Filled) → Part (Counted A B D n) run ↔ Holds (Counted A B D n) run
+counted-law A B D n run = (there, λ h. record { from-start = tt; at-each = back h; begun-there = λ j b. tt })
+  where
+    -- B's ticks after i, up to and with j
+    since : ℕ → ℕ → ℕ
+    since i j = ticksIn B (drop (suc i) (take j run) ++ (instant run j ∷ []))
+
+    there : Part (Counted A B D n) run → Holds (Counted A B D n) run
+    there x i j l b a t q =
+        T→≡ (ticksAt (instant run j) D) (counted-each A B D n (take j run) (instant run j) .0 (x .at-each j b) i
+        (omega (arith, length-take-le j run (le-of-lt b)))
+        (ap (λ (g : Filled). ticksAt g A) (getD-take j run i noInstant l) ∙ a)
+        (and-i (ticksAt (instant run j) B) (eqb (since i j) n) (≡→T t)
+        (subst (λ (m : ℕ). T (eqb (since i j) m)) (let e = ticks-between run B i j l b in let k : since i j ≡ n = omega arith in k) (eqb-refl (since i j)))))
+
+    back : Holds (Counted A B D n) run → (j : ℕ) → j < length run → T (countedAt A B D n (take j run) (instant run j))
+    back h j b = counted-each A B D n (take j run) (instant run j) .1 (λ i k a t.
+        let l : i < j = omega (arith, length-take-le j run (le-of-lt b)) in
+        let m : since i j ≡ n = eqb→eq (since i j) n (and-r (ticksAt (instant run j) B) (eqb (since i j) n) t) in
+        ≡→T (h i j l b (sym (ap (λ (g : Filled). ticksAt g A) (getD-take j run i noInstant l)) ∙ a)
+        (T→≡ (ticksAt (instant run j) B) (and-l (ticksAt (instant run j) B) (eqb (since i j) n) t))
+        (ticks-between run B i j l b ∙ ap (λ (c : ℕ). ticksBelow run B (suc i) + c) m)))
+
 pub line-law : (l : Line) (run : List Filled) → Part l run ↔ Holds l run
 line-law (Sporadic A B t) run = sporadic-law run A B t
 line-law (Relation A B p q) run = relation-law run A B p q
@@ -143,3 +197,4 @@ line-law (Delayed A B D d) run = delayed-law run A B D d
 line-law (Weakly A B) run = weakly-law run A B
 line-law (Strictly A B) run = strictly-law run A B
 line-law (Kills A B) run = kills-law run A B
+line-law (Counted A B D n) run = counted-law A B D n run

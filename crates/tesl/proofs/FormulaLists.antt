@@ -62,6 +62,12 @@ module _ {A : Type 0} where
       elim (p y) as (λ b. cond b (suc (count p (xs ++ (x ∷ [])))) (count p (xs ++ (x ∷ []))) ≡ cond (p x) 1 0 + cond b (suc (count p xs)) (count p xs))
       [ true ↦ omega (arith, count-snoc p xs x) | false ↦ count-snoc p xs x ]
 
+  pub count-append : (p : A → Bool) (xs ys : List A) → count p (xs ++ ys) ≡ count p xs + count p ys
+  count-append p [] ys = omega arith
+  count-append p (x ∷ xs) ys =
+      elim (p x) as (λ b. cond b (suc (count p (xs ++ ys))) (count p (xs ++ ys)) ≡ cond b (suc (count p xs)) (count p xs) + count p ys)
+      [ true ↦ omega (arith, count-append p xs ys) | false ↦ count-append p xs ys ]
+
   pub lastOf-snoc : {B : Type 0} (f : A → B) (xs : List A) (x : A) → lastOf (map f (xs ++ (x ∷ []))) ≡ some (f x)
   lastOf-snoc f [] x = refl
   lastOf-snoc f (y ∷ []) x = refl

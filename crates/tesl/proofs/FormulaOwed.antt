@@ -8,14 +8,14 @@ use native.Mathlib.Omega.{arith}
 use lib.Dec.{T, eqb→eq, eqb-refl}
 use lib.IntN.{ℤ, pos, negsuc}
 use lib.Signed.{leZ-yes}
-use lib.ListN.{length, getD, take, drop, length-drop}
-use lib.Seq.{take-suc, getD-drop}
+use lib.ListN.{length, getD, take, drop, length-drop, take-append-drop}
+use lib.Seq.{take-suc, take-take, getD-drop}
 use Rattle.tesl.specs.Lists.{any}
 use Rattle.tesl.specs.Run.{Filled, ticksAt}
 use Rattle.tesl.specs.Fits.{eqZ, lastTags, ticksIn, Obligation, meets}
 use Rattle.tesl.specs.Formula.{instant, Ticking, tag, ticksBelow, LastTagAtMost, noInstant}
 use Rattle.tesl.proofs.Tests.{and-l, and-r, and-i, or-l, or-r, or-e, T→≡, ≡→T}
-use Rattle.tesl.proofs.FormulaLists.{any-find, any-has, count-snoc}
+use Rattle.tesl.proofs.FormulaLists.{any-find, any-has, count-snoc, count-append}
 use Rattle.tesl.proofs.FormulaParts.{onTime, paid}
 
 -- ---- whole numbers
@@ -44,6 +44,18 @@ ticks-below run K (suc n) h =
 
 pub ticks-with : (run : List Filled) (K n : ℕ) → n < length run → ticksIn K (take n run ++ (instant run n ∷ [])) ≡ ticksBelow run K (suc n)
 ticks-with run K n h = ap (ticksIn K) (sym (take-suc run n noInstant h)) ∙ ticks-below run K (suc n) h
+
+-- from the instant after i up to and with j
+pub ticks-between : (run : List Filled) (K i j : ℕ) → i < j → j < length run
+    → ticksBelow run K (suc j) ≡ ticksBelow run K (suc i) + ticksIn K (drop (suc i) (take j run) ++ (instant run j ∷ []))
+ticks-between run K i j l h =
+    let p : Filled → Bool = λ f. ticksAt f K in
+    let before = take j run in
+    let here = instant run j ∷ [] in
+    let whole : ticksIn K before ≡ ticksIn K (take (suc i) before) + ticksIn K (drop (suc i) before) =
+    ap (ticksIn K) (sym (take-append-drop (suc i) before)) ∙ count-append p (take (suc i) before) (drop (suc i) before) in
+    let early : ticksIn K (take (suc i) before) ≡ ticksBelow run K (suc i) = ap (ticksIn K) (take-take (suc i) j run l) ∙ ticks-below run K (suc i) (omega arith) in
+    omega (arith, ticks-with run K j h, count-append p before here, count-append p (drop (suc i) before) here, whole, early)
 
 -- ---- an obligation: met from instant k on, or on time
 

@@ -10,7 +10,7 @@ use Rattle.tesl.specs.Run.{Instant, runFillings}
 use Rattle.tesl.specs.Fits.{fits}
 use Rattle.tesl.specs.Remainder.{Remainder, remainder, sameRemainder, overfull, isClear}
 
--- clear: some remainder has no obligation; else owed
+-- clear: some remainder has neither an obligation nor a countdown; else owed
 pub data Standing : Type 0 where
   clear owed : Standing
 
@@ -23,7 +23,7 @@ pub data Answer : Type 0 where
 unfoldable pub remainders : SheetValue → List Instant → List Remainder
 remainders s run = distinct sameRemainder (map (remainder s) (filter (fits s) (runFillings run)))
 
--- more distinct remainders than there is room for, or one with more than 8 obligations
+-- more distinct remainders than there is room for, or one with more than 8 obligations or more than 8 countdowns
 unfoldable pub tooMany : ℕ → List Remainder → Bool
 tooMany room rs = ltb room (length rs) || any overfull rs
 

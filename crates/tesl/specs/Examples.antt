@@ -1,4 +1,4 @@
--- The lift examples L1 to L11 of document 01, and four of our own (refused calls, 4,000 instants, the whole log, a product beyond 16 bits): one statement, a row each, by computation. Assumes nothing.
+-- The lift examples L1 to L11 of document 01, and our own (refused calls, 4,000 instants, the whole log, a product beyond 16 bits, a delay counted in ticks): one statement, a row each, by computation. Assumes nothing.
 use mathlib.Core.Bool.{Bool, true, false}
 use mathlib.Core.List.{List, [], _∷_, _++_, map}
 use mathlib.Core.Path.{_≡_, refl}
@@ -7,7 +7,7 @@ use lib.IntN.{ℤ, pos, negsuc}
 use Rattle.records.specs.declared.instant.Tick.{Tick}
 use Rattle.records.specs.declared.instant.Tick.the-variants.{Idle, Ticks, Unseen}
 use Rattle.records.specs.declared.line.Line.{Line}
-use Rattle.records.specs.declared.line.Line.the-variants.{Sporadic, Relation, Implies, Excludes, Delayed, Weakly, Strictly, Kills}
+use Rattle.records.specs.declared.line.Line.the-variants.{Sporadic, Relation, Implies, Excludes, Delayed, Weakly, Strictly, Kills, Counted}
 use Rattle.records.specs.Outcome.{taken, refused}
 use Rattle.records.specs.Lists.{joined}
 use Rattle.records.specs.Word.{signed, tagOf}
@@ -16,8 +16,8 @@ use Rattle.records.specs.Line.{lengthOf, clocksOf, lineOf}
 use Rattle.records.specs.Sheet.{SheetValue, readBy, readSheet}
 use Rattle.records.specs.Instant.{tickOf, rawCells, readInstant}
 use Rattle.tesl.specs.Run.{Instant, fillings, runFillings}
-use Rattle.tesl.specs.Fits.{fits}
-use Rattle.tesl.specs.Remainder.{remainder, sameRemainder, owes, overfull, isClear}
+use Rattle.tesl.specs.Fits.{Countdown, fits}
+use Rattle.tesl.specs.Remainder.{Remainder, remainder, sameRemainder, owes, counts, overfull, isClear}
 use Rattle.tesl.specs.Answer.{exhausted, broken, holding, clear, owed, remainders, tooMany, over, judged, answerWithin, answer}
 use Rattle.tesl.specs.Machine.{unlessFull, accepts, machine, session, judgeLog}
 
@@ -81,6 +81,40 @@ otherKind = 0x06 ∷ 0x00 ∷ 0x1F ∷ 0x00 ∷ 0x01 ∷ 0xFD ∷ 0xFF ∷ 0x00 
 
 abbrev tickThree : List ℕ
 tickThree = 0x06 ∷ 0x00 ∷ 0x20 ∷ 0x00 ∷ 0x03 ∷ 0xFD ∷ 0xFF ∷ 0x00 ∷ 0x00 ∷ 0x00 ∷ []
+
+-- a delay counted in ticks: a valve (clock 0), stroke pulses (clock 1) and a reading (clock 2), with a second valve (clock 3); all tags are 0
+abbrev lift4 : Tick → Tick → Tick → Tick → Instant
+lift4 a b d e =
+    record { tick = a; tag = pos 0 }
+    ∷ record { tick = b; tag = pos 0 }
+    ∷ record { tick = d; tag = pos 0 }
+    ∷ record { tick = e; tag = pos 0 }
+    ∷ []
+
+-- the valve moves; a pulse; a pulse with a reading
+abbrev moves : Instant
+moves = lift4 Ticks Idle Idle Idle
+
+abbrev pulse : Instant
+pulse = lift4 Idle Ticks Idle Idle
+
+abbrev pulseRead : Instant
+pulseRead = lift4 Idle Ticks Ticks Idle
+
+-- the reading on the n-th pulse after the valve moves
+abbrev onPulse : ℕ → SheetValue
+onPulse n = sheet 4 (Counted 0 1 2 n)
+
+-- each remainder's ticks still wanted
+abbrev stillWanted : SheetValue → List Instant → List (List ℕ)
+stillWanted s run = map (λ (r : Remainder). map (λ (c : Countdown). c .wanted) (r .countdowns)) (remainders s run)
+
+-- each tick of clock 0 counts clock 0's own ticks to 255; and begins a delay too
+abbrev ownTicks : Line
+ownTicks = Counted 0 0 1 255
+
+abbrev both : SheetValue
+both = record { clocks = 2; lines = Delayed 0 0 1 100 ∷ ownTicks ∷ [] }
 
 pub record Examples : Type 0 where
   -- raw 65533 is -3; 32767 is 32,767; 32768 is -32,768
@@ -159,9 +193,40 @@ pub record Examples : Type 0 where
   product :
       (fitting (sheet 2 (Relation 0 1 (pos 300) (pos 0))) (two Idle (pos 24464) Idle (pos 300) ∷ []) ≡ false ∷ [])
       × (answer (sheet 2 (Relation 0 1 (pos 300) (pos 0))) (two Idle (pos 24464) Idle (pos 300) ∷ []) ≡ broken)
+  -- the fourth pulse after the valve moves: owed until then, clear with a reading there, broken without; an early reading changes nothing, nor does a pulse at the move itself
+  fourth :
+      (answer (onPulse 4) (moves ∷ pulse ∷ pulse ∷ pulse ∷ []) ≡ holding 1 owed)
+      × (answer (onPulse 4) (moves ∷ pulse ∷ pulse ∷ pulse ∷ pulseRead ∷ []) ≡ holding 1 clear)
+      × (answer (onPulse 4) (moves ∷ pulse ∷ pulse ∷ pulse ∷ pulse ∷ []) ≡ broken)
+      × (stillWanted (onPulse 4) (moves ∷ pulse ∷ pulse ∷ pulseRead ∷ []) ≡ (1 ∷ []) ∷ [])
+      × (stillWanted (onPulse 4) (lift4 Ticks Ticks Idle Idle ∷ []) ≡ (4 ∷ []) ∷ [])
+  -- an unseen second pulse: without it one more is wanted, with it a reading is missed
+  unseenPulse :
+      (answer (onPulse 2) (moves ∷ pulse ∷ lift4 Idle Unseen Idle Idle ∷ []) ≡ holding 1 owed)
+      × (answer (onPulse 2) (moves ∷ pulse ∷ lift4 Idle Unseen Unseen Idle ∷ []) ≡ holding 2 clear)
+  -- the pulse itself is what is wanted (D = B): met when it comes
+  ownPulse :
+      (answer (sheet 4 (Counted 0 1 1 2)) (moves ∷ pulse ∷ []) ≡ holding 1 owed)
+      × (answer (sheet 4 (Counted 0 1 1 2)) (moves ∷ pulse ∷ pulse ∷ []) ≡ holding 1 clear)
+  -- the valve counts itself (A = B): its next move asks for a reading there, and begins another
+  ownMoves :
+      (answer (sheet 4 (Counted 0 0 2 1)) (moves ∷ lift4 Ticks Idle Ticks Idle ∷ []) ≡ holding 1 owed)
+      × (answer (sheet 4 (Counted 0 0 2 1)) (moves ∷ moves ∷ []) ≡ broken)
+  -- two that were begun apart and become equal count once
+  becomeEqual :
+      map counts (remainders (record { clocks = 4; lines = Counted 0 1 2 2 ∷ Counted 3 1 2 1 ∷ [] }) (moves ∷ lift4 Idle Ticks Idle Ticks ∷ [])) ≡ 1 ∷ []
+  -- the longest count
+  longest : stillWanted (onPulse 255) (moves ∷ pulse ∷ []) ≡ (254 ∷ []) ∷ []
+  -- eight counted ones hold, and eight and eight; nine counted ones are exhausted
+  eightAndEight :
+      (answer (sheet 2 ownTicks) eight ≡ holding 1 owed)
+      × (map owes (remainders both eight) ≡ 8 ∷ [])
+      × (map counts (remainders both eight) ≡ 8 ∷ [])
+      × (answer both eight ≡ holding 1 owed)
+      × (answer (sheet 2 ownTicks) (eight ++ (alone Ticks 9 ∷ [])) ≡ exhausted)
 
 pub examples : Examples
-unfolding signed isTorn front cut lengthOf clocksOf lineOf readBy tickOf rawCells readInstant fillings runFillings fits remainder sameRemainder owes overfull isClear remainders tooMany over judged answerWithin accepts machine session judgeLog
+unfolding signed isTorn front cut lengthOf clocksOf lineOf readBy tickOf rawCells readInstant fillings runFillings fits remainder sameRemainder owes counts overfull isClear remainders tooMany over judged answerWithin accepts machine session judgeLog
 examples = record {
   L1 = (refl, refl, refl);
   L2 = (refl, refl);
@@ -178,4 +243,11 @@ examples = record {
   full = (refl, refl, refl);
   log = (refl, refl, refl, refl, refl);
   product = (refl, refl);
+  fourth = (refl, refl, refl, refl, refl);
+  unseenPulse = (refl, refl);
+  ownPulse = (refl, refl);
+  ownMoves = (refl, refl);
+  becomeEqual = refl;
+  longest = refl;
+  eightAndEight = (refl, refl, refl, refl, refl);
 }

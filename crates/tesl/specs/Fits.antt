@@ -1,16 +1,16 @@
--- Document 01, 'When a filled run fits', clause by clause in its order.
+-- Document 01, 'When a filled run fits', clause by clause in its order; and document 02's delay counted in ticks.
 use mathlib.Core.Bool.{Bool, true, false, not, cond, _&&_, _||_}
 use mathlib.Core.List.{List, [], _∷_, _++_, map}
 use mathlib.Core.Option.{Option, none, some}
-use Prim.Native.Nat.{ℕ}
-use lib.Dec.{leb, eqb}
+use Prim.Native.Nat.{ℕ, _-_}
+use lib.Dec.{leb, ltb, eqb}
 use lib.IntN.{ℤ, pos, negsuc, _+ℤ_, _*ℤ_}
 use lib.Signed.{leZ}
 use Rattle.records.specs.declared.line.Line.{Line}
-use Rattle.records.specs.declared.line.Line.the-variants.{Sporadic, Relation, Implies, Excludes, Delayed, Weakly, Strictly, Kills}
-use Rattle.records.specs.Line.{ofSporadic, ofDelayed}
+use Rattle.records.specs.declared.line.Line.the-variants.{Sporadic, Relation, Implies, Excludes, Delayed, Weakly, Strictly, Kills, Counted}
+use Rattle.records.specs.Line.{ofSporadic, ofDelayed, ofCounted}
 use Rattle.records.specs.Sheet.{SheetValue}
-use Rattle.tesl.specs.Lists.{all, any, filter, count, lastOf, always, flatMap, below}
+use Rattle.tesl.specs.Lists.{all, any, filter, count, lastOf, always, flatMap, byLater, below}
 use Rattle.tesl.specs.Run.{Filled, ticksAt, tagIn, tagAt}
 
 -- equal whole numbers
@@ -35,7 +35,16 @@ noneFalls c (some was) now = below c (λ k. leZ (tagIn was k) (tagIn now k))
 abbrev pub ticksIn : ℕ → List Filled → ℕ
 ticksIn k run = count (λ (f : Filled). ticksAt f k) run
 
--- a line at the instant f, after the run `before`; a line that makes obligations asks nothing here
+-- at f B makes its n-th tick after an instant, `between` being the instants from the following one on
+abbrev pub nthTick : ℕ → ℕ → List Filled → Filled → Bool
+nthTick B n between f = ticksAt f B && eqb (ticksIn B (between ++ (f ∷ []))) n
+
+-- after each tick of A, D ticks at the instant at which B makes its n-th later tick; here of each tick of A before f
+abbrev pub countedAt : ℕ → ℕ → ℕ → ℕ → List Filled → Filled → Bool
+countedAt A B D n [] f = true
+countedAt A B D n (g ∷ between) f = (not (ticksAt g A && nthTick B n between f) || ticksAt f D) && countedAt A B D n between f
+
+-- a line at the instant f, after the run `before`; a line that makes obligations with a due asks nothing here
 abbrev pub holdsAt : Line → List Filled → Filled → Bool
 holdsAt (Relation A B p q) before f = eqZ (tagAt f A) (p *ℤ tagAt f B +ℤ q)
 holdsAt (Implies A B) before f = not (ticksAt f A) || ticksAt f B
@@ -45,6 +54,7 @@ holdsAt (Weakly A B) before f = leb (ticksIn B (before ++ (f ∷ []))) (ticksIn 
 holdsAt (Strictly A B) before f = leb (ticksIn B (before ++ (f ∷ []))) (ticksIn A before)
 holdsAt (Sporadic A B t) before f = true
 holdsAt (Delayed A B D d) before f = true
+holdsAt (Counted A B D n) before f = countedAt A B D n before f
 
 abbrev pub fitsAt : SheetValue → List Filled → Filled → Bool
 fitsAt s before f = noneFalls (s .clocks) (lastTags before) (f .tags) && all (λ (l : Line). holdsAt l before f) (s .lines)
@@ -75,8 +85,7 @@ unmetBy run os = filter (λ (o : Obligation). not (any (λ (f : Filled). meets f
 
 -- those begun in the run that no later instant than the one that began them meets
 abbrev pub unmetLater : List Line → List Filled → List Obligation
-unmetLater ls [] = []
-unmetLater ls (f ∷ later) = unmetBy later (flatMap (owedFrom f) ls) ++ unmetLater ls later
+unmetLater ls run = byLater (λ f later. unmetBy later (flatMap (owedFrom f) ls)) run
 
 -- the unmet obligations of a run
 abbrev pub unmet : List Line → List Filled → List Obligation
@@ -86,6 +95,30 @@ unmet ls run = unmetBy run (flatMap owedAtStart ls) ++ unmetLater ls run
 abbrev pub notLate : Option (List ℤ) → List Obligation → Bool
 notLate none os = true
 notLate (some now) os = all (λ (o : Obligation). leZ (tagIn now (o .on)) (o .due)) os
+
+-- ---- countdowns
+
+-- a tick that is owed by count: its clock, the clock that it is on, and how many ticks of that are still wanted, its own the last
+pub record Countdown : Type 0 where
+  pub clock : ℕ
+  pub on : ℕ
+  pub wanted : ℕ
+
+-- each tick of A of a counted line begins one
+abbrev pub countedFrom : Filled → Line → List Countdown
+countedFrom f l = ofCounted [] (λ A B D n. cond (ticksAt f A) (record { clock = D; on = B; wanted = n } ∷ []) []) l
+
+-- what later instants leave of one: each tick of its on-clock is one fewer wanted, and after the last nothing is left
+abbrev pub leftOf : List Filled → Countdown → List Countdown
+leftOf later c =
+    cond (ltb (ticksIn (c .on) later) (c .wanted)) (record { clock = c .clock; on = c .on; wanted = c .wanted - ticksIn (c .on) later } ∷ []) []
+
+abbrev pub leftBy : List Filled → List Countdown → List Countdown
+leftBy later cs = flatMap (leftOf later) cs
+
+-- those of a run: begun in it, and left by the instants from the following one on
+abbrev pub countdowns : List Line → List Filled → List Countdown
+countdowns ls run = byLater (λ f later. leftBy later (flatMap (countedFrom f) ls)) run
 
 -- ---- a filled run fits
 unfoldable pub fits : SheetValue → List Filled → Bool

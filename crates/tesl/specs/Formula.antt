@@ -1,4 +1,4 @@
--- TESL formula by formula, as the papers write it: quantifiers over the numbers of instants, in document 01's prefix reading (001: sporadic, relation, implies, time delayed; 000: excludes, precedes, kills).
+-- TESL formula by formula, as the papers write it: quantifiers over the numbers of instants, in document 01's prefix reading (001: sporadic, relation, implies, time delayed; 000: excludes, precedes, kills, delayed by a number of ticks).
 -- Nothing here is taken from the executable definitions of `Fits`.
 use mathlib.Core.Path.{_≡_}
 use mathlib.Core.Bool.{true, cond}
@@ -9,7 +9,7 @@ use lib.IntN.{ℤ, pos, _+ℤ_, _*ℤ_}
 use lib.Signed.{_≤ℤ_}
 use lib.ListN.{length, getD}
 use Rattle.records.specs.declared.line.Line.{Line}
-use Rattle.records.specs.declared.line.Line.the-variants.{Sporadic, Relation, Implies, Excludes, Delayed, Weakly, Strictly, Kills}
+use Rattle.records.specs.declared.line.Line.the-variants.{Sporadic, Relation, Implies, Excludes, Delayed, Weakly, Strictly, Kills, Counted}
 use Rattle.tesl.specs.Run.{Filled, ticksAt, tagAt}
 
 -- instant number n of a run, from 0; past its end no clock ticks
@@ -53,6 +53,9 @@ Holds (Weakly A B) run = (n : ℕ) → n < length run → ticksBelow run B (suc 
 Holds (Strictly A B) run = (n : ℕ) → n < length run → ticksBelow run B (suc n) ≤ ticksBelow run A n
 -- once A has ticked, B does not tick, at that instant or later
 Holds (Kills A B) run = (n m : ℕ) → n ≤ m → m < length run → Ticking run A n → Ticking run B m → ⊥
+-- where A ticks at i and B at a later j, and B has ticked n times from the instant after i up to and with j, D ticks at j
+Holds (Counted A B D n) run =
+    (i j : ℕ) → i < j → j < length run → Ticking run A i → Ticking run B j → ticksBelow run B (suc j) ≡ ticksBelow run B (suc i) + n → Ticking run D j
 
 -- no tag of the first C clocks falls
 abbrev pub NoneFalls : ℕ → List Filled → Type 0

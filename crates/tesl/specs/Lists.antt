@@ -57,6 +57,11 @@ module _ {A B : Type 0} where
   flatMap f [] = []
   flatMap f (x ∷ xs) = f x ++ flatMap f xs
 
+  -- what each element gives, by those after it
+  abbrev pub byLater : (A → List A → List B) → List A → List B
+  byLater f [] = []
+  byLater f (x ∷ later) = f x later ++ byLater f later
+
 -- p holds of each number below n
 abbrev pub below : ℕ → (ℕ → Bool) → Bool
 below zero p = true

@@ -1,5 +1,5 @@
--- Document 01, 'Remainder': what of a fitting filled run bears on the instants to come.
-use mathlib.Core.Bool.{Bool, false, _&&_, Bool·beq}
+-- Document 01, 'Remainder', and document 02's countdowns: what of a fitting filled run bears on the instants to come.
+use mathlib.Core.Bool.{Bool, false, _&&_, _||_, Bool·beq}
 use mathlib.Core.List.{List, map}
 use Prim.Native.Nat.{ℕ, _-_}
 use lib.Dec.{ltb, eqb}
@@ -9,11 +9,13 @@ use Rattle.records.specs.Line.{ofPrecedes, ofKills}
 use Rattle.records.specs.Sheet.{SheetValue}
 use Rattle.tesl.specs.Lists.{any, distinct, within, sameList, table}
 use Rattle.tesl.specs.Run.{Filled, ticksAt}
-use Rattle.tesl.specs.Fits.{eqZ, ticksIn, Obligation, unmet}
+use Rattle.tesl.specs.Fits.{eqZ, ticksIn, Obligation, unmet, Countdown, countdowns}
 
 pub record Remainder : Type 0 where
   -- the set of the unmet obligations
   pub owed : List Obligation
+  -- the set of the ticks that are owed by count
+  pub countdowns : List Countdown
   -- for each precedes line A's ticks minus B's; 0 for any other line
   pub leads : List ℕ
   -- for each clock, whether some kills line has stopped it
@@ -30,29 +32,44 @@ stops run k l = ofKills false (λ A B. eqb B k && any (λ (g : Filled). ticksAt 
 unfoldable pub remainder : SheetValue → List Filled → Remainder
 remainder s run = record {
   owed = unmet (s .lines) run;
+  countdowns = countdowns (s .lines) run;
   leads = map (leadOf run) (s .lines);
   stopped = table (s .clocks) (λ k. any (stops run k) (s .lines));
 }
 
--- ---- equality; equal obligations count once
+-- ---- equality; equal obligations count once, and so do equal countdowns
 
 abbrev pub sameObligation : Obligation → Obligation → Bool
 sameObligation a b = eqb (a .clock) (b .clock) && eqZ (a .due) (b .due) && eqb (a .on) (b .on)
+
+abbrev pub sameCountdown : Countdown → Countdown → Bool
+sameCountdown a b = eqb (a .clock) (b .clock) && eqb (a .wanted) (b .wanted) && eqb (a .on) (b .on)
+
+-- each of one set is in the other
+abbrev pub sameSets : {A : Type 0} → (A → A → Bool) → List A → List A → Bool
+sameSets same xs ys = within same xs ys && within same ys xs
 
 unfoldable pub sameRemainder : Remainder → Remainder → Bool
 sameRemainder a b =
     sameList eqb (a .leads) (b .leads)
     && (sameList Bool·beq (a .stopped) (b .stopped)
-    && (within sameObligation (a .owed) (b .owed) && within sameObligation (b .owed) (a .owed)))
+    && (sameSets sameObligation (a .owed) (b .owed) && sameSets sameCountdown (a .countdowns) (b .countdowns)))
 
--- how many obligations a remainder owes
+-- how many a set has
+abbrev pub distinctCount : {A : Type 0} → (A → A → Bool) → List A → ℕ
+distinctCount same xs = length (distinct same xs)
+
+-- how many obligations a remainder owes, and how many countdowns it has
 unfoldable pub owes : Remainder → ℕ
-owes r = length (distinct sameObligation (r .owed))
+owes r = distinctCount sameObligation (r .owed)
 
--- it owes more than 8
+unfoldable pub counts : Remainder → ℕ
+counts r = distinctCount sameCountdown (r .countdowns)
+
+-- it has more than 8 of either
 unfoldable pub overfull : Remainder → Bool
-overfull r = ltb 8 (owes r)
+overfull r = ltb 8 (owes r) || ltb 8 (counts r)
 
--- it owes nothing
+-- it owes nothing, neither by a due nor by count
 unfoldable pub isClear : Remainder → Bool
-isClear r = eqb (owes r) 0
+isClear r = eqb (owes r) 0 && eqb (counts r) 0

@@ -52,7 +52,7 @@ module _ (lines : List Instant → Instant → List ℕ) (s : SheetValue) where
 module _ (a b : ℕ) (k : 65704 ≤ a) (l : 177539 ≤ b) where
   text-front : (lines : SheetValue → List Instant → Instant → List ℕ) (sheet log : List ℕ) → IsBytes sheet → IsBytes log
       → walkedAll lines (callsOf (take b log)) (readSheet (take a sheet)) ≡ walkedAll lines (callsOf log) (readSheet sheet)
-  text-front lines sheet log d e = rw (read-front Rising 23 a sheet d k) (by-sheet (readSheet sheet))
+  text-front lines sheet log d e = rw (read-front Rising 24 a sheet d k) (by-sheet (readSheet sheet))
     where
       by-sheet : (o : Outcome SheetValue) → walkedAll lines (callsOf (take b log)) o ≡ walkedAll lines (callsOf log) o
       by-sheet (taken s) = log-front (lines s) s b log e l
@@ -65,4 +65,4 @@ module _ (a b : ℕ) (k : 65704 ≤ a) (l : 177539 ≤ b) where
   }
 
 pub sort-front-decides : (a : ℕ) → 65704 ≤ a → SortFrontDecides a
-sort-front-decides a k sheet text d s = let e = read-front Any 23 a sheet d k in record { refuses = λ n f. s .refuses n (e ∙ f); sorts = λ v f. s .sorts v (e ∙ f) }
+sort-front-decides a k sheet text d s = let e = read-front Any 24 a sheet d k in record { refuses = λ n f. s .refuses n (e ∙ f); sorts = λ v f. s .sorts v (e ∙ f) }

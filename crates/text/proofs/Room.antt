@@ -30,7 +30,7 @@ use Rattle.text.proofs.Walk.{walkedBy, walked, walkedAll, watchLines, c
 
 -- ---- lines
 
-pub refusal-short : (n : ℕ) → n ≤ 17 → length (refusalLine n) ≤ 11
+pub refusal-short : (n : ℕ) → n ≤ 18 → length (refusalLine n) ≤ 11
 unfolding line
 refusal-short n h = simp length-append (omega (arith, length-digits 1 n (omega arith)))
 
@@ -102,7 +102,7 @@ all-room lines w sheet calls each = by-sheet (readSheet sheet) refl
   where
     by-sheet : (o : Outcome SheetValue) → readSheet sheet ≡ o → length (walkedAll lines calls o) ≤ 4000 * w + 11
     by-sheet (taken s) e = walked-room (lines s) w s 4000 [] calls refl (each s)
-    by-sheet (refused n) e = omega (arith, refusal-short n (omega (arith, read-number Rising 23 sheet e)))
+    by-sheet (refused n) e = omega (arith, refusal-short n (omega (arith, read-number Rising 24 sheet e)))
 
 -- ---- *watch*
 

@@ -1,7 +1,7 @@
--- What a kind of line owes the theorems about steps: the four parts of its law; and each part for the kinds that have nothing of it. Assumes nothing.
-use mathlib.Core.Bool.{Bool, true, false, _||_}
+-- What a kind of line owes the theorems about steps: the five parts of its law; and each part for the kinds that have nothing of it. Assumes nothing.
+use mathlib.Core.Bool.{Bool, true, false, not, _||_}
 use mathlib.Core.List.{List, [], _∷_, _++_}
-use mathlib.Core.Path.{_≡_, sym, _∙_, subst}
+use mathlib.Core.Path.{_≡_, sym, ap, _∙_, subst}
 use Prim.Native.Nat.{ℕ, suc, _≤_, _<_}
 use native.Mathlib.Omega.{arith}
 use lib.Dec.{T, leb}
@@ -11,10 +11,11 @@ use Rattle.records.specs.Line.{isSporadic, kindOf, ofPrecedes}
 use Rattle.records.specs.Types.{IsTag, IsLineValue}
 use Rattle.tesl.specs.Lists.{all}
 use Rattle.tesl.specs.Run.{Filled, ticksAt, tagAt}
-use Rattle.tesl.specs.Fits.{ticksIn, holdsAt, Obligation, owedAtStart, owedFrom}
+use Rattle.tesl.specs.Fits.{ticksIn, holdsAt, Obligation, owedAtStart, owedFrom, countedFrom, countdowns}
 use Rattle.tesl.specs.Remainder.{leadOf, stops}
-use Rattle.theory.specs.Step.{bit, lineOk, nextLead, lineBelow}
-use Rattle.theory.specs.Limits.{dueOk, clocksOk}
+use Rattle.theory.specs.Step.{bit, lineOk, nextLead, misses, noneMissed, startedBy, lineBelow}
+use Rattle.theory.specs.Limits.{dueOk, clocksOk, countdownOk}
+use Rattle.theory.proofs.Countdowns.{none-begun}
 
 -- a precedes line's B has not ticked more often than its A, so that its lead is a difference
 abbrev pub ordered : List Filled → Line → Bool
@@ -42,16 +43,22 @@ pub record Owes (l : Line) : Type 0 where
   pub start-dues : IsLineValue l → T (all (λ (o : Obligation). dueOk (o .due)) (owedAtStart l))
   pub begun-dues : (f : Filled) → ((k : ℕ) → IsTag (tagAt f k)) → IsLineValue l → T (all (λ (o : Obligation). dueOk (o .due)) (owedFrom f l))
 
--- ---- the step asks of it what the definition asks, where no clock that it has stopped ticks
+-- ---- its countdowns: where it holds none is missed; their clocks, and 1 to 255 wanted
+pub record Counts (l : Line) : Type 0 where
+  pub none-missed : (run : List Filled) (f : Filled) → T (holdsAt l run f) → T (noneMissed f (countdowns (l ∷ []) run))
+  pub begun-limits : (c : ℕ) (f : Filled) → T (lineBelow c l) → IsLineValue l → T (all (countdownOk c) (startedBy f l))
+
+-- ---- the step asks of it what the definition asks, where no clock that it has stopped ticks and none of its countdowns is missed
 pub record Judged (l : Line) : Type 0 where
   pub asks : (run : List Filled) (f : Filled) → T (ordered run l) → T (holdsAt l run f) → T (lineOk f l (leadOf run l))
-  pub suffices : (run : List Filled) (f : Filled) → ((k : ℕ) → T (stops run k l) → T (ticksAt f k) → ⊥) → T (ordered run l)
+  pub suffices : (run : List Filled) (f : Filled) → ((k : ℕ) → T (stops run k l) → T (ticksAt f k) → ⊥) → T (noneMissed f (countdowns (l ∷ []) run)) → T (ordered run l)
       → T (lineOk f l (leadOf run l)) → T (holdsAt l run f)
 
 pub record Law (l : Line) : Type 0 where
   pub leads : Leads l
   pub stops : Stops l
   pub owes : Owes l
+  pub counts : Counts l
   pub judged : Judged l
 
 -- ---- a kind without the part
@@ -81,8 +88,14 @@ no-owed l e g = record {
   begun-dues = λ f t v. rw (g f) tt;
 }
 
+pub no-count : (l : Line) → ((f : Filled) → countedFrom f l ≡ []) → Counts l
+no-count l e = record {
+  none-missed = λ run f h. subst T (sym (none-begun (λ c. not (misses f c)) l e run)) tt;
+  begun-limits = λ c f w v. rw (e f) tt;
+}
+
 pub by-instant : (l : Line) → ((run : List Filled) (f : Filled) → lineOk f l (leadOf run l) ≡ holdsAt l run f) → Judged l
 by-instant l e = record {
   asks = λ run f o h. subst T (sym (e run f)) h;
-  suffices = λ run f q o h. subst T (e run f) h;
+  suffices = λ run f q m o h. subst T (e run f) h;
 }

@@ -4,14 +4,14 @@ pub mod Sets
 pub mod Members
 pub mod Adding
 pub mod Whole
--- What each kind of line gives: a law, and one for each kind.
+-- What each kind of line gives: countdowns, a law, and one for each kind.
+pub mod Countdowns
 pub mod Law
 pub mod LineKinds
 -- One instant more: the step theorem, what it cannot tell apart, the fillings, and the recursion over clocks.
 pub mod Owed
 pub mod Step
 pub mod Respect
-pub mod Tidy
 pub mod Fillings
 pub mod Fill
 -- What is held, what to answer from it, and its limits.
@@ -21,7 +21,7 @@ pub mod Limits
 pub mod Opened
 pub mod Accepted
 pub mod Tracks
--- The unmet obligations, with quantifiers.
+-- The unmet obligations and the countdowns, with quantifiers.
 pub mod Unmet
 -- Demand 2, for runs without unseen ticks.
 pub mod Seen

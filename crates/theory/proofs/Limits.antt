@@ -1,12 +1,12 @@
 -- The limits of a remainder (refusal 11): the step keeps them from any remainder and any held ones within them, and what is held after a run is within them, at most as many as there is room for with at most 8 obligations each, unless exhausted. Assumes nothing.
-use mathlib.Core.Bool.{Bool, not, _&&_, or-false}
+use mathlib.Core.Bool.{Bool, true, false, not, cond, _&&_, or-false}
 use mathlib.Core.List.{List, [], _∷_, _++_, map}
 use mathlib.Core.Logic.{_≢_}
 use mathlib.Core.Option.{Option}
 use mathlib.Core.Path.{_≡_, sym, ap, _∙_, subst}
-use Prim.Native.Nat.{ℕ, zero, suc}
+use Prim.Native.Nat.{ℕ, zero, suc, _-_, _<_}
 use native.Mathlib.Omega.{arith}
-use lib.Dec.{T, T-not, not-T, leb, leb→le, le→leb}
+use lib.Dec.{T, T-not, not-T, leb, ltb, leb→le, le→leb, ltb→lt}
 use lib.IntN.{ℤ}
 use lib.ListN.{length, length-append}
 use Rattle.records.specs.declared.line.Line.{Line}
@@ -14,19 +14,19 @@ use Rattle.records.specs.Sheet.{SheetValue}
 use Rattle.records.specs.Types.{All, IsTag, IsLineValue, IsInstant}
 use Rattle.tesl.specs.Lists.{all, any}
 use Rattle.tesl.specs.Run.{Instant, ticksOf, tagsOf, Filled, tagIn, tagAt, fillTicks, fillings, runFillings}
-use Rattle.tesl.specs.Fits.{Obligation, unmet, fits}
+use Rattle.tesl.specs.Fits.{Obligation, unmet, Countdown, ticksIn, leftOf, leftBy, fits}
 use Rattle.tesl.specs.Remainder.{Remainder, leadOf, remainder, sameRemainder, owes}
 use Rattle.tesl.specs.Answer.{exhausted, remainders, answerWithin}
-use Rattle.theory.specs.Step.{nextLead, nextLeads, nextOwed, next, stepOk, lastTagsOf, nexts, wellFormed}
-use Rattle.theory.specs.Limits.{dueOk, clocksOk, withinLimits, HeldLimits}
+use Rattle.theory.specs.Step.{nextLead, nextLeads, nextOwed, startedBy, begunCountdowns, nextCountdowns, next, stepOk, lastTagsOf, nexts, lineBelow, wellFormed}
+use Rattle.theory.specs.Limits.{dueOk, clocksOk, countdownOk, withinLimits, HeldLimits}
 use Rattle.theory.specs.Sets.{Covers}
 use Rattle.theory.specs.Held.{Held, successors}
 use Rattle.tesl.proofs.Tests.{and-l, and-r, and-i}
-use Rattle.theory.proofs.Lists.{any-map, any-flatMap, any-imp, none-any, all-as-any, snoc-ind, snoc-each}
+use Rattle.theory.proofs.Lists.{any-map, any-flatMap, any-imp, none-any, all-imp, all-as-any, all-flatMap, snoc-ind, snoc-each}
 use Rattle.theory.proofs.LineKinds.{law}
-use Rattle.theory.proofs.Owed.{start-all, next-all, start-clocks, next-clocks}
+use Rattle.theory.proofs.Owed.{append-i, start-all, next-all, start-clocks, next-clocks}
 use Rattle.theory.proofs.Sets.{any-covers, any-set, distinct-set}
-use Rattle.theory.proofs.Respect.{remainder-equivalence, alike, any-owed}
+use Rattle.theory.proofs.Respect.{owed-equality, count-equality, all-equal, remainder-equivalence, alike}
 use Rattle.theory.proofs.Fillings.{found, any-nexts, found-snoc}
 use Rattle.theory.proofs.Answers.{held-few}
 
@@ -47,30 +47,76 @@ leads-within f held (l ∷ ls) (m ∷ ms) t =
     (le→leb n (suc held) (law l .leads .grows f m held (leb→le m held (and-l (leb m held) small t))))
     (leads-within f held ls ms (and-r (leb m held) small t))
 
--- the limits cannot tell apart what is the same, however its obligations are kept
+-- what instants leave of a countdown within its limits is within them
+left-within : (c : ℕ) (later : List Filled) (x : Countdown) → T (countdownOk c x) → T (all (countdownOk c) (leftOf later x))
+left-within c later x t = by-test (ltb m (x .wanted)) (ltb→lt m (x .wanted))
+  where
+    m : ℕ
+    m = ticksIn (x .on) later
+
+    w : ℕ
+    w = x .wanted - m
+
+    clocks : Bool
+    clocks = ltb (x .clock) c && ltb (x .on) c
+
+    by-test : (b : Bool) → (T b → m < x .wanted) → T (all (countdownOk c) (cond b (record { clock = x .clock; on = x .on; wanted = w } ∷ []) []))
+    by-test true l =
+        let k = l tt in
+        let few = leb→le (x .wanted) 255 (and-r (leb 1 (x .wanted)) (leb (x .wanted) 255) (and-r clocks (leb 1 (x .wanted) && leb (x .wanted) 255) t)) in
+        and-i (clocks && (leb 1 w && leb w 255)) true
+        (and-i clocks (leb 1 w && leb w 255) (and-l clocks (leb 1 (x .wanted) && leb (x .wanted) 255) t) (and-i (leb 1 w) (leb w 255) (le→leb 1 w (omega arith)) (le→leb w 255 (omega arith)))) tt
+    by-test false l = tt
+
+-- the limits cannot tell apart what is the same, however its obligations and countdowns are kept
 pub same-within : (c held : ℕ) (a b : Remainder) → T (sameRemainder a b) → withinLimits c held a ≡ withinLimits c held b
 unfolding withinLimits
 same-within c held a b t =
     let h = alike a b t in
-    let test : (p : Obligation → Bool) → all p (a .owed) ≡ all p (b .owed) =
-    λ p. all-as-any p (a .owed) ∙ ap not (any-owed (λ o. not (p o)) (a .owed) (b .owed) (h .owed)) ∙ sym (all-as-any p (b .owed)) in
-    rw (test (clocksOk c), test (λ o. dueOk (o .due)), h .leads)
+    let test : (p : Obligation → Bool) → all p (a .owed) ≡ all p (b .owed) = λ p. all-equal owed-equality p (a .owed) (b .owed) (h .owed) in
+    rw (test (clocksOk c), test (λ o. dueOk (o .due)), all-equal count-equality (countdownOk c) (a .countdowns) (b .countdowns) (h .countdowns), h .leads)
 
 -- a sheet as it is read: clocks of lines below C, fields of their sizes
 module _ (s : SheetValue) (wf : T (wellFormed s)) (values : All IsLineValue (s .lines)) where
+  begun-within : (f : Filled) → T (all (countdownOk (s .clocks)) (begunCountdowns (s .lines) f))
+  begun-within f = each (s .lines) wf values
+    where
+      each : (ls : List Line) → T (all (lineBelow (s .clocks)) ls) → All IsLineValue ls → T (all (countdownOk (s .clocks)) (begunCountdowns ls f))
+      each [] w v = tt
+      each (l ∷ ls) w v =
+          append-i (countdownOk (s .clocks)) (startedBy f l) (begunCountdowns ls f)
+          (law l .counts .begun-limits (s .clocks) f (and-l (lineBelow (s .clocks) l) (all (lineBelow (s .clocks)) ls) w) (v .0))
+          (each ls (and-r (lineBelow (s .clocks) l) (all (lineBelow (s .clocks)) ls) w) (v .1))
+
+  countdowns-within : (f : Filled) (cs : List Countdown) → T (all (countdownOk (s .clocks)) cs) → T (all (countdownOk (s .clocks)) (nextCountdowns (s .lines) f cs))
+  countdowns-within f cs t =
+      let ok = countdownOk (s .clocks) in
+      append-i ok (leftBy (f ∷ []) cs) (begunCountdowns (s .lines) f)
+      (subst T (sym (all-flatMap ok (leftOf (f ∷ [])) cs)) (all-imp ok (λ (c : Countdown). all ok (leftOf (f ∷ []) c)) cs (left-within (s .clocks) (f ∷ [])) t))
+      (begun-within f)
+
   pub next-within : (f : Filled) → ((k : ℕ) → IsTag (tagAt f k)) → (held : ℕ) (r : Remainder)
       → T (withinLimits (s .clocks) held r) → T (withinLimits (s .clocks) (suc held) (next s f r))
   unfolding withinLimits next
   next-within f tags held r t =
+      let clocks = clocksOk (s .clocks) in
       let dues : Obligation → Bool = λ o. dueOk (o .due) in
-      let u = and-l (all (clocksOk (s .clocks)) (r .owed) && all dues (r .owed)) (all (λ (n : ℕ). leb n held) (r .leads)) t in
+      let counted = countdownOk (s .clocks) in
+      let small : ℕ → List ℕ → Bool = λ k. all (λ (n : ℕ). leb n k) in
+      let owed = all clocks (r .owed) && all dues (r .owed) in
+      let rest = all counted (r .countdowns) && small held (r .leads) in
+      let u = and-l owed rest t in
+      let v = and-r owed rest t in
       let after = nextOwed (s .lines) f (r .owed) in
+      let counts = nextCountdowns (s .lines) f (r .countdowns) in
       let leads = nextLeads (nextLead f) (s .lines) (r .leads) in
-      and-i (all (clocksOk (s .clocks)) after && all dues after) (all (λ (n : ℕ). leb n (suc held)) leads)
-      (and-i (all (clocksOk (s .clocks)) after) (all dues after)
-      (next-clocks (s .clocks) (s .lines) wf f (r .owed) (and-l (all (clocksOk (s .clocks)) (r .owed)) (all dues (r .owed)) u))
-      (next-all dues IsLineValue f (λ l v. law l .owes .begun-dues f tags v) (s .lines) values (r .owed) (and-r (all (clocksOk (s .clocks)) (r .owed)) (all dues (r .owed)) u)))
-      (leads-within f held (s .lines) (r .leads) (and-r (all (clocksOk (s .clocks)) (r .owed) && all dues (r .owed)) (all (λ (n : ℕ). leb n held) (r .leads)) t))
+      and-i (all clocks after && all dues after) (all counted counts && small (suc held) leads)
+      (and-i (all clocks after) (all dues after)
+      (next-clocks (s .clocks) (s .lines) wf f (r .owed) (and-l (all clocks (r .owed)) (all dues (r .owed)) u))
+      (next-all dues IsLineValue f (λ l v. law l .owes .begun-dues f tags v) (s .lines) values (r .owed) (and-r (all clocks (r .owed)) (all dues (r .owed)) u)))
+      (and-i (all counted counts) (small (suc held) leads)
+      (countdowns-within f (r .countdowns) (and-l (all counted (r .countdowns)) (small held (r .leads)) v))
+      (leads-within f held (s .lines) (r .leads) (and-r (all counted (r .countdowns)) (small held (r .leads)) v)))
 
   pub start-within : T (withinLimits (s .clocks) 0 (remainder s []))
   unfolding withinLimits remainder

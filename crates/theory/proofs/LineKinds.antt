@@ -7,17 +7,18 @@ use native.Mathlib.Omega.{arith}
 use lib.Dec.{T, T-not, not-T, leb, ltb, eqb, leb→le, le→leb, ltb→lt, eqb→eq, eqb-refl}
 use lib.IntN.{ℤ, pos, _+ℤ_}
 use Rattle.records.specs.declared.line.Line.{Line}
-use Rattle.records.specs.declared.line.Line.the-variants.{Sporadic, Relation, Implies, Excludes, Delayed, Weakly, Strictly, Kills}
+use Rattle.records.specs.declared.line.Line.the-variants.{Sporadic, Relation, Implies, Excludes, Delayed, Weakly, Strictly, Kills, Counted}
 use Rattle.records.specs.Line.{clocksOf}
 use Rattle.tesl.specs.Lists.{all, any}
 use Rattle.tesl.specs.Run.{Filled, ticksAt, tagAt}
-use Rattle.tesl.specs.Fits.{ticksIn, Obligation}
+use Rattle.tesl.specs.Fits.{ticksIn, Obligation, Countdown, leftBy}
 use Rattle.theory.specs.Step.{bit}
-use Rattle.theory.specs.Limits.{dueOk, clocksOk}
+use Rattle.theory.specs.Limits.{dueOk, clocksOk, countdownOk}
 use Rattle.tesl.proofs.Tests.{and-l, and-r, and-i, or-l, or-r, or-e}
 use Rattle.theory.proofs.Lists.{any-append, any-snoc, count-snoc}
 use Rattle.theory.proofs.Whole.{tag-due, delay-due}
-use Rattle.theory.proofs.Law.{Law, no-lead, no-stop, no-owed, by-instant}
+use Rattle.theory.proofs.Countdowns.{counted-asks}
+use Rattle.theory.proofs.Law.{Law, no-lead, no-stop, no-owed, no-count, by-instant}
 
 -- ---- sporadic: an obligation from the start
 
@@ -38,6 +39,7 @@ sporadic-law A B t = record {
     start-dues = λ v. and-i (dueOk t) true (tag-due t (v .2)) tt;
     begun-dues = λ f g v. tt;
   };
+  counts = no-count (Sporadic A B t) (λ f. refl);
   judged = by-instant (Sporadic A B t) (λ run f. refl);
 }
 
@@ -48,6 +50,7 @@ relation-law A B p q = record {
   leads = no-lead (Relation A B p q) (λ run. refl) (λ run. refl) (λ f n. refl);
   stops = no-stop (Relation A B p q) (λ run k. refl);
   owes = no-owed (Relation A B p q) refl (λ f. refl);
+  counts = no-count (Relation A B p q) (λ f. refl);
   judged = by-instant (Relation A B p q) (λ run f. refl);
 }
 
@@ -56,6 +59,7 @@ implies-law A B = record {
   leads = no-lead (Implies A B) (λ run. refl) (λ run. refl) (λ f n. refl);
   stops = no-stop (Implies A B) (λ run k. refl);
   owes = no-owed (Implies A B) refl (λ f. refl);
+  counts = no-count (Implies A B) (λ f. refl);
   judged = by-instant (Implies A B) (λ run f. refl);
 }
 
@@ -64,13 +68,14 @@ excludes-law A B = record {
   leads = no-lead (Excludes A B) (λ run. refl) (λ run. refl) (λ f n. refl);
   stops = no-stop (Excludes A B) (λ run k. refl);
   owes = no-owed (Excludes A B) refl (λ f. refl);
+  counts = no-count (Excludes A B) (λ f. refl);
   judged = by-instant (Excludes A B) (λ run f. refl);
 }
 
 -- ---- delayed: each tick of A begins an obligation
 
--- what holds of the one obligation holds of what a tick or none of A begins
-when-ticks : (p : Obligation → Bool) (b : Bool) (o : Obligation) → T (p o) → T (all p (cond b (o ∷ []) []))
+-- what holds of the one holds of what a tick or none of A begins
+when-ticks : {X : Type 0} (p : X → Bool) (b : Bool) (o : X) → T (p o) → T (all p (cond b (o ∷ []) []))
 when-ticks p true o t = and-i (p o) true t tt
 when-ticks p false o t = tt
 
@@ -89,6 +94,7 @@ delayed-law A B D d = record {
     start-dues = λ v. tt;
     begun-dues = λ f g v. when-ticks (λ (o : Obligation). dueOk (o .due)) (ticksAt f A) (begun f) (delay-due (tagAt f B) d (g B) (v .3));
   };
+  counts = no-count (Delayed A B D d) (λ f. refl);
   judged = by-instant (Delayed A B D d) (λ run f. refl);
 }
   where
@@ -119,10 +125,11 @@ weakly-law A B = record {
   };
   stops = no-stop (Weakly A B) (λ run k. refl);
   owes = no-owed (Weakly A B) refl (λ f. refl);
+  counts = no-count (Weakly A B) (λ f. refl);
   judged = record {
     asks = λ run f o h. le→leb (bit (ticksAt f B)) (ticksIn A run - ticksIn B run + bit (ticksAt f A))
         (omega (arith, leb→le (ticksIn B run) (ticksIn A run) o, leb→le (ticksIn B (run ++ (f ∷ []))) (ticksIn A (run ++ (f ∷ []))) h, ticksIn-snoc A run f, ticksIn-snoc B run f));
-    suffices = λ run f q o h. le→leb (ticksIn B (run ++ (f ∷ []))) (ticksIn A (run ++ (f ∷ [])))
+    suffices = λ run f q m o h. le→leb (ticksIn B (run ++ (f ∷ []))) (ticksIn A (run ++ (f ∷ [])))
         (omega (arith, leb→le (ticksIn B run) (ticksIn A run) o, leb→le (bit (ticksAt f B)) (ticksIn A run - ticksIn B run + bit (ticksAt f A)) h, ticksIn-snoc A run f, ticksIn-snoc B run f));
   };
 }
@@ -139,10 +146,11 @@ strictly-law A B = record {
   };
   stops = no-stop (Strictly A B) (λ run k. refl);
   owes = no-owed (Strictly A B) refl (λ f. refl);
+  counts = no-count (Strictly A B) (λ f. refl);
   judged = record {
     asks = λ run f o h. le→leb (bit (ticksAt f B)) (ticksIn A run - ticksIn B run)
         (omega (arith, leb→le (ticksIn B run) (ticksIn A run) o, leb→le (ticksIn B (run ++ (f ∷ []))) (ticksIn A run) h, ticksIn-snoc B run f));
-    suffices = λ run f q o h. le→leb (ticksIn B (run ++ (f ∷ []))) (ticksIn A run)
+    suffices = λ run f q m o h. le→leb (ticksIn B (run ++ (f ∷ []))) (ticksIn A run)
         (omega (arith, leb→le (ticksIn B run) (ticksIn A run) o, leb→le (bit (ticksAt f B)) (ticksIn A run - ticksIn B run) h, ticksIn-snoc B run f));
   };
 }
@@ -162,12 +170,13 @@ kills-law A B = record {
         (subst T (sym (any-snoc ticked run f)) (or-l (any ticked run) (ticked f) (and-r (eqb B k) (any ticked run) t))));
   };
   owes = no-owed (Kills A B) refl (λ f. refl);
+  counts = no-count (Kills A B) (λ f. refl);
   judged = record {
     asks = λ run f o h. not-T (ticksAt f B && ticked f)
         (λ t. T-not (ticksAt f B && any ticked (run ++ (f ∷ []))) h
         (and-i (ticksAt f B) (any ticked (run ++ (f ∷ []))) (and-l (ticksAt f B) (ticked f) t)
         (subst T (sym (any-snoc ticked run f)) (or-r (any ticked run) (ticked f) (and-r (ticksAt f B) (ticked f) t)))));
-    suffices = λ run f q o h. not-T (ticksAt f B && any ticked (run ++ (f ∷ [])))
+    suffices = λ run f q m o h. not-T (ticksAt f B && any ticked (run ++ (f ∷ [])))
         (λ t. let b = and-l (ticksAt f B) (any ticked (run ++ (f ∷ []))) t in
         or-e (any ticked run) (ticked f) (subst T (any-snoc ticked run f) (and-r (ticksAt f B) (any ticked (run ++ (f ∷ []))) t))
         (λ u. q B (and-i (eqb B B) (any ticked run) (eqb-refl B) u) b)
@@ -177,6 +186,38 @@ kills-law A B = record {
   where
     ticked : Filled → Bool
     ticked g = ticksAt g A
+
+-- ---- counted: each tick of A begins a countdown
+
+counted-law : (A B D n : ℕ) → Law (Counted A B D n)
+unfolding clocksOf
+counted-law A B D n = record {
+  leads = no-lead (Counted A B D n) (λ run. refl) (λ run. refl) (λ f k. refl);
+  stops = no-stop (Counted A B D n) (λ run k. refl);
+  owes = no-owed (Counted A B D n) refl (λ f. refl);
+  counts = record {
+    none-missed = λ run f h. subst T (counted-asks A B D n run f) h;
+    begun-limits = λ c f w v.
+        let u = and-r (ltb A c) (ltb B c && (ltb D c && true)) w in
+        begun c (ticksAt f A) (ltb 0 n) (ltb→lt 0 n) (v .3) (and-i (ltb D c) (ltb B c) (and-l (ltb D c) true (and-r (ltb B c) (ltb D c && true) u)) (and-l (ltb B c) (ltb D c && true) u));
+  };
+  judged = record {
+    asks = λ run f o h. tt;
+    suffices = λ run f q m o h. subst T (sym (counted-asks A B D n run f)) m;
+  };
+}
+  where
+    wanting : ℕ → Countdown
+    wanting k = record { clock = D; on = B; wanted = k }
+
+    begun : (c : ℕ) (a b : Bool) → (T b → 0 < n) → n < 256 → T (ltb D c && ltb B c) → T (all (countdownOk c) (leftBy [] (cond a (wanting n ∷ []) [])))
+    begun c true b l h w = by-test (ltb 0 n) (ltb→lt 0 n)
+      where
+        by-test : (x : Bool) → (T x → 0 < n) → T (all (countdownOk c) (cond x (wanting (n - 0) ∷ []) [] ++ []))
+        by-test true p = and-i (countdownOk c (wanting (n - 0))) true
+            (and-i (ltb D c && ltb B c) (leb 1 (n - 0) && leb (n - 0) 255) w (and-i (leb 1 (n - 0)) (leb (n - 0) 255) (let q = p tt in le→leb 1 (n - 0) (omega arith)) (le→leb (n - 0) 255 (omega arith)))) tt
+        by-test false p = tt
+    begun c false b l h w = tt
 
 -- ---- every line
 pub law : (l : Line) → Law l
@@ -188,3 +229,4 @@ law (Delayed A B D d) = delayed-law A B D d
 law (Weakly A B) = weakly-law A B
 law (Strictly A B) = strictly-law A B
 law (Kills A B) = kills-law A B
+law (Counted A B D n) = counted-law A B D n

@@ -10,7 +10,8 @@ use lib.Dec.{T}
 use lib.ListN.{getD}
 use Rattle.records.specs.Types.{All}
 use Rattle.tesl.proofs.Tests.{and-l, and-r, and-i, or-l, or-r, or-e}
-use Rattle.tesl.specs.Lists.{all, any, filter, count, lastOf, beginnings, always, flatMap, table}
+use Rattle.tesl.proofs.FormulaLists.{all-append}
+use Rattle.tesl.specs.Lists.{all, any, filter, count, lastOf, beginnings, always, flatMap, byLater, table}
 use Rattle.theory.specs.Step.{bit}
 
 -- ---- tests
@@ -197,3 +198,24 @@ module _ {A B : Type 0} where
   pub any-flatMap : (p : B → Bool) (f : A → List B) (xs : List A) → any p (flatMap f xs) ≡ any (λ x. any p (f x)) xs
   any-flatMap p f [] = refl
   any-flatMap p f (x ∷ xs) = any-append p (f x) (flatMap f xs) ∙ ap (λ (b : Bool). any p (f x) || b) (any-flatMap p f xs)
+
+  pub all-flatMap : (p : B → Bool) (f : A → List B) (xs : List A) → all p (flatMap f xs) ≡ all (λ x. all p (f x)) xs
+  all-flatMap p f [] = refl
+  all-flatMap p f (x ∷ xs) = all-append p (f x) (flatMap f xs) ∙ ap (λ (b : Bool). all p (f x) && b) (all-flatMap p f xs)
+
+  pub flatMap-append : (f : A → List B) (xs ys : List A) → flatMap f (xs ++ ys) ≡ flatMap f xs ++ flatMap f ys
+  flatMap-append f [] ys = refl
+  flatMap-append f (x ∷ xs) ys = ap (λ (l : List B). f x ++ l) (flatMap-append f xs ys) ∙ sym (append-assoc (f x) (flatMap f xs) (flatMap f ys))
+
+  -- one more at the end: what each gave is changed by K, and the new one gives what it gives with nothing after it
+  pub byLater-snoc : (g : A → List A → List B) (K : List B → List B) → K [] ≡ [] → ((xs ys : List B) → K (xs ++ ys) ≡ K xs ++ K ys) → (x : A)
+      → ((y : A) (later : List A) → g y (later ++ (x ∷ [])) ≡ K (g y later)) → (xs : List A) → byLater g (xs ++ (x ∷ [])) ≡ K (byLater g xs) ++ g x []
+  byLater-snoc g K e a x h [] = append-nil (g x []) ∙ sym (ap (λ (l : List B). l ++ g x []) e)
+  byLater-snoc g K e a x h (y ∷ xs) =
+      (λ i. h y xs i ++ byLater-snoc g K e a x h xs i)
+      ∙ sym (append-assoc (K (g y xs)) (K (byLater g xs)) (g x []))
+      ∙ ap (λ (l : List B). l ++ g x []) (sym (a (g y xs) (byLater g xs)))
+
+pub flatMap-flatMap : {A B C : Type 0} (g : B → List C) (f : A → List B) (xs : List A) → flatMap g (flatMap f xs) ≡ flatMap (λ x. flatMap g (f x)) xs
+flatMap-flatMap g f [] = refl
+flatMap-flatMap {C = C} g f (x ∷ xs) = flatMap-append g (f x) (flatMap f xs) ∙ ap (λ (l : List C). flatMap g (f x) ++ l) (flatMap-flatMap g f xs)

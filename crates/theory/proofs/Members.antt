@@ -1,14 +1,15 @@
--- What is among a list: of `flatMap`, `filter`, `distinct` and `beginnings`; and how many of a list are apart. Assumes nothing.
+-- What is among a list: of `flatMap`, `byLater`, `filter`, `distinct` and `beginnings`; and how many of a list are apart. Assumes nothing.
 use mathlib.Core.Bool.{Bool, true, false, not, cond}
 use mathlib.Core.List.{List, [], _∷_, _++_, map, List·Memᴰ, List·Memᴰ·head, List·Memᴰ·tail, List·Memᴰ·not-nil, List·Memᴰ·cases-cons, List·Memᴰ·append-cases, Memᴰ·append-left, Memᴰ·append-right}
 use mathlib.Core.Logic.{_⊎_, inl, inr, ⊎-elim}
 use mathlib.Core.Path.{_≡_, refl, sym, ap, _∙_, subst}
-use Prim.Native.Nat.{ℕ, zero, suc, _-_, _≤_}
+use Prim.Native.Nat.{ℕ, zero, suc, _-_, _≤_, _<_}
+use native.Mathlib.Nat.{le-of-suc-le-suc, not-suc-le-zero}
 use native.Mathlib.Omega.{arith}
 use lib.Dec.{T}
-use lib.ListN.{length, drop, length-drop}
+use lib.ListN.{length, getD, drop, length-drop}
 use Rattle.records.specs.Types.{All}
-use Rattle.tesl.specs.Lists.{any, filter, distinct, beginnings, flatMap}
+use Rattle.tesl.specs.Lists.{any, filter, distinct, beginnings, flatMap, byLater}
 use Rattle.theory.specs.Sets.{apart}
 use Rattle.tesl.proofs.Tests.{and-r, or-l, or-r, or-e}
 use Rattle.theory.proofs.Lists.{any-map, member-any, any-member}
@@ -26,6 +27,20 @@ module _ {A B : Type 0} where
       (λ (n : List·Memᴰ y (f x)). (x, List·Memᴰ·head refl, n))
       (λ (n : List·Memᴰ y (flatMap f xs)). let r = of-flatMap f xs n in (r .0, List·Memᴰ·tail (r .1), r .2))
       (List·Memᴰ·append-cases (f x) m)
+
+  -- what the element number n gives, by those after it
+  pub of-byLater : (f : A → List A → List B) (d : A) {y : B} (xs : List A) → List·Memᴰ y (byLater f xs) → (n : ℕ) × (n < length xs) × List·Memᴰ y (f (getD xs n d) (drop (suc n) xs))
+  of-byLater f d [] m = absurd (List·Memᴰ·not-nil m)
+  of-byLater f d {y} (x ∷ xs) m =
+      ⊎-elim
+      (λ (h : List·Memᴰ y (f x xs)). (0, omega arith, h))
+      (λ (h : List·Memᴰ y (byLater f xs)). let r = of-byLater f d xs h in (suc (r .0), omega (arith, r .1), r .2))
+      (List·Memᴰ·append-cases (f x xs) m)
+
+  pub mem-byLater : (f : A → List A → List B) (d : A) {y : B} (xs : List A) (n : ℕ) → n < length xs → List·Memᴰ y (f (getD xs n d) (drop (suc n) xs)) → List·Memᴰ y (byLater f xs)
+  mem-byLater f d [] n b m = absurd (not-suc-le-zero b)
+  mem-byLater f d (x ∷ xs) zero b m = Memᴰ·append-left (byLater f xs) m
+  mem-byLater f d (x ∷ xs) (suc n) b m = Memᴰ·append-right (f x xs) (mem-byLater f d xs n (le-of-suc-le-suc b) m)
 
   -- the distinct ones by a test of what h gives
   pub distinct-map : (same : B → B → Bool) (h : A → B) (xs : List A) → distinct same (map h xs) ≡ map h (distinct (λ x y. same (h x) (h y)) xs)

@@ -1,10 +1,10 @@
 -- A sheet that is read, and any within its own limits: 1 to 8 clocks, at most 16 lines and 8 sporadic ones, the clocks of lines below C; so the answer of opening is never exhausted. Assumes nothing.
 use mathlib.Core.Bool.{Bool, true, false, cond}
 use mathlib.Core.List.{List, [], _∷_, _++_, map, append-nil}
-use mathlib.Core.Path.{_≡_, _∙_, subst}
+use mathlib.Core.Path.{_≡_, refl, _∙_}
 use Prim.Native.Nat.{ℕ, suc, _+_, _≤_}
 use native.Mathlib.Omega.{arith}
-use lib.Dec.{T, not-T, leb, leb→le, ltb→lt}
+use lib.Dec.{T, not-T, leb, ltb, leb→le, ltb→lt}
 use lib.ListN.{length, length-append}
 use borrow.Author.Tests.{ltb-false, not-false}
 use Rattle.records.specs.declared.line.Line.{Line}
@@ -16,16 +16,16 @@ use Rattle.records.specs.Types.{All, IsBytes, IsSheet}
 use Rattle.records.proofs.Lists.{Passed, taken-passed}
 use Rattle.records.proofs.sheet.Passed.{Below, lines-passed}
 use Rattle.records.proofs.sheet.RoundTrip.{read-writes}
-use Rattle.tesl.specs.Lists.{all, flatMap, distinct}
+use Rattle.tesl.specs.Lists.{all, flatMap}
 use Rattle.tesl.specs.Fits.{owedAtStart, unmet}
-use Rattle.tesl.specs.Remainder.{Remainder, remainder, sameObligation, sameRemainder, owes, overfull}
+use Rattle.tesl.specs.Remainder.{Remainder, remainder, sameObligation, sameRemainder, owes, counts, overfull}
 use Rattle.tesl.specs.Answer.{answerWithin, judged}
 use Rattle.theory.specs.Step.{bit, lineBelow}
 use Rattle.theory.specs.Limits.{SheetLimits}
-use Rattle.tesl.proofs.Tests.{and-l, and-r, and-i, ≡→T}
+use Rattle.tesl.proofs.Tests.{and-l, and-r, and-i, or-e, ≡→T}
 use Rattle.theory.proofs.Lists.{filter-true}
 use Rattle.theory.proofs.LineKinds.{law}
-use Rattle.theory.proofs.Sets.{distinct-set, distinct-apart, length-le}
+use Rattle.theory.proofs.Sets.{number-most}
 use Rattle.theory.proofs.Respect.{owed-equivalence, overfull-respects}
 use Rattle.theory.proofs.Answers.{answer-start}
 
@@ -70,10 +70,18 @@ unfolding owes remainder
 opening-owes s h =
     let start = flatMap owedAtStart (s .lines) in
     let e : unmet (s .lines) [] ≡ start = append-nil _ ∙ filter-true start in
-    let le = length-le sameObligation owed-equivalence (distinct sameObligation start) start (distinct-apart sameObligation owed-equivalence start)
-    (λ o t. subst T (distinct-set sameObligation owed-equivalence start o) t) in
+    let le = number-most sameObligation owed-equivalence start in
     rw e (omega (arith, start-owes (s .lines), h .sporadics-most))
+
+-- no countdown
+opening-counts : (s : SheetValue) → counts (remainder s []) ≡ 0
+unfolding counts remainder
+opening-counts s = refl
 
 pub opening-answer : (room : ℕ) → 1 ≤ room → (s : SheetValue) → SheetLimits s → (r : Remainder) → T (sameRemainder r (remainder s [])) → answerWithin room s [] ≡ judged (r ∷ [])
 unfolding overfull
-opening-answer room one s h r e = answer-start room one s r e (not-T (overfull r) (λ t. let k = ltb→lt 8 (owes (remainder s [])) (overfull-respects r (remainder s []) e t) in absurd (omega (arith, opening-owes s h))))
+opening-answer room one s h r e =
+    let start = remainder s [] in
+    answer-start room one s r e (not-T (overfull r) (λ t. or-e (ltb 8 (owes start)) (ltb 8 (counts start)) (overfull-respects r start e t)
+    (λ u. let k = ltb→lt 8 (owes start) u in absurd (omega (arith, opening-owes s h)))
+    (λ u. let k = ltb→lt 8 (counts start) u in absurd (omega (arith, opening-counts s)))))

@@ -1,6 +1,6 @@
 -- Obligations of a run with one more instant: those that it leaves unmet and those that it begins; what any test says of them; what isn't late after it wasn't late before. Assumes nothing.
 use mathlib.Core.Bool.{Bool, true, false, not, _&&_, _||_, Bool·not-not}
-use mathlib.Core.List.{List, [], _∷_, _++_, append-assoc, append-nil}
+use mathlib.Core.List.{List, [], _∷_, _++_, append-assoc}
 use mathlib.Core.Option.{Option, none, some}
 use mathlib.Core.Path.{_≡_, refl, sym, ap, _∙_, subst, fun-ext}
 use Prim.Native.Nat.{ℕ}
@@ -17,7 +17,7 @@ use Rattle.theory.specs.Limits.{clocksOk}
 use Rattle.tesl.proofs.Tests.{and-l, and-r, and-i, or-e}
 use Rattle.tesl.proofs.FormulaLists.{all-append, below-at}
 use Rattle.tesl.proofs.FormulaOwed.{eqZ→eq}
-use Rattle.theory.proofs.Lists.{any-snoc, filter-append, filter-filter, filter-true, snoc-ind, all-imp, all-filter, filter-all, all-both}
+use Rattle.theory.proofs.Lists.{any-snoc, filter-append, filter-filter, filter-true, byLater-snoc, snoc-ind, all-imp, all-filter, filter-all, all-both}
 use Rattle.theory.proofs.Whole.{leZ-trans}
 use Rattle.theory.proofs.LineKinds.{law}
 
@@ -34,26 +34,23 @@ unmetBy-snoc run f os =
     (fun-ext (λ o. ap not (any-snoc (λ (g : Filled). meets g o) run f) ∙ not-or (any (λ (g : Filled). meets g o) run) (meets f o)))
     ∙ sym (filter-filter (λ (o : Obligation). not (meets f o)) (λ (o : Obligation). not (any (λ (g : Filled). meets g o) run)) os)
 
--- of two parts, each left with what f doesn't meet
-regroup : (ls : List Line) (f : Filled) (xs ys : List Obligation)
-    → filter (λ (o : Obligation). not (meets f o)) xs ++ nextOwed ls f ys ≡ nextOwed ls f (xs ++ ys)
-regroup ls f xs ys =
-    let p : Obligation → Bool = λ o. not (meets f o) in
-    sym (append-assoc (filter p xs) (filter p ys) (flatMap (owedFrom f) ls))
-    ∙ ap (λ (l : List Obligation). l ++ flatMap (owedFrom f) ls) (sym (filter-append p xs ys))
-
 unmetLater-snoc : (ls : List Line) (run : List Filled) (f : Filled) → unmetLater ls (run ++ (f ∷ [])) ≡ nextOwed ls f (unmetLater ls run)
-unmetLater-snoc ls [] f = append-nil (unmetBy [] (flatMap (owedFrom f) ls)) ∙ filter-true (flatMap (owedFrom f) ls)
-unmetLater-snoc ls (g ∷ run) f =
-    rw (unmetBy-snoc run f (flatMap (owedFrom g) ls), unmetLater-snoc ls run f) (regroup ls f (unmetBy run (flatMap (owedFrom g) ls)) (unmetLater ls run))
+unmetLater-snoc ls run f =
+    byLater-snoc (λ g later. unmetBy later (flatMap (owedFrom g) ls)) (filter (λ (o : Obligation). not (meets f o))) refl (filter-append (λ (o : Obligation). not (meets f o))) f
+    (λ g later. unmetBy-snoc later f (flatMap (owedFrom g) ls)) run
+    ∙ ap (λ (os : List Obligation). filter (λ (o : Obligation). not (meets f o)) (unmetLater ls run) ++ os) (filter-true (flatMap (owedFrom f) ls))
 
 pub unmet-snoc : (ls : List Line) (run : List Filled) (f : Filled) → unmet ls (run ++ (f ∷ [])) ≡ nextOwed ls f (unmet ls run)
 unmet-snoc ls run f =
-    rw (unmetBy-snoc run f (flatMap owedAtStart ls), unmetLater-snoc ls run f) (regroup ls f (unmetBy run (flatMap owedAtStart ls)) (unmetLater ls run))
+    let kept : Obligation → Bool = λ o. not (meets f o) in
+    let start = flatMap owedAtStart ls in
+    (λ i. unmetBy-snoc run f start i ++ unmetLater-snoc ls run f i)
+    ∙ sym (append-assoc (filter kept (unmetBy run start)) (filter kept (unmetLater ls run)) (flatMap (owedFrom f) ls))
+    ∙ ap (λ (l : List Obligation). l ++ flatMap (owedFrom f) ls) (sym (filter-append kept (unmetBy run start) (unmetLater ls run)))
 
 -- ---- a test that passes of what each line owes at the start and begins passes of what is unmet
 
-append-i : (p : Obligation → Bool) (xs ys : List Obligation) → T (all p xs) → T (all p ys) → T (all p (xs ++ ys))
+pub append-i : {A : Type 0} (p : A → Bool) (xs ys : List A) → T (all p xs) → T (all p ys) → T (all p (xs ++ ys))
 append-i p xs ys s t = subst T (sym (all-append p xs ys)) (and-i (all p xs) (all p ys) s t)
 
 module _ (p : Obligation → Bool) (P : Line → Type 0) where
@@ -73,7 +70,7 @@ module _ (p : Obligation → Bool) (P : Line → Type 0) where
       (filter-all p (λ (o : Obligation). not (meets f o)) os t)
       (of-lines (owedFrom f) h ls w)
 
-lines-below : (c : ℕ) (ls : List Line) → T (all (lineBelow c) ls) → All (λ (l : Line). T (lineBelow c l)) ls
+pub lines-below : (c : ℕ) (ls : List Line) → T (all (lineBelow c) ls) → All (λ (l : Line). T (lineBelow c l)) ls
 lines-below c [] w = tt
 lines-below c (l ∷ ls) w = (and-l (lineBelow c l) (all (lineBelow c) ls) w, lines-below c ls (and-r (lineBelow c l) (all (lineBelow c) ls) w))
 

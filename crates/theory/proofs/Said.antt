@@ -14,20 +14,20 @@ use Rattle.records.specs.Sheet.{SheetValue}
 use Rattle.records.specs.Types.{All}
 use Rattle.tesl.specs.Lists.{any, filter, distinct, beginnings}
 use Rattle.tesl.specs.Run.{Instant, ticksOf, tagsOf, Filled, fillTicks, fillings, runFillings}
-use Rattle.tesl.specs.Fits.{Obligation, unmet, fits}
-use Rattle.tesl.specs.Remainder.{Remainder, remainder, sameRemainder, sameObligation, owes, overfull, isClear}
+use Rattle.tesl.specs.Fits.{unmet, countdowns, fits}
+use Rattle.tesl.specs.Remainder.{Remainder, remainder, sameRemainder, sameObligation, sameCountdown, distinctCount, owes, counts, overfull, isClear}
 use Rattle.tesl.specs.Answer.{Standing, clear, owed, Answer, exhausted, broken, holding, remainders, tooMany, over, standing, judged, verdict, answerWithin}
 use Rattle.theory.specs.Sets.{apart}
-use Rattle.theory.specs.Unmet.{Unmet, NoneUnmet}
-use Rattle.theory.specs.Said.{Along, TickAs, FillsInstant, Fills, Fitting, sameLeft, Leaves, Live, Owing, TooMany, Exhausts, Said}
+use Rattle.theory.specs.Unmet.{Unmet, Counting, NoneOwed}
+use Rattle.theory.specs.Said.{Along, TickAs, FillsInstant, Fills, Fitting, sameLeft, Leaves, Live, Having, Owing, CountingDown, TooMany, Exhausts, Said}
 use Rattle.tesl.proofs.Tests.{or-l, or-r, or-e}
 use Rattle.tesl.proofs.Formula.{fits-holds}
 use Rattle.theory.proofs.Lists.{any-map, member-any, any-member}
 use Rattle.theory.proofs.Members.{mem-flatMap, of-flatMap, distinct-map, mem-filter, of-filter, of-distinct, each-of, of-each, no-more, some-of, of-beginnings, a-beginning}
 use Rattle.theory.proofs.Sets.{Equivalence, distinct-set, distinct-apart}
-use Rattle.theory.proofs.Respect.{owed-equivalence, remainder-equivalence, overfull-respects, clear-respects}
-use Rattle.theory.proofs.Unmet.{unmet-listed, none-unmet}
-use Rattle.theory.proofs.Seen.{none-owed, clear-when}
+use Rattle.theory.proofs.Respect.{owed-equivalence, count-equivalence, remainder-equivalence, overfull-respects, clear-respects}
+use Rattle.theory.proofs.Unmet.{unmet-listed, countdowns-listed}
+use Rattle.theory.proofs.Seen.{clear-exactly, clear-when, clear-of}
 
 -- ---- the fillings of a run are those listed
 
@@ -149,21 +149,30 @@ leaves-number s run n = (
       record { these = r .0; number = r .1; each-fits = r .2; no-two = r .3 },
 )
 
-owing-number : (s : SheetValue) (run : List Instant) (n : ℕ) → Owing s run n ↔ ((f : List Filled) × Fitting s run f × (n ≤ owes (remainder s f)))
-unfolding remainder owes
-owing-number s run n = (
+-- of a kind that is listed for each filled run
+having-number : {A : Type 0} (same : A → A → Bool) → Equivalence same → (s : SheetValue) (run : List Instant) (Of : List Filled → A → Type 0) (list : List Filled → List A)
+    → ((f : List Filled) (x : A) → List·Memᴰ x (list f) ↔ Of f x) → (n : ℕ) → Having same Of s run n ↔ ((f : List Filled) × Fitting s run f × (n ≤ distinctCount same (list f)))
+having-number same E s run Of list listed n = (
   λ w.
-      let os = unmet (s .lines) (w .filling) in
-      let k = no-more sameObligation owed-equivalence (w .these) (distinct sameObligation os) (w .no-two)
-      (λ o m. any-member (sameObligation o) (distinct sameObligation os)
-      (subst T (sym (distinct-set sameObligation owed-equivalence os o)) (member-any (sameObligation o) (unmet-listed (s .lines) (w .filling) o .1 (of-each (Unmet (s .lines) (w .filling)) (w .each-unmet) m)) (owed-equivalence .reflex o)))) in
+      let xs = list (w .filling) in
+      let k = no-more same E (w .these) (distinct same xs) (w .no-two)
+      (λ x m. any-member (same x) (distinct same xs)
+      (subst T (sym (distinct-set same E xs x)) (member-any (same x) (listed (w .filling) x .1 (of-each (Of (w .filling)) (w .each) m)) (E .reflex x)))) in
       (w .filling, w .fits, omega (arith, w .number)),
   λ h.
-      let os = unmet (s .lines) (h .0) in
-      let r = some-of sameObligation (Unmet (s .lines) (h .0)) (distinct sameObligation os) n (h .2)
-      (each-of (Unmet (s .lines) (h .0)) (distinct sameObligation os) (λ o m. unmet-listed (s .lines) (h .0) o .0 (of-distinct sameObligation os m))) (distinct-apart sameObligation owed-equivalence os) in
-      record { filling = h .0; fits = h .1; these = r .0; number = r .1; each-unmet = r .2; no-two = r .3 },
+      let xs = list (h .0) in
+      let r = some-of same (Of (h .0)) (distinct same xs) n (h .2)
+      (each-of (Of (h .0)) (distinct same xs) (λ x m. listed (h .0) x .0 (of-distinct same xs m))) (distinct-apart same E xs) in
+      record { filling = h .0; fits = h .1; these = r .0; number = r .1; each = r .2; no-two = r .3 },
 )
+
+owing-number : (s : SheetValue) (run : List Instant) (n : ℕ) → Owing s run n ↔ ((f : List Filled) × Fitting s run f × (n ≤ owes (remainder s f)))
+unfolding remainder owes
+owing-number s run n = having-number sameObligation owed-equivalence s run (Unmet (s .lines)) (unmet (s .lines)) (unmet-listed (s .lines)) n
+
+counting-number : (s : SheetValue) (run : List Instant) (n : ℕ) → CountingDown s run n ↔ ((f : List Filled) × Fitting s run f × (n ≤ counts (remainder s f)))
+unfolding remainder counts
+counting-number s run n = having-number sameCountdown count-equivalence s run (Counting (s .lines)) (countdowns (s .lines)) (countdowns-listed (s .lines)) n
 
 -- ---- exhausted
 
@@ -188,17 +197,29 @@ too-many room s run = (found, tested)
         (λ u. let l = ltb→lt room (length rs) u in inl (leaves-number s run _ .1 (omega (arith, as-many))))
         (λ u.
         let m = any-member (λ (f : List Filled). overfull (remainder s f)) ks (subst T all-owed u) in
-        let l = ltb→lt 8 (owes (remainder s (m .0))) (m .2) in
-        inr (owing-number s run _ .1 (m .0, of-each (Fitting s run) (kept-fits s run) (m .1), omega arith)))
+        let r = remainder s (m .0) in
+        let fits = of-each (Fitting s run) (kept-fits s run) (m .1) in
+        inr (or-e (ltb 8 (owes r)) (ltb 8 (counts r)) (m .2)
+        (λ v. let l = ltb→lt 8 (owes r) v in inl (owing-number s run _ .1 (m .0, fits, omega arith)))
+        (λ v. let l = ltb→lt 8 (counts r) v in inr (counting-number s run _ .1 (m .0, fits, omega arith)))))
+
+    -- a fitting filling with too many is one of those kept
+    one-kept : (f : List Filled) → Fitting s run f → T (overfull (remainder s f)) → T (tooMany room rs)
+    one-kept f h t =
+        let g = kept-all s run f h in
+        or-r (ltb room (length rs)) (any overfull rs)
+        (subst T (sym all-owed) (member-any (λ (f : List Filled). overfull (remainder s f)) (g .1) (overfull-respects (remainder s f) (remainder s (g .0)) (g .2) t)))
 
     tested : TooMany room s run → T (tooMany room rs)
     tested (inl h) = let l = leaves-number s run _ .0 h in or-l (ltb room (length rs)) (any overfull rs) (lt→ltb room (length rs) (omega (arith, as-many)))
-    tested (inr h) =
+    tested (inr (inl h)) =
         let w = owing-number s run _ .0 h in
-        let g = kept-all s run (w .0) (w .1) in
-        or-r (ltb room (length rs)) (any overfull rs)
-        (subst T (sym all-owed) (member-any (λ (f : List Filled). overfull (remainder s f)) (g .1)
-        (overfull-respects (remainder s (w .0)) (remainder s (g .0)) (g .2) (lt→ltb 8 (owes (remainder s (w .0))) (omega (arith, w .2))))))
+        let r = remainder s (w .0) in
+        one-kept (w .0) (w .1) (or-l (ltb 8 (owes r)) (ltb 8 (counts r)) (lt→ltb 8 (owes r) (omega (arith, w .2))))
+    tested (inr (inr h)) =
+        let w = counting-number s run _ .0 h in
+        let r = remainder s (w .0) in
+        one-kept (w .0) (w .1) (or-r (ltb 8 (owes r)) (ltb 8 (counts r)) (lt→ltb 8 (counts r) (omega (arith, w .2))))
 
 exhausts-exactly : (room : ℕ) (s : SheetValue) (run : List Instant) → T (over room s run) ↔ Exhausts room s run
 unfolding over
@@ -212,21 +233,15 @@ exhausts-exactly room s run = (
 
 -- ---- clear
 
-clear-of : (b : Bool) → T b → cond b clear owed ≡ clear
-clear-of true t = refl
-clear-of false t = absurd t
-
-clear-exactly : (s : SheetValue) (run : List Instant) → (standing (map (remainder s) (kept s run)) ≡ clear) ↔ ((f : List Filled) × Fitting s run f × NoneUnmet (s .lines) f)
-unfolding remainder owes isClear
-clear-exactly s run = (
+clear-found : (s : SheetValue) (run : List Instant) → (standing (map (remainder s) (kept s run)) ≡ clear) ↔ ((f : List Filled) × Fitting s run f × NoneOwed (s .lines) f)
+clear-found s run = (
   λ e.
       let m = any-member (λ (f : List Filled). isClear (remainder s f)) ks (subst T (any-map isClear (remainder s) ks) (clear-when (any isClear (map (remainder s) ks)) e)) in
-      (m .0, of-each (Fitting s run) (kept-fits s run) (m .1), none-unmet (s .lines) (m .0) .0 (none-owed (unmet (s .lines) (m .0)) (eqb→eq (owes (remainder s (m .0))) 0 (m .2)))),
+      (m .0, of-each (Fitting s run) (kept-fits s run) (m .1), clear-exactly s (m .0) .0 (m .2)),
   λ h.
       let g = kept-all s run (h .0) (h .1) in
-      let e : T (isClear (remainder s (h .0))) = subst (λ (os : List Obligation). T (eqb (length (distinct sameObligation os)) 0)) (sym (none-unmet (s .lines) (h .0) .1 (h .2))) tt in
       clear-of (any isClear (map (remainder s) ks)) (subst T (sym (any-map isClear (remainder s) ks))
-      (member-any (λ (f : List Filled). isClear (remainder s f)) (g .1) (clear-respects (remainder s (h .0)) (remainder s (g .0)) (g .2) e))),
+      (member-any (λ (f : List Filled). isClear (remainder s f)) (g .1) (clear-respects (remainder s (h .0)) (remainder s (g .0)) (g .2) (clear-exactly s (h .0) .1 (h .2))))),
 )
   where
     ks : List (List Filled)
@@ -238,10 +253,10 @@ pub answer-said : (room : ℕ) (s : SheetValue) (run : List Instant) → Said ro
 unfolding answerWithin judged
 answer-said room s run =
     subst (λ (rs : List Remainder). Said room s run (verdict (over room s run) rs)) (sym (remainders-kept s run))
-    (by-test (over room s run) (kept s run) (exhausts-exactly room s run) (record { leaves = record { these = kept s run; number = refl; each-fits = kept-fits s run; no-two = kept-apart s run }; no-other = kept-all s run }) refl (clear-exactly s run))
+    (by-test (over room s run) (kept s run) (exhausts-exactly room s run) (record { leaves = record { these = kept s run; number = refl; each-fits = kept-fits s run; no-two = kept-apart s run }; no-other = kept-all s run }) refl (clear-found s run))
   where
     Clear : Standing → Type 0
-    Clear st = (st ≡ clear) ↔ ((f : List Filled) × Fitting s run f × NoneUnmet (s .lines) f)
+    Clear st = (st ≡ clear) ↔ ((f : List Filled) × Fitting s run f × NoneOwed (s .lines) f)
 
     by-test : (b : Bool) (ks : List (List Filled)) → T b ↔ Exhausts room s run → (l : Live s run (length ks)) → l .leaves .these ≡ ks → Clear (standing (map (remainder s) ks))
         → Said room s run (verdict b (map (remainder s) ks))

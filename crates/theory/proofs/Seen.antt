@@ -1,9 +1,9 @@
--- Runs without unseen ticks: there is one filling, the answer is broken exactly when TESL's formulas fail for it, and else it is holding with live 1, clear exactly when no obligation is unmet.
+-- Runs without unseen ticks: there is one filling, the answer is broken exactly when TESL's formulas fail for it, and else it is holding with live 1, clear exactly when nothing is owed.
 -- And in a fitting run no precedes line has B ahead of A. Assumes nothing.
-use mathlib.Core.Bool.{Bool, true, false, cond, _||_}
+use mathlib.Core.Bool.{Bool, true, false, cond, _&&_, _||_}
 use mathlib.Core.List.{List, [], _∷_, _++_, map}
 use mathlib.Core.Logic.{_↔_, _≢_, Iff·trans}
-use mathlib.Core.Path.{_≡_, refl, sym, ap, _∙_}
+use mathlib.Core.Path.{_≡_, refl, sym, ap, _∙_, subst}
 use Prim.Native.Nat.{ℕ, zero, suc, _≤_}
 use native.Mathlib.Nat.{le-refl}
 use native.Mathlib.Omega.{arith}
@@ -11,23 +11,23 @@ use lib.Dec.{T, eqb, eqb→eq}
 use lib.ListN.{length}
 use lib.Seq.{take-length}
 use Rattle.records.specs.declared.line.Line.{Line}
-use Rattle.records.specs.declared.line.Line.the-variants.{Sporadic, Relation, Implies, Excludes, Delayed, Weakly, Strictly, Kills}
+use Rattle.records.specs.declared.line.Line.the-variants.{Sporadic, Relation, Implies, Excludes, Delayed, Weakly, Strictly, Kills, Counted}
 use Rattle.records.specs.declared.instant.Tick.{Tick}
 use Rattle.records.specs.declared.instant.Tick.the-variants.{Idle, Ticks, Unseen}
 use Rattle.records.specs.Sheet.{SheetValue}
 use Rattle.records.specs.Types.{All}
 use Rattle.tesl.specs.Lists.{all, any, filter, distinct, flatMap}
 use Rattle.tesl.specs.Run.{Instant, ticksOf, tagsOf, Filled, fillTicks, fillings, runFillings}
-use Rattle.tesl.specs.Fits.{ticksIn, Obligation, unmet, fits}
-use Rattle.tesl.specs.Remainder.{remainder, sameRemainder, sameObligation, owes, isClear}
+use Rattle.tesl.specs.Fits.{ticksIn, Obligation, unmet, Countdown, countdowns, fits}
+use Rattle.tesl.specs.Remainder.{remainder, sameRemainder, sameObligation, sameCountdown, distinctCount, owes, counts, isClear}
 use Rattle.tesl.specs.Answer.{Standing, clear, owed, exhausted, broken, holding, remainders, over, standing, judged, verdict, answerWithin}
 use Rattle.tesl.specs.Formula.{ticksBelow, Holds, NoneFalls, EachHolds}
-use Rattle.theory.specs.Unmet.{NoneUnmet}
+use Rattle.theory.specs.Unmet.{NoneOwed}
 use Rattle.theory.specs.Seen.{isSeen, Seen, ticked, seenRun, SeenJudged}
-use Rattle.tesl.proofs.Tests.{and-l, and-r, or-e, T→≡}
+use Rattle.tesl.proofs.Tests.{and-l, and-r, or-l, or-e, T→≡}
 use Rattle.tesl.proofs.FormulaOwed.{ticks-below}
 use Rattle.tesl.proofs.Formula.{fits-holds}
-use Rattle.theory.proofs.Unmet.{none-unmet}
+use Rattle.theory.proofs.Unmet.{none-owed}
 
 -- ---- precedence: the subtraction of a remainder's leads cuts nothing
 
@@ -40,6 +40,7 @@ NotAhead run (Implies A B) = Unit {0}
 NotAhead run (Excludes A B) = Unit {0}
 NotAhead run (Delayed A B D d) = Unit {0}
 NotAhead run (Kills A B) = Unit {0}
+NotAhead run (Counted A B D n) = Unit {0}
 
 -- K's ticks in a run of n instants
 all-ticks : (run : List Filled) (K n : ℕ) → length run ≡ n → ticksIn K run ≡ ticksBelow run K n
@@ -61,6 +62,7 @@ line-ordered (Implies A B) run h = tt
 line-ordered (Excludes A B) run h = tt
 line-ordered (Delayed A B D d) run h = tt
 line-ordered (Kills A B) run h = tt
+line-ordered (Counted A B D n) run h = tt
 
 pub never-ahead : (s : SheetValue) (run : List Filled) → T (fits s run) → All (NotAhead run) (s .lines)
 never-ahead s run t = each (s .lines) (((fits-holds s run) .0 t) .1)
@@ -95,21 +97,42 @@ some-kept {A} same x xs = go (distinct same xs)
     go [] = λ e. omega arith
     go (y ∷ d) = elim (any (same x) (y ∷ d)) as (λ b. length (cond b (y ∷ d) (x ∷ (y ∷ d))) ≡ 0 → ⊥) [ true ↦ λ e. omega arith | false ↦ λ e. omega arith ]
 
--- where the count of obligations is 0, there is none
-pub none-owed : (os : List Obligation) → length (distinct sameObligation os) ≡ 0 → os ≡ []
-none-owed [] e = refl
-none-owed (o ∷ os) e = absurd (some-kept sameObligation o os e)
+-- where the number of a set is 0, there is none
+none-kept : {A : Type 0} (same : A → A → Bool) (xs : List A) → distinctCount same xs ≡ 0 → xs ≡ []
+none-kept same [] e = refl
+none-kept same (x ∷ xs) e = absurd (some-kept same x xs e)
+
+pub clear-exactly : (s : SheetValue) (f : List Filled) → T (isClear (remainder s f)) ↔ NoneOwed (s .lines) f
+unfolding remainder owes counts isClear
+clear-exactly s f = Iff·trans (there, back) (none-owed (s .lines) f)
+  where
+    os : List Obligation
+    os = unmet (s .lines) f
+
+    cs : List Countdown
+    cs = countdowns (s .lines) f
+
+    there : T (eqb (distinctCount sameObligation os) 0 && eqb (distinctCount sameCountdown cs) 0) → (os ≡ []) × (cs ≡ [])
+    there t =
+        let a = distinctCount sameObligation os in
+        let b = distinctCount sameCountdown cs in
+        (none-kept sameObligation os (eqb→eq a 0 (and-l (eqb a 0) (eqb b 0) t)), none-kept sameCountdown cs (eqb→eq b 0 (and-r (eqb a 0) (eqb b 0) t)))
+
+    back : (os ≡ []) × (cs ≡ []) → T (eqb (distinctCount sameObligation os) 0 && eqb (distinctCount sameCountdown cs) 0)
+    back e = subst T (sym (λ i. eqb (distinctCount sameObligation (e .0 i)) 0 && eqb (distinctCount sameCountdown (e .1 i)) 0)) tt
 
 pub clear-when : (b : Bool) → cond b clear owed ≡ clear → T b
 clear-when true e = tt
 clear-when false e = let z : _≡_ {A = ℕ} 0 1 = cc in omega arith
 
-clear-exactly : (s : SheetValue) (f : List Filled) → (standing (remainder s f ∷ []) ≡ clear) ↔ (unmet (s .lines) f ≡ [])
-unfolding remainder owes isClear
-clear-exactly s f = (
-  λ e. let n = length (distinct sameObligation (unmet (s .lines) f)) in none-owed (unmet (s .lines) f) (eqb→eq n 0 (or-e (eqb n 0) false (clear-when (eqb n 0 || false) e) (λ u. u) absurd)),
-  λ e. ap (λ (os : List Obligation). cond (eqb (length (distinct sameObligation os)) 0 || false) clear owed) e,
-)
+pub clear-of : (b : Bool) → T b → cond b clear owed ≡ clear
+clear-of true t = refl
+clear-of false t = absurd t
+
+one-clear : (s : SheetValue) (f : List Filled) → (standing (remainder s f ∷ []) ≡ clear) ↔ T (isClear (remainder s f))
+one-clear s f =
+    let b = isClear (remainder s f) in
+    (λ e. or-e b false (clear-when (b || false) e) (λ u. u) absurd, λ t. clear-of (b || false) (or-l b false t))
 
 module _ (s : SheetValue) (run : List Instant) where
   not-exhausted : (room : ℕ) → (answerWithin room s run ≡ exhausted → ⊥) → answerWithin room s run ≡ judged (remainders s run)
@@ -143,13 +166,13 @@ seen-judged room s run t n = record {
     said = not-exhausted s run room n ∙ ap judged (one-remainder s run f (one-filling run t))
 
     Holding : Type 0
-    Holding = (standing : Standing) × (answerWithin room s run ≡ holding 1 standing) × ((standing ≡ clear) ↔ NoneUnmet (s .lines) f)
+    Holding = (standing : Standing) × (answerWithin room s run ≡ holding 1 standing) × ((standing ≡ clear) ↔ NoneOwed (s .lines) f)
 
     holds : NoneFalls (s .clocks) f × EachHolds (s .lines) f → Holding
     holds h = (
       standing (remainder s f ∷ []),
       said ∙ ap (λ (b : Bool). judged (cond b (remainder s f ∷ []) [])) (T→≡ (fits s f) ((fits-holds s f) .1 h)),
-      Iff·trans (clear-exactly s f) (none-unmet (s .lines) f),
+      Iff·trans (one-clear s f) (clear-exactly s f),
     )
 
     breaks : (NoneFalls (s .clocks) f × EachHolds (s .lines) f → ⊥) → answerWithin room s run ≡ broken

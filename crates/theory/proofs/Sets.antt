@@ -2,12 +2,13 @@
 use mathlib.Core.Bool.{Bool, true, false, not, cond, _&&_, _||_}
 use mathlib.Core.List.{List, [], _∷_, _++_, append-assoc, append-nil}
 use mathlib.Core.Path.{_≡_, refl, sym, ap, _∙_, subst}
-use Prim.Native.Nat.{suc, _≤_}
+use Prim.Native.Nat.{ℕ, suc, _≤_, _<_}
 use native.Mathlib.Nat.{le-antisymm}
 use native.Mathlib.Omega.{arith}
 use lib.Dec.{T, T-not, not-T}
 use lib.ListN.{length}
 use Rattle.tesl.specs.Lists.{any, filter, distinct, within}
+use Rattle.tesl.specs.Remainder.{sameSets, distinctCount}
 use Rattle.theory.specs.Sets.{apart, Covers, SameSet, EachOnce}
 use Rattle.theory.specs.Adding.{insert, insertAll}
 use Rattle.tesl.proofs.Tests.{and-l, and-r, and-i, or-l, or-r, or-e}
@@ -132,6 +133,20 @@ module _ {A : Type 0} (same : A → A → Bool) (E : Equivalence same) where
   pub distinct-length : (xs ys : List A) → SameSet same xs ys → length (distinct same xs) ≡ length (distinct same ys)
   distinct-length xs ys e = length-same (distinct same xs) (distinct same ys) (distinct-apart xs) (distinct-apart ys)
       (λ x. distinct-set xs x ∙ e x ∙ sym (distinct-set ys x))
+
+  -- a set has no more than its list is long, and more than so many where so many and one more are among it
+  pub number-most : (xs : List A) → distinctCount same xs ≤ length xs
+  number-most xs = length-le (distinct same xs) xs (distinct-apart xs) (λ x t. subst T (distinct-set xs x) t)
+
+  pub number-more : (most : ℕ) (among xs : List A) → T (apart same among) → Covers same among xs → most < length among → most < distinctCount same xs
+  number-more most among xs a c l = let le = length-le among (distinct same xs) a (λ x t. subst T (sym (distinct-set xs x)) (c x t)) in omega arith
+
+  -- the same sets, by the test and as sets
+  pub sets-same : (xs ys : List A) → T (sameSets same xs ys) → SameSet same xs ys
+  sets-same xs ys t = within→set xs ys (and-l (within same xs ys) (within same ys xs) t) (and-r (within same xs ys) (within same ys xs) t)
+
+  pub same-sets : (xs ys : List A) → SameSet same xs ys → T (sameSets same xs ys)
+  same-sets xs ys e = and-i (within same xs ys) (within same ys xs) (covers→within xs ys (λ x t. subst T (e x) t)) (covers→within ys xs (λ x t. subst T (sym (e x)) t))
 
   pub apart-snoc : (xs : List A) (y : A) → T (apart same xs) → T (not (any (same y) xs)) → T (apart same (xs ++ (y ∷ [])))
   apart-snoc [] y a n = tt

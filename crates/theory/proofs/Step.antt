@@ -10,11 +10,12 @@ use Rattle.records.specs.declared.line.Line.{Line}
 use Rattle.records.specs.Sheet.{SheetValue}
 use Rattle.tesl.specs.Lists.{all, any, table, always}
 use Rattle.tesl.specs.Run.{Filled, ticksAt}
-use Rattle.tesl.specs.Fits.{lastTags, noneFalls, holdsAt, fitsAt, unmet, notLate, fits}
+use Rattle.tesl.specs.Fits.{lastTags, noneFalls, holdsAt, fitsAt, unmet, notLate, Countdown, countdowns, fits}
 use Rattle.tesl.specs.Remainder.{leadOf, stops, remainder}
-use Rattle.theory.specs.Step.{lineOk, overlap, linesOk, nextLead, nextLeads, nextOwed, next, stepOk, lineBelow, wellFormed}
+use Rattle.theory.specs.Step.{lineOk, overlap, linesOk, nextLead, nextLeads, nextOwed, misses, noneMissed, next, stepOk, lineBelow, wellFormed}
 use Rattle.tesl.proofs.Tests.{and-l, and-r, and-i, or-l, or-r, or-e, T→≡}
 use Rattle.theory.proofs.Lists.{bool-ext, lastOf-map-snoc, always-snoc, snoc-ind, all-of, all-imp, table-at, table-ext}
+use Rattle.theory.proofs.Countdowns.{countdowns-snoc, one-more-line}
 use Rattle.theory.proofs.Law.{ordered}
 use Rattle.theory.proofs.LineKinds.{law}
 use Rattle.theory.proofs.Owed.{unmet-snoc, unmet-clocks, earlier}
@@ -61,6 +62,7 @@ pub remainder-snoc : (s : SheetValue) (run : List Filled) (f : Filled) → T (al
 unfolding remainder next
 remainder-snoc s run f t = λ i. record {
   owed = unmet-snoc (s .lines) run f i;
+  countdowns = countdowns-snoc (s .lines) run f i;
   leads = leads-snoc run f (s .lines) (always-ordered s run t) i;
   stopped = stopped-snoc s run f i;
 }
@@ -76,15 +78,33 @@ module _ (run : List Filled) (f : Filled) where
       (law l .judged .asks run f (and-l (ordered run l) (all (ordered run) ls) o) (and-l (holdsAt l run f) hs h))
       (all-ask ls (and-r (ordered run l) (all (ordered run) ls) o) (and-r (holdsAt l run f) hs h))
 
-  all-suffice : (ls : List Line) → ((k : ℕ) → T (any (stops run k) ls) → T (ticksAt f k) → ⊥) → T (all (ordered run) ls)
+  -- none of the countdowns of a line is missed, and none of the others'
+  missed-split : (l : Line) (ls : List Line) → noneMissed f (countdowns (l ∷ ls) run) ≡ (noneMissed f (countdowns (l ∷ []) run) && noneMissed f (countdowns ls run))
+  missed-split l ls = one-more-line (λ (c : Countdown). not (misses f c)) l ls run
+
+  none-missed : (ls : List Line) → T (all (λ (l : Line). holdsAt l run f) ls) → T (noneMissed f (countdowns ls run))
+  none-missed [] h = all-true-run run
+    where
+      all-true-run : (run : List Filled) → T (noneMissed f (countdowns [] run))
+      all-true-run [] = tt
+      all-true-run (g ∷ run) = all-true-run run
+  none-missed (l ∷ ls) h =
+      let hs = all (λ (l : Line). holdsAt l run f) ls in
+      subst T (sym (missed-split l ls)) (and-i (noneMissed f (countdowns (l ∷ []) run)) (noneMissed f (countdowns ls run))
+      (law l .counts .none-missed run f (and-l (holdsAt l run f) hs h)) (none-missed ls (and-r (holdsAt l run f) hs h)))
+
+  all-suffice : (ls : List Line) → ((k : ℕ) → T (any (stops run k) ls) → T (ticksAt f k) → ⊥) → T (noneMissed f (countdowns ls run)) → T (all (ordered run) ls)
       → T (linesOk (lineOk f) ls (map (leadOf run) ls)) → T (all (λ (l : Line). holdsAt l run f) ls)
-  all-suffice [] quiet o h = tt
-  all-suffice (l ∷ ls) quiet o h =
+  all-suffice [] quiet m o h = tt
+  all-suffice (l ∷ ls) quiet m o h =
+      let own = noneMissed f (countdowns (l ∷ []) run) in
+      let others = noneMissed f (countdowns ls run) in
+      let both = subst T (missed-split l ls) m in
       let ok = lineOk f l (leadOf run l) in
       let oks = linesOk (lineOk f) ls (map (leadOf run) ls) in
       and-i (holdsAt l run f) (all (λ (l : Line). holdsAt l run f) ls)
-      (law l .judged .suffices run f (λ k t. quiet k (or-l (stops run k l) (any (stops run k) ls) t)) (and-l (ordered run l) (all (ordered run) ls) o) (and-l ok oks h))
-      (all-suffice ls (λ k t. quiet k (or-r (stops run k l) (any (stops run k) ls) t)) (and-r (ordered run l) (all (ordered run) ls) o) (and-r ok oks h))
+      (law l .judged .suffices run f (λ k t. quiet k (or-l (stops run k l) (any (stops run k) ls) t)) (and-l own others both) (and-l (ordered run l) (all (ordered run) ls) o) (and-l ok oks h))
+      (all-suffice ls (λ k t. quiet k (or-r (stops run k l) (any (stops run k) ls) t)) (and-r own others both) (and-r (ordered run l) (all (ordered run) ls) o) (and-r ok oks h))
 
 -- clocks in two lists
 no-overlap : (xs ys : List Bool) → ((k : ℕ) → T (getD xs k false) → T (getD ys k false) → ⊥) → T (overlap xs ys) → ⊥
@@ -121,19 +141,21 @@ table-says (suc n) p zero t = t
 table-says (suc n) p (suc k) t = table-says n (λ j. p (suc j)) k t
 
 lines-same : (s : SheetValue) (run : List Filled) (f : Filled) → T (wellFormed s) → T (all (ordered run) (s .lines))
-    → all (λ (l : Line). holdsAt l run f) (s .lines) ≡ (not (overlap (f .ticks) (remainder s run .stopped)) && linesOk (lineOk f) (s .lines) (remainder s run .leads))
+    → all (λ (l : Line). holdsAt l run f) (s .lines)
+    ≡ (noneMissed f (remainder s run .countdowns) && (not (overlap (f .ticks) (remainder s run .stopped)) && linesOk (lineOk f) (s .lines) (remainder s run .leads)))
 unfolding remainder
 lines-same s run f w o =
     let stopped = remainder s run .stopped in
     let both = overlap (f .ticks) stopped in
     let oks = linesOk (lineOk f) (s .lines) (remainder s run .leads) in
     let stop : ℕ → Bool = λ j. any (stops run j) (s .lines) in
-    bool-ext (all (λ (l : Line). holdsAt l run f) (s .lines)) (not both && oks)
-    (λ h. and-i (not both) oks (not-T both (no-overlap (f .ticks) stopped (λ k u t. quiet-all run f k (s .lines) h (table-says (s .clocks) stop k t) u))) (all-ask run f (s .lines) o h))
+    let kept = noneMissed f (countdowns (s .lines) run) in
+    bool-ext (all (λ (l : Line). holdsAt l run f) (s .lines)) (kept && (not both && oks))
+    (λ h. and-i kept (not both && oks) (none-missed run f (s .lines) h) (and-i (not both) oks (not-T both (no-overlap (f .ticks) stopped (λ k u t. quiet-all run f k (s .lines) h (table-says (s .clocks) stop k t) u))) (all-ask run f (s .lines) o h)))
     (λ h. all-suffice run f (s .lines)
-    (λ k t u. T-not both (and-l (not both) oks h)
+    (λ k t u. T-not both (and-l (not both) oks (and-r kept (not both && oks) h))
     (overlap-at (f .ticks) stopped k u (subst T (sym (table-at (s .clocks) stop k false (stops-below run (s .clocks) k (s .lines) w t))) t)))
-    o (and-r (not both) oks h))
+    (and-l kept (not both && oks) h) o (and-r (not both) oks (and-r kept (not both && oks) h)))
 
 -- ---- a filled run with one more instant
 
@@ -156,7 +178,7 @@ fits-snoc s run f w =
     hold = all (λ (l : Line). holdsAt l run f) (s .lines)
 
     may : Bool
-    may = not (overlap (f .ticks) (remainder s run .stopped)) && linesOk (lineOk f) (s .lines) (remainder s run .leads)
+    may = noneMissed f (remainder s run .countdowns) && (not (overlap (f .ticks) (remainder s run .stopped)) && linesOk (lineOk f) (s .lines) (remainder s run .leads))
 
     due : Bool
     due = notLate (lastTags run) (unmet (s .lines) run)

@@ -1,38 +1,27 @@
 -- A monitor that tracks a run tracks it with one more instant, by whatever it found; it tracks none at the opening; and it stays within the limits. Assumes nothing.
-use mathlib.Core.List.{List, [], _∷_, _++_, List·Memᴰ}
+use mathlib.Core.List.{List, [], _∷_, _++_}
 use mathlib.Core.Option.{Option, none}
 use mathlib.Core.Path.{_≡_, refl, sym, _∙_, subst}
-use Prim.Native.Nat.{ℕ, suc, _≤_, _<_}
+use Prim.Native.Nat.{ℕ, suc, _≤_}
 use native.Mathlib.Omega.{arith}
-use lib.Dec.{T, lt→ltb}
+use lib.Dec.{T}
 use lib.IntN.{ℤ}
 use lib.ListN.{length, length-append}
 use Rattle.records.specs.Sheet.{SheetValue}
 use Rattle.records.specs.Types.{IsInstant}
-use Rattle.tesl.specs.Run.{Instant, tagsOf, Filled, fillings}
-use Rattle.tesl.specs.Fits.{Obligation}
-use Rattle.tesl.specs.Remainder.{Remainder, remainder, sameObligation, sameRemainder, owes, overfull}
+use Rattle.tesl.specs.Run.{Instant, tagsOf}
+use Rattle.tesl.specs.Remainder.{Remainder, remainder, sameRemainder}
 use Rattle.tesl.specs.Answer.{Answer, exhausted, judged, answerWithin}
 use mathlib.Core.Logic.{_≢_}
-use Rattle.theory.specs.Sets.{apart, Covers}
-use Rattle.theory.specs.Step.{nextOwed, next, stepOk, lastTagsOf, wellFormed}
+use Rattle.theory.specs.Step.{lastTagsOf, wellFormed}
 use Rattle.theory.specs.Held.{Held}
 use Rattle.theory.specs.Limits.{SheetLimits, ListLimits, HeldLimits}
 use Rattle.theory.specs.Tracks.{State, Tracks, stateAfter, Finding, many, one-more, owed, every}
 use Rattle.theory.proofs.Lists.{lastOf-map-snoc}
-use Rattle.theory.proofs.Tidy.{owes-more}
-use Rattle.theory.proofs.Held.{successor-found, held-start, held-step}
+use Rattle.theory.proofs.Held.{held-start, held-step}
 use Rattle.theory.proofs.Answers.{exhausted-stays, exhausted-by-many, exhausted-by-one-more, exhausted-by-owed, answer-next}
 use Rattle.theory.proofs.Limits.{held-within, successors-within}
 use Rattle.theory.proofs.Opened.{opening-answer}
-
--- a held one, a filling that may follow it, and nine distinct ones among the obligations then unmet or begun
-pub nine-found : {room : ℕ} (s : SheetValue) (last : Option (List ℤ)) (i : Instant) {rs new : List Remainder} {r : Remainder} {f : Filled}
-    → List·Memᴰ r rs → List·Memᴰ f (fillings i) → T (stepOk s last f r)
-    → (among : List Obligation) → T (apart sameObligation among) → Covers sameObligation among (nextOwed (s .lines) f (r .owed)) → 8 < length among
-    → Finding room s last i rs exhausted new
-unfolding next overfull
-nine-found s last i {r = r} {f = f} m n t among a c l = owed (next s f r) (successor-found s last i m n t) (lt→ltb 8 (owes (next s f r)) (owes-more (next s f r) 8 among a c l))
 
 pub tracks-start : (room : ℕ) → 1 ≤ room → (s : SheetValue) → SheetLimits s → (r : Remainder) → T (sameRemainder r (remainder s []))
     → Tracks room s [] (record { instants = 0; last = none; said = judged (r ∷ []); live = r ∷ [] })

@@ -1,23 +1,27 @@
--- The executable `unmet` lists the unmet obligations and no others: it filters those that sporadic lines are and those that each number of an instant begins, by what the numbers from there on meet. Assumes nothing.
+-- The executable `unmet` lists the unmet obligations and no others: it filters those that sporadic lines are and those that each number of an instant begins, by what the numbers from there on meet.
+-- And `countdowns` lists the countdowns: those that each number of an instant begins, less the ticks from there on. Assumes nothing.
 use mathlib.Core.Bool.{Bool, true, false, not, cond}
 use mathlib.Core.List.{List, [], _∷_, List·Memᴰ, List·Memᴰ·head, List·Memᴰ·not-nil, List·Memᴰ·eq-of-singleton, List·Memᴰ·append-cases, Memᴰ·append-left, Memᴰ·append-right}
 use mathlib.Core.Logic.{_↔_, ⊎-elim}
-use mathlib.Core.Path.{_≡_, refl, subst}
-use Prim.Native.Nat.{ℕ, zero, suc, _<_}
-use native.Mathlib.Nat.{le-of-suc-le-suc, not-suc-le-zero}
+use mathlib.Core.Path.{_≡_, refl, sym, ap, _∙_, subst}
+use Prim.Native.Nat.{ℕ, suc, _+_, _-_, _<_}
+use native.Mathlib.Nat.{le-refl}
 use native.Mathlib.Omega.{arith}
-use lib.Dec.{T}
+use lib.Dec.{T, ltb, ltb→lt, lt→ltb}
 use lib.IntN.{ℤ, pos, _+ℤ_}
-use lib.ListN.{length, drop}
+use lib.ListN.{length, take, drop, take-append-drop}
+use lib.Seq.{take-length}
 use Rattle.records.specs.declared.line.Line.{Line}
-use Rattle.records.specs.declared.line.Line.the-variants.{Sporadic, Relation, Implies, Excludes, Delayed, Weakly, Strictly, Kills}
+use Rattle.records.specs.declared.line.Line.the-variants.{Sporadic, Relation, Implies, Excludes, Delayed, Weakly, Strictly, Kills, Counted}
 use Rattle.tesl.specs.Lists.{any, flatMap}
 use Rattle.tesl.specs.Run.{Filled, ticksAt, tagAt}
-use Rattle.tesl.specs.Fits.{Obligation, meets, owedAtStart, owedFrom, unmetBy, unmetLater, unmet}
-use Rattle.tesl.specs.Formula.{instant}
-use Rattle.theory.specs.Unmet.{Unmet, sporadic, delayed, NoneUnmet}
-use Rattle.tesl.proofs.FormulaOwed.{MetFrom, met-from}
-use Rattle.theory.proofs.Members.{mem-flatMap, of-flatMap, mem-filter, of-filter}
+use Rattle.tesl.specs.Fits.{Obligation, meets, owedAtStart, owedFrom, unmetBy, unmetLater, unmet, ticksIn, Countdown, countedFrom, leftOf, leftBy, countdowns}
+use Rattle.tesl.specs.Formula.{instant, ticksBelow, noInstant}
+use Rattle.theory.specs.Unmet.{Unmet, sporadic, delayed, NoneUnmet, Counting, counted, NoneOwed}
+use Rattle.tesl.proofs.Tests.{T→≡}
+use Rattle.tesl.proofs.FormulaLists.{count-append}
+use Rattle.tesl.proofs.FormulaOwed.{ticks-below, MetFrom, met-from}
+use Rattle.theory.proofs.Members.{mem-flatMap, of-flatMap, of-byLater, mem-byLater, mem-filter, of-filter}
 
 -- ---- the obligations of the lines
 
@@ -31,6 +35,7 @@ start-of (Delayed A B D d) o m = absurd (List·Memᴰ·not-nil m)
 start-of (Weakly A B) o m = absurd (List·Memᴰ·not-nil m)
 start-of (Strictly A B) o m = absurd (List·Memᴰ·not-nil m)
 start-of (Kills A B) o m = absurd (List·Memᴰ·not-nil m)
+start-of (Counted A B D n) o m = absurd (List·Memᴰ·not-nil m)
 
 -- the one that a delay line's tick begins
 begun-of : (f : Filled) (l : Line) (o : Obligation) → List·Memᴰ o (owedFrom f l)
@@ -50,6 +55,7 @@ begun-of f (Excludes A B) o m = absurd (List·Memᴰ·not-nil m)
 begun-of f (Weakly A B) o m = absurd (List·Memᴰ·not-nil m)
 begun-of f (Strictly A B) o m = absurd (List·Memᴰ·not-nil m)
 begun-of f (Kills A B) o m = absurd (List·Memᴰ·not-nil m)
+begun-of f (Counted A B D n) o m = absurd (List·Memᴰ·not-nil m)
 
 -- ---- those that no instant from number k on meets
 
@@ -76,21 +82,8 @@ unmetBy-listed k run os o = (
 -- ---- those begun at the instant number n
 
 -- those that it begins and no later one meets
-abbrev begunUnmet : List Line → List Filled → ℕ → List Obligation
-begunUnmet ls run n = unmetBy (drop (suc n) run) (flatMap (owedFrom (instant run n)) ls)
-
-of-later : (ls : List Line) (run : List Filled) (o : Obligation) → List·Memᴰ o (unmetLater ls run) → (n : ℕ) × (n < length run) × List·Memᴰ o (begunUnmet ls run n)
-of-later ls [] o m = absurd (List·Memᴰ·not-nil m)
-of-later ls (f ∷ run) o m =
-    ⊎-elim
-    (λ (h : List·Memᴰ o (begunUnmet ls (f ∷ run) 0)). (0, omega arith, h))
-    (λ (h : List·Memᴰ o (unmetLater ls run)). let r = of-later ls run o h in (suc (r .0), omega (arith, r .1), r .2))
-    (List·Memᴰ·append-cases (begunUnmet ls (f ∷ run) 0) m)
-
-mem-later : (ls : List Line) (run : List Filled) (o : Obligation) (n : ℕ) → n < length run → List·Memᴰ o (begunUnmet ls run n) → List·Memᴰ o (unmetLater ls run)
-mem-later ls [] o n b m = absurd (not-suc-le-zero b)
-mem-later ls (f ∷ run) o zero b m = Memᴰ·append-left (unmetLater ls run) m
-mem-later ls (f ∷ run) o (suc n) b m = Memᴰ·append-right (begunUnmet ls (f ∷ run) 0) (mem-later ls run o n (le-of-suc-le-suc b) m)
+abbrev begun : List Line → Filled → List Filled → List Obligation
+begun ls f later = unmetBy later (flatMap (owedFrom f) ls)
 
 -- ---- the unmet obligations
 
@@ -106,7 +99,7 @@ unmet-listed ls run o = (λ m. ⊎-elim from-start from-later (List·Memᴰ·app
 
     from-later : List·Memᴰ o (unmetLater ls run) → Unmet ls run o
     from-later m =
-        let n = of-later ls run o m in
+        let n = of-byLater (begun ls) noInstant run m in
         let f = instant run (n .0) in
         let u = unmetBy-listed (suc (n .0)) run (flatMap (owedFrom f) ls) o .0 (n .2) in
         let r = of-flatMap (owedFrom f) ls (u .0) in
@@ -119,13 +112,91 @@ unmet-listed ls run o = (λ m. ⊎-elim from-start from-later (List·Memᴰ·app
         (unmetBy-listed 0 run (flatMap owedAtStart ls) o .1 (mem-flatMap owedAtStart l (List·Memᴰ·head e), λ w. none (w .0) (w .2, w .3, w .4)))
     listed (delayed A B D d l n k t e none) =
         Memᴰ·append-right (unmetBy run (flatMap owedAtStart ls))
-        (mem-later ls run o n k (unmetBy-listed (suc n) run (flatMap (owedFrom (instant run n)) ls) o .1
+        (mem-byLater (begun ls) noInstant run n k (unmetBy-listed (suc n) run (flatMap (owedFrom (instant run n)) ls) o .1
         (mem-flatMap (owedFrom (instant run n)) l (rw t (List·Memᴰ·head e)), λ w. none (w .0) (w .1) (w .2, w .3, w .4))))
 
--- none is unmet exactly when none is listed
-pub none-unmet : (ls : List Line) (run : List Filled) → (unmet ls run ≡ []) ↔ NoneUnmet ls run
-none-unmet ls run = (λ e o u. List·Memᴰ·not-nil (subst (List·Memᴰ o) e (unmet-listed ls run o .1 u)), λ n. empty (unmet ls run) (λ o m. n o (unmet-listed ls run o .0 m)))
+-- ---- the countdowns
+
+-- the one that a counted line's tick begins
+counted-of : (f : Filled) (l : Line) (c : Countdown) → List·Memᴰ c (countedFrom f l)
+    → (A B D n : ℕ) × (l ≡ Counted A B D n) × (ticksAt f A ≡ true) × (c ≡ record { clock = D; on = B; wanted = n })
+counted-of f (Counted A B D n) c m = let r = by-test (ticksAt f A) m in (A, B, D, n, refl, r .0, r .1)
   where
-    empty : (os : List Obligation) → ((o : Obligation) → List·Memᴰ o os → ⊥) → os ≡ []
-    empty [] h = refl
-    empty (o ∷ os) h = absurd (h o (List·Memᴰ·head refl))
+    here : Countdown
+    here = record { clock = D; on = B; wanted = n }
+
+    by-test : (b : Bool) → List·Memᴰ c (cond b (here ∷ []) []) → (b ≡ true) × (c ≡ here)
+    by-test true m = (refl, List·Memᴰ·eq-of-singleton m)
+    by-test false m = absurd (List·Memᴰ·not-nil m)
+counted-of f (Sporadic A B t) c m = absurd (List·Memᴰ·not-nil m)
+counted-of f (Relation A B p q) c m = absurd (List·Memᴰ·not-nil m)
+counted-of f (Implies A B) c m = absurd (List·Memᴰ·not-nil m)
+counted-of f (Excludes A B) c m = absurd (List·Memᴰ·not-nil m)
+counted-of f (Delayed A B D d) c m = absurd (List·Memᴰ·not-nil m)
+counted-of f (Weakly A B) c m = absurd (List·Memᴰ·not-nil m)
+counted-of f (Strictly A B) c m = absurd (List·Memᴰ·not-nil m)
+counted-of f (Kills A B) c m = absurd (List·Memᴰ·not-nil m)
+
+-- those that an instant begins, left by the later ones
+abbrev counting : List Line → Filled → List Filled → List Countdown
+counting ls f later = leftBy later (flatMap (countedFrom f) ls)
+
+-- K's ticks of a run: up to and with instant i, and after it
+ticks-after : (run : List Filled) (K i : ℕ) → i < length run → ticksBelow run K (length run) ≡ ticksBelow run K (suc i) + ticksIn K (drop (suc i) run)
+ticks-after run K i b =
+    sym (ticks-below run K (length run) (le-refl (length run)))
+    ∙ ap (ticksIn K) (take-length run ∙ sym (take-append-drop (suc i) run))
+    ∙ count-append (λ (f : Filled). ticksAt f K) (take (suc i) run) (drop (suc i) run)
+    ∙ ap (λ (n : ℕ). n + ticksIn K (drop (suc i) run)) (ticks-below run K (suc i) b)
+
+pub countdowns-listed : (ls : List Line) (run : List Filled) (c : Countdown) → List·Memᴰ c (countdowns ls run) ↔ Counting ls run c
+countdowns-listed ls run c = (of-list, listed)
+  where
+    -- what is left of one
+    left-is : (later : List Filled) (x : Countdown) (b : Bool) → (T b → ticksIn (x .on) later < x .wanted)
+        → List·Memᴰ c (cond b (record { clock = x .clock; on = x .on; wanted = x .wanted - ticksIn (x .on) later } ∷ []) [])
+        → (ticksIn (x .on) later < x .wanted) × (c ≡ record { clock = x .clock; on = x .on; wanted = x .wanted - ticksIn (x .on) later })
+    left-is later x true l m = (l tt, List·Memᴰ·eq-of-singleton m)
+    left-is later x false l m = absurd (List·Memᴰ·not-nil m)
+
+    begun-at : (i : ℕ) → i < length run → (l : Line) → List·Memᴰ l ls → (x : Countdown) → List·Memᴰ x (countedFrom (instant run i) l) → List·Memᴰ c (leftOf (drop (suc i) run) x) → Counting ls run c
+    begun-at i b l h x m n =
+        let k = counted-of (instant run i) l x m in
+        let y : Countdown = record { clock = k .2; on = k .1; wanted = k .3 } in
+        let later = drop (suc i) run in
+        let r = left-is later y (ltb (ticksIn (k .1) later) (k .3)) (ltb→lt (ticksIn (k .1) later) (k .3)) (subst (λ (z : Countdown). List·Memᴰ c (leftOf later z)) (k .6) n) in
+        counted (k .0) (k .1) (k .2) (k .3) (subst (λ (z : Line). List·Memᴰ z ls) (k .4) h) i b (k .5) (ticksIn (k .1) later) (ticks-after run (k .1) i b) (r .0) (r .1)
+
+    of-list : List·Memᴰ c (countdowns ls run) → Counting ls run c
+    of-list m =
+        let n = of-byLater (counting ls) noInstant run m in
+        let f = instant run (n .0) in
+        let later = drop (suc (n .0)) run in
+        let u = of-flatMap (leftOf later) (flatMap (countedFrom f) ls) (n .2) in
+        let r = of-flatMap (countedFrom f) ls (u .1) in
+        begun-at (n .0) (n .1) (r .0) (r .1) (u .0) (r .2) (u .2)
+
+    listed : Counting ls run c → List·Memᴰ c (countdowns ls run)
+    listed (counted A B D n h i b t m e l q) =
+        let later = drop (suc i) run in
+        let k : m ≡ ticksIn B later = omega (arith, ticks-after run B i b) in
+        let x : Countdown = record { clock = D; on = B; wanted = n } in
+        mem-byLater (counting ls) noInstant run i b
+        (mem-flatMap (leftOf later) {x = x} (mem-flatMap (countedFrom (instant run i)) h (rw t (List·Memᴰ·head refl)))
+        (subst (λ (j : ℕ). List·Memᴰ c (cond (ltb j n) (record { clock = D; on = B; wanted = n - j } ∷ []) [])) k (rw (T→≡ (ltb m n) (lt→ltb m n l)) (List·Memᴰ·head q))))
+
+-- ---- none
+
+nothing : {A : Type 0} (xs : List A) → ((x : A) → List·Memᴰ x xs → ⊥) → xs ≡ []
+nothing [] h = refl
+nothing (x ∷ xs) h = absurd (h x (List·Memᴰ·head refl))
+
+-- none is owed exactly when none is listed
+pub none-owed : (ls : List Line) (run : List Filled) → ((unmet ls run ≡ []) × (countdowns ls run ≡ [])) ↔ NoneOwed ls run
+none-owed ls run = (
+  λ e. record {
+    unmet = λ o u. List·Memᴰ·not-nil (subst (List·Memᴰ o) (e .0) (unmet-listed ls run o .1 u));
+    counting = λ c u. List·Memᴰ·not-nil (subst (List·Memᴰ c) (e .1) (countdowns-listed ls run c .1 u));
+  },
+  λ n. (nothing (unmet ls run) (λ o m. n .unmet o (unmet-listed ls run o .0 m)), nothing (countdowns ls run) (λ c m. n .counting c (countdowns-listed ls run c .0 m))),
+)

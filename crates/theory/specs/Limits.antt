@@ -12,7 +12,7 @@ use Rattle.records.specs.Sheet.{SheetValue}
 use Rattle.records.specs.Types.{All, IsLineValue, IsInstant}
 use Rattle.tesl.specs.Lists.{all, any}
 use Rattle.tesl.specs.Run.{Instant}
-use Rattle.tesl.specs.Fits.{Obligation}
+use Rattle.tesl.specs.Fits.{Obligation, Countdown}
 use Rattle.tesl.specs.Remainder.{Remainder, overfull}
 use Rattle.theory.specs.Step.{wellFormed}
 
@@ -41,12 +41,16 @@ dueOk z = leZ (negsuc 32767) z && leZ z (pos 98302)
 abbrev pub clocksOk : ℕ → Obligation → Bool
 clocksOk c o = ltb (o .clock) c && ltb (o .on) c
 
--- ticks minus ticks 0 to the instants held; the number of obligations is apart
+-- a countdown's clocks below c, 1 to 255 wanted
+abbrev pub countdownOk : ℕ → Countdown → Bool
+countdownOk c x = (ltb (x .clock) c && ltb (x .on) c) && (leb 1 (x .wanted) && leb (x .wanted) 255)
+
+-- ticks minus ticks 0 to the instants held; the numbers of obligations and of countdowns are apart
 unfoldable pub withinLimits : ℕ → ℕ → Remainder → Bool
 withinLimits c held r =
-    all (clocksOk c) (r .owed) && all (λ (o : Obligation). dueOk (o .due)) (r .owed) && all (λ (n : ℕ). leb n held) (r .leads)
+    all (clocksOk c) (r .owed) && all (λ (o : Obligation). dueOk (o .due)) (r .owed) && (all (countdownOk c) (r .countdowns) && all (λ (n : ℕ). leb n held) (r .leads))
 
--- ---- those held: live 0 to `room`, obligations 0 to 8 each
+-- ---- those held: live 0 to `room`, obligations 0 to 8 each, countdowns 0 to 8 each
 pub record HeldLimits (room c held : ℕ) (rs : List Remainder) : Type 0 where
   pub live : length rs ≤ room
   pub owe : T (not (any overfull rs))

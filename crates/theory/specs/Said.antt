@@ -12,12 +12,12 @@ use Rattle.records.specs.declared.instant.Tick.the-variants.{Idle, Ticks, Unsee
 use Rattle.records.specs.Sheet.{SheetValue}
 use Rattle.records.specs.Types.{All}
 use Rattle.tesl.specs.Run.{Instant, ticksOf, tagsOf, Filled}
-use Rattle.tesl.specs.Fits.{Obligation}
-use Rattle.tesl.specs.Remainder.{remainder, sameObligation, sameRemainder}
+use Rattle.tesl.specs.Fits.{Obligation, Countdown}
+use Rattle.tesl.specs.Remainder.{remainder, sameObligation, sameCountdown, sameRemainder}
 use Rattle.tesl.specs.Answer.{Standing, clear, Answer, exhausted, broken, holding}
 use Rattle.tesl.specs.Formula.{NoneFalls, EachHolds}
 use Rattle.theory.specs.Sets.{apart}
-use Rattle.theory.specs.Unmet.{Unmet, NoneUnmet}
+use Rattle.theory.specs.Unmet.{Unmet, Counting, NoneOwed}
 
 -- ---- a filling gives each unseen tick of a run the value idle or tick
 
@@ -52,7 +52,7 @@ pub record Fitting (s : SheetValue) (run : List Instant) (f : List Filled) : Typ
 
 -- ---- remainders
 
--- two filled runs leave the same remainder: obligations as a set, leads and stopped clocks
+-- two filled runs leave the same remainder: obligations and countdowns as sets, leads and stopped clocks
 abbrev pub sameLeft : SheetValue → List Filled → List Filled → Bool
 sameLeft s f g = sameRemainder (remainder s f) (remainder s g)
 
@@ -68,20 +68,27 @@ pub record Live (s : SheetValue) (run : List Instant) (n : ℕ) : Type 0 where
   pub leaves : Leaves s run n
   pub no-other : (f : List Filled) → Fitting s run f → (g : List Filled) × List·Memᴰ g (leaves .these) × T (sameLeft s f g)
 
--- one remainder with n obligations: a fitting filling and n of its unmet obligations, no two the same
-pub record Owing (s : SheetValue) (run : List Instant) (n : ℕ) : Type 0 where
+-- one remainder with n of a kind, here those of a filled run that `Of` tells, no two the same
+pub record Having {A : Type 0} (same : A → A → Bool) (Of : List Filled → A → Type 0) (s : SheetValue) (run : List Instant) (n : ℕ) : Type 0 where
   pub filling : List Filled
   pub fits : Fitting s run filling
-  pub these : List Obligation
+  pub these : List A
   pub number : length these ≡ n
-  pub each-unmet : All (Unmet (s .lines) filling) these
-  pub no-two : T (apart sameObligation these)
+  pub each : All (Of filling) these
+  pub no-two : T (apart same these)
+
+-- n obligations: a fitting filling and n of its unmet obligations; and n countdowns
+abbrev pub Owing : SheetValue → List Instant → ℕ → Type 0
+Owing s run n = Having sameObligation (Unmet (s .lines)) s run n
+
+abbrev pub CountingDown : SheetValue → List Instant → ℕ → Type 0
+CountingDown s run n = Having sameCountdown (Counting (s .lines)) s run n
 
 -- ---- the answer, the first that applies
 
--- more distinct remainders than there is room for, or one with more than 8 obligations
+-- more distinct remainders than there is room for, or one with more than 8 obligations or more than 8 countdowns
 abbrev pub TooMany : ℕ → SheetValue → List Instant → Type 0
-TooMany room s run = Leaves s run (suc room) ⊎ Owing s run 9
+TooMany room s run = Leaves s run (suc room) ⊎ (Owing s run 9 ⊎ CountingDown s run 9)
 
 -- some beginning of the run, the whole included, has too many
 pub record Exhausts (room : ℕ) (s : SheetValue) (run : List Instant) : Type 0 where
@@ -96,6 +103,6 @@ pub record Said (room : ℕ) (s : SheetValue) (run : List Instant) (a : Answer) 
   pub exhausts : (a ≡ exhausted) ↔ Exhausts room s run
   -- else broken exactly when no filling fits
   pub breaks : a ≢ exhausted → (a ≡ broken) ↔ ((f : List Filled) → Fitting s run f → ⊥)
-  -- else holding with the number of distinct remainders, clear exactly when one of them has no obligation
+  -- else holding with the number of distinct remainders, clear exactly when one of them owes nothing
   pub holds : (live : ℕ) (standing : Standing) → a ≡ holding live standing
-      → Live s run live × ((standing ≡ clear) ↔ ((f : List Filled) × Fitting s run f × NoneUnmet (s .lines) f))
+      → Live s run live × ((standing ≡ clear) ↔ ((f : List Filled) × Fitting s run f × NoneOwed (s .lines) f))

@@ -11,7 +11,7 @@ use Rattle.tesl.specs.Lists.{all}
 use Rattle.tesl.specs.Run.{Instant, ticksOf, tagsOf, Filled}
 use Rattle.tesl.specs.Answer.{Standing, clear, Answer, exhausted, broken, holding}
 use Rattle.tesl.specs.Formula.{NoneFalls, EachHolds}
-use Rattle.theory.specs.Unmet.{NoneUnmet}
+use Rattle.theory.specs.Unmet.{NoneOwed}
 
 abbrev pub isSeen : Tick → Bool
 isSeen Idle = true
@@ -35,8 +35,8 @@ seenRun run = map (λ (i : Instant). record { ticks = map ticked (ticksOf i); ta
 pub record JudgedAs (s : SheetValue) (run : List Instant) (a : Answer) : Type 0 where
   -- broken exactly when a tag falls or a line does not hold
   pub breaks : (a ≡ broken) ↔ (NoneFalls (s .clocks) (seenRun run) × EachHolds (s .lines) (seenRun run) → ⊥)
-  -- else holding with live 1, clear exactly when no obligation is unmet
-  pub else-holds : a ≢ broken → (standing : Standing) × (a ≡ holding 1 standing) × ((standing ≡ clear) ↔ NoneUnmet (s .lines) (seenRun run))
+  -- else holding with live 1, clear exactly when nothing is owed
+  pub else-holds : a ≢ broken → (standing : Standing) × (a ≡ holding 1 standing) × ((standing ≡ clear) ↔ NoneOwed (s .lines) (seenRun run))
 
 -- demand 2 of one answer
 abbrev pub SeenJudged : SheetValue → List Instant → Answer → Type 0

@@ -1,15 +1,15 @@
--- Unmet obligations, in document 01's words and with quantifiers over the numbers of instants.
--- Nothing here is taken from the executable definition `unmet`. Assumes nothing.
+-- Unmet obligations, and countdowns, in the documents' words and with quantifiers over the numbers of instants.
+-- Nothing here is taken from the executable definitions `unmet` and `countdowns`. Assumes nothing.
 use mathlib.Core.List.{List, List·Memᴰ}
 use mathlib.Core.Path.{_≡_}
-use Prim.Native.Nat.{ℕ, _<_}
+use Prim.Native.Nat.{ℕ, suc, _+_, _-_, _<_}
 use lib.IntN.{ℤ, pos, _+ℤ_}
 use lib.ListN.{length}
 use Rattle.records.specs.declared.line.Line.{Line}
-use Rattle.records.specs.declared.line.Line.the-variants.{Sporadic, Delayed}
+use Rattle.records.specs.declared.line.Line.the-variants.{Sporadic, Delayed, Counted}
 use Rattle.tesl.specs.Run.{Filled}
-use Rattle.tesl.specs.Fits.{Obligation}
-use Rattle.tesl.specs.Formula.{Ticking, tag}
+use Rattle.tesl.specs.Fits.{Obligation, Countdown}
+use Rattle.tesl.specs.Formula.{Ticking, tag, ticksBelow}
 
 -- an obligation is met by a tick of its clock at an instant, here number m, whose on-tag equals the due
 abbrev pub MetAt : List Filled → Obligation → ℕ → Type 0
@@ -32,3 +32,16 @@ pub data Unmet (ls : List Line) (run : List Filled) (o : Obligation) : Type 0 wh
 -- no obligation is unmet
 abbrev pub NoneUnmet : List Line → List Filled → Type 0
 NoneUnmet ls run = (o : Obligation) → Unmet ls run o → ⊥
+
+-- a countdown of a filled run: A of a counted line ticks at instant i, B has ticked m times since, from the following instant on, and n - m more are wanted; `countdowns` lists these and no others: `countdowns-listed`, proofs/Unmet.antt
+pub data Counting (ls : List Line) (run : List Filled) (c : Countdown) : Type 0 where
+  counted : (A B D n : ℕ) → List·Memᴰ (Counted A B D n) ls
+      → (i : ℕ) → i < length run → Ticking run A i
+      → (m : ℕ) → ticksBelow run B (length run) ≡ ticksBelow run B (suc i) + m → m < n
+      → c ≡ record { clock = D; on = B; wanted = n - m }
+      → Counting ls run c
+
+-- none is owed, neither by a due nor by count
+pub record NoneOwed (ls : List Line) (run : List Filled) : Type 0 where
+  pub unmet : NoneUnmet ls run
+  pub counting : (c : Countdown) → Counting ls run c → ⊥

@@ -1,4 +1,4 @@
-// Document 01's lift examples L2 to L11, and some at the limits; a row each, with the answers of opening and of every instant.
+// Document 01's lift examples L2 to L11, some at the limits, and some of counted lines; a row each, with the answers of opening and of every instant.
 use crate::text::answer;
 use crate::text::say;
 use crate::trial::Trial;
@@ -6,6 +6,7 @@ use crate::trial::opened;
 use crate::trial::taken;
 use cases::course::idle_instant;
 use cases::course::with_clock;
+use cases::plan::counts;
 use cases::plan::delayed;
 use cases::plan::empty_sheet;
 use cases::plan::pair;
@@ -84,6 +85,31 @@ fn of_line(name: &[u8], line: Line, log: &[u8], t: [u64; 40]) -> [u64; 40] {
     example(name, with(empty_sheet(2), line), log, t)
 }
 
+// Ticks of 0 at tags 1 to 8, then one at a tag, where 1 has a tick byte.
+fn nine_ticks(tag: u8, other: u8) -> [u8; 36] {
+    let mut log = [0u8; 36];
+    let mut i = 0;
+    while i < 9 {
+        log[4 * i] = 1;
+        log[4 * i + 1] = (i + 1) as u8;
+        i += 1;
+    }
+    log[33] = tag;
+    log[34] = other;
+    log
+}
+
+// A sheet and the instants of nine ticks.
+fn ninth(name: &[u8], s: Sheet, tag: u8, other: u8, t: [u64; 40]) -> [u64; 40] {
+    let log = nine_ticks(tag, other);
+    example(name, s, &log, t)
+}
+
+// 0 delayed by d on 0 implies 1.
+fn later(d: u64) -> Sheet {
+    with(empty_sheet(2), delayed(0, d, 0, 1))
+}
+
 fn l2_l3(t: [u64; 40]) -> [u64; 40] {
     let t = of_line(b"L2 sporadic", sporadic(0, 1, ZERO), b"", t);
     let t = of_line(
@@ -129,28 +155,18 @@ fn l6_l7(t: [u64; 40]) -> [u64; 40] {
 }
 
 fn l8_l11(t: [u64; 40]) -> [u64; 40] {
-    let by_100 = delayed(0, 100, 0, 1);
-    let t = of_line(
-        b"L8 d = 0, both tick",
-        delayed(0, 0, 0, 1),
-        b"\x01\x00\x01\x00",
-        t,
-    );
-    let t = of_line(
-        b"L9 ticks at 1 to 9",
-        by_100,
-        b"\x01\x01\x00\x00\x01\x02\x00\x00\x01\x03\x00\x00\x01\x04\x00\x00\x01\x05\x00\x00\x01\x06\x00\x00\x01\x07\x00\x00\x01\x08\x00\x00\x01\x09\x00\x00",
-        t,
-    );
-    let t = of_line(
+    let by_100 = later(100);
+    let t = example(b"L8 d = 0, both tick", later(0), b"\x01\x00\x01\x00", t);
+    let t = ninth(b"L9 ticks at 1 to 9", by_100, 9, 0, t);
+    let t = example(
         b"L10 unseen at 1 to 6",
         by_100,
         b"\x02\x01\x00\x00\x02\x02\x00\x00\x02\x03\x00\x00\x02\x04\x00\x00\x02\x05\x00\x00\x02\x06\x00\x00",
         t,
     );
-    of_line(
+    example(
         b"L11 the listing",
-        delayed(0, 2, 0, 1),
+        later(2),
         b"\x01\xFD\x00\x00\x02\xFE\x00\x00\x00\xFF\x01\x00\x00\x01\x00\x00\x00\x00\x00\x00",
         t,
     )
@@ -158,7 +174,7 @@ fn l8_l11(t: [u64; 40]) -> [u64; 40] {
 
 // 31: a tick of 1 has one of 0 before it. 33: 1 may tick where 0 never did.
 fn lives(t: [u64; 40]) -> [u64; 40] {
-    let by_100 = with(empty_sheet(2), delayed(0, 100, 0, 1));
+    let by_100 = later(100);
     let weakly = with(by_100, pair(21, 0, 1));
     let kills = with(with(by_100, delayed(1, 100, 0, 0)), pair(23, 0, 1));
     let t = example(
@@ -177,23 +193,58 @@ fn lives(t: [u64; 40]) -> [u64; 40] {
 
 // A ninth obligation begins where one of eight is met, or is late.
 fn ninths(t: [u64; 40]) -> [u64; 40] {
-    let by_8 = delayed(0, 8, 0, 1);
+    let by_8 = later(8);
+    let t = ninth(b"a ninth, one met", by_8, 9, 1, t);
+    ninth(b"a ninth, one late", by_8, 10, 0, t)
+}
+
+// A count met by its own instant's ticks would be clear; one that an unseen tick may have brought down has two remainders.
+fn counted(t: [u64; 40]) -> [u64; 40] {
     let t = of_line(
-        b"a ninth, one met",
-        by_8,
-        b"\x01\x01\x00\x00\x01\x02\x00\x00\x01\x03\x00\x00\x01\x04\x00\x00\x01\x05\x00\x00\x01\x06\x00\x00\x01\x07\x00\x00\x01\x08\x00\x00\x01\x09\x01\x00",
+        b"a count of 1, both tick",
+        counts(0, 1, 0, 1),
+        b"\x01\x00\x01\x00",
+        t,
+    );
+    let t = of_line(
+        b"a count of 2 on 1 for 1",
+        counts(0, 2, 1, 1),
+        b"\x01\x00\x01\x00\x00\x00\x01\x00\x00\x00\x01\x00",
         t,
     );
     of_line(
-        b"a ninth, one late",
-        by_8,
-        b"\x01\x01\x00\x00\x01\x02\x00\x00\x01\x03\x00\x00\x01\x04\x00\x00\x01\x05\x00\x00\x01\x06\x00\x00\x01\x07\x00\x00\x01\x08\x00\x00\x01\x0A\x00\x00",
+        b"a count of 2 on 1 for 0, 1 unseen once",
+        counts(0, 2, 1, 0),
+        b"\x01\x00\x00\x00\x00\x00\x02\x00\x00\x00\x01\x00\x00\x00\x01\x00",
+        t,
+    )
+}
+
+// Eight obligations and eight countdowns; then a ninth countdown, with an equal obligation; a ninth obligation, a countdown met; neither; a ninth obligation, a countdown missed.
+fn both(t: [u64; 40]) -> [u64; 40] {
+    let far = counts(0, 255, 0, 1);
+    let near = with(later(100), counts(0, 8, 0, 1));
+    let t = ninth(b"nine countdowns", with(empty_sheet(2), far), 9, 0, t);
+    let t = ninth(
+        b"eight and eight, a ninth countdown",
+        with(later(100), far),
+        8,
+        0,
+        t,
+    );
+    let t = ninth(b"eight and eight, a ninth obligation", near, 9, 1, t);
+    let t = ninth(b"eight and eight, and again", near, 8, 1, t);
+    ninth(
+        b"eight and eight, a ninth obligation, a countdown missed",
+        near,
+        9,
+        0,
         t,
     )
 }
 
 pub fn all(t: [u64; 40]) -> [u64; 40] {
-    say(b"Lift examples, and some at the limits\n");
+    say(b"Lift examples, some at the limits, and counted lines\n");
     let t = l8_l11(l6_l7(l4_l5(l2_l3(t))));
-    ninths(lives(t))
+    both(counted(ninths(lives(t))))
 }

@@ -1,6 +1,7 @@
 // The made cases.
 use crate::tally;
 use crate::trial::Trial;
+use crate::trial::is_on_unseen;
 use crate::trial::live_of;
 use crate::trial::not_opened;
 use crate::trial::opened;
@@ -48,6 +49,12 @@ fn kind_place(l: Line) -> usize {
         Line::Weakly { a: _, b: _ } => tally::WEAKLY,
         Line::Strictly { a: _, b: _ } => tally::STRICTLY,
         Line::Kills { a: _, b: _ } => tally::KILLS,
+        Line::Counted {
+            a: _,
+            b: _,
+            d: _,
+            n: _,
+        } => tally::COUNTED,
     }
 }
 
@@ -120,6 +127,7 @@ fn begin(plan: Plan, last: u64, tally: [u64; 40]) -> Stand {
 // An instant by its unseen ticks.
 fn with_unseen(t: Trial, v: Instant) -> Trial {
     let told = t.tally;
+    let told = count_if(is_on_unseen(t, v), told, tally::ON_UNSEEN);
     let told = count_if(0 < unseen_from(v, 4), told, tally::HIGH_UNSEEN);
     let told = count_if(unseen_from(v, 0) == 8, told, tally::ALL_UNSEEN);
     let mut next = t;

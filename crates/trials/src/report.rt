@@ -22,6 +22,7 @@ fn kinds(t: [u64; 40]) {
     line(t, b"weakly precedes", tally::WEAKLY);
     line(t, b"strictly precedes", tally::STRICTLY);
     line(t, b"kills", tally::KILLS);
+    line(t, b"counted", tally::COUNTED);
 }
 
 fn answers(t: [u64; 40]) {
@@ -34,10 +35,40 @@ fn answers(t: [u64; 40]) {
     line(t, b"sheets out of order, refused by 17", tally::BY_ORDER);
 }
 
+fn unseen(t: [u64; 40]) {
+    line(
+        t,
+        b"instants with the on-clock of a countdown unseen",
+        tally::ON_UNSEEN,
+    );
+}
+
 fn lives(t: [u64; 40]) {
     line(t, b"live 31", tally::LIVE_31);
     line(t, b"live 32", tally::LIVE_32);
-    line(t, b"first remainder owes eight", tally::FULL);
+    line(t, b"first remainder with eight obligations", tally::FULL);
+    line(
+        t,
+        b"first remainder with eight countdowns",
+        tally::COUNTING_FULL,
+    );
+    line(t, b"first remainder with eight of each", tally::BOTH_FULL);
+}
+
+// The ninth's sort is told by the sheet, where it has lines of one sort alone.
+fn ends(t: [u64; 40]) {
+    line(t, b"exhausted after live 1", tally::BY_OWED);
+    line(
+        t,
+        b"exhausted after live 1, no line counted: nine obligations",
+        tally::NINTH_OBLIGATION,
+    );
+    line(
+        t,
+        b"exhausted after live 1, all lines counted: nine countdowns",
+        tally::NINTH_COUNTDOWN,
+    );
+    line(t, b"exhausted after live 17 to 32", tally::BY_LIVE);
 }
 
 fn differences(t: [u64; 40]) {
@@ -53,10 +84,11 @@ pub fn table(t: [u64; 40]) {
     kinds(t);
     say(b"Answers to opening and observing\n");
     answers(t);
+    say(b"Instants of the made cases\n");
+    unseen(t);
     say(b"Limits met\n");
     lives(t);
-    line(t, b"exhausted after live 1", tally::BY_OWED);
-    line(t, b"exhausted after live 17 to 32", tally::BY_LIVE);
+    ends(t);
     say(b"Cases and differences\n");
     line(t, b"cases", tally::CASES);
     differences(t);
@@ -73,6 +105,7 @@ pub fn wide_table(t: [u64; 40]) {
         tally::HIGH_UNSEEN,
     );
     line(t, b"instants with eight clocks unseen", tally::ALL_UNSEEN);
+    unseen(t);
     kinds(t);
     answers(t);
     lives(t);

@@ -49,3 +49,15 @@ pub const ALL_UNSEEN: usize = 22;
 pub const BY_NINTH: usize = 23;
 
 pub const BY_ORDER: usize = 24;
+
+pub const COUNTED: usize = 25;
+
+pub const ON_UNSEEN: usize = 26;
+
+pub const COUNTING_FULL: usize = 27;
+
+pub const BOTH_FULL: usize = 28;
+
+pub const NINTH_OBLIGATION: usize = 29;
+
+pub const NINTH_COUNTDOWN: usize = 30;

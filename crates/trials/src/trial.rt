@@ -14,14 +14,18 @@ use filler::verdict::Verdict;
 use filler::whole_run::judge as verdict_of;
 use judge::answer::Answer;
 use judge::answer::Reply;
-use judge::held::Status;
 use judge::monitor::CallResult;
 use judge::monitor::Monitor;
 use judge::monitor::observe;
 use judge::monitor::open;
+use judge::obligation::Obligation;
+use judge::remainder::Remainder;
 use records::instant::Instant;
+use records::instant::Tick;
+use records::line::Line;
 use records::number;
 use records::sheet::Sheet;
+use records::sheet::line_at;
 
 // The sheet, the instants taken so far, the monitor given back last, the last answer, and what was counted.
 pub struct Trial {
@@ -77,41 +81,109 @@ fn counted(t: [u64; 40], a: Answer) -> [u64; 40] {
     }
 }
 
+fn is_counted(l: Line) -> bool {
+    match l {
+        Line::Counted {
+            a: _,
+            b: _,
+            d: _,
+            n: _,
+        } => true,
+        _ => false,
+    }
+}
+
+// A ninth owed by its sort, where the sheet has lines of one sort alone. Lines rise by kind: the first one tells whether all are counted, the last one whether none is.
+fn with_ninth(t: [u64; 40], s: Sheet) -> [u64; 40] {
+    let n = s.count;
+    if n == 0 {
+        return t;
+    }
+    let t = count_if(is_counted(line_at(s, 0)), t, tally::NINTH_COUNTDOWN);
+    count_if(!is_counted(line_at(s, n - 1)), t, tally::NINTH_OBLIGATION)
+}
+
 // Cases that became exhausted. Of at most four clocks an instant has at most 16 fillings: where live was 1, it was nine owed.
-fn counted_end(t: [u64; 40], before: usize, a: Answer) -> [u64; 40] {
+fn counted_end(t: [u64; 40], before: usize, a: Answer, s: Sheet) -> [u64; 40] {
     match a {
         Answer::Exhausted => {
-            let t = count_if(before == 1, t, tally::BY_OWED);
-            count_if(17 <= before, t, tally::BY_LIVE)
+            let t = count_if(17 <= before, t, tally::BY_LIVE);
+            if before == 1 {
+                return with_ninth(count(t, tally::BY_OWED), s);
+            }
+            t
         }
         _ => t,
     }
 }
 
-// The first remainder of a monitor owes eight.
-fn is_full(m: Monitor) -> bool {
+// The first remainder of a monitor that holds one.
+fn first_of(m: Monitor) -> Remainder {
     let held = m.held;
-    let n = held.count;
-    match n {
-        Status::Exhausted => false,
-        Status::Live(live) => {
-            let r = held.remainders[0];
-            if live == 0 {
-                return false;
-            }
-            r.owed == 8
-        }
-    }
+    held.remainders[0]
+}
+
+// A remainder by its eight obligations, its eight countdowns.
+fn with_full(t: [u64; 40], r: Remainder) -> [u64; 40] {
+    let owes = r.owed == number::MAX_OWED;
+    let counts = r.counting == number::MAX_OWED;
+    let t = count_if(owes, t, tally::FULL);
+    let t = count_if(counts, t, tally::COUNTING_FULL);
+    count_if(owes && counts, t, tally::BOTH_FULL)
 }
 
 // What is counted of an answer.
 fn tallied(t: [u64; 40], before: usize, a: Answer, m: Monitor) -> [u64; 40] {
     let live = live_of(a);
-    let t = counted(t, a);
+    let sheet = m.sheet;
+    let t = counted_end(counted(t, a), before, a, sheet);
+    if live == 0 {
+        return t;
+    }
     let t = count_if(live == 31, t, tally::LIVE_31);
     let t = count_if(live == 32, t, tally::LIVE_32);
-    let t = count_if(is_full(m), t, tally::FULL);
-    counted_end(t, before, a)
+    with_full(t, first_of(m))
+}
+
+fn is_unseen(v: Instant, clock: u8) -> bool {
+    let k = clock as usize;
+    if 7 < k {
+        return false;
+    }
+    let slot = v.ticks[k];
+    let tick = slot.tick;
+    match tick {
+        Tick::Unseen => true,
+        _ => false,
+    }
+}
+
+// One of the first n countdowns waits for ticks of a clock that is unseen in an instant.
+fn waits_unseen(n: usize, countdowns: [Obligation; 8], v: Instant) -> bool {
+    let mut i = 0;
+    while i < 8 {
+        if n <= i {
+            return false;
+        }
+        let c = countdowns[i];
+        if is_unseen(v, c.on) {
+            return true;
+        }
+        i += 1;
+    }
+    false
+}
+
+// Whether the first remainder held counts ticks of a clock that is unseen in an instant.
+pub fn is_on_unseen(t: Trial, v: Instant) -> bool {
+    let a = t.answer;
+    if live_of(a) == 0 {
+        return false;
+    }
+    let m = t.monitor;
+    let r = first_of(m);
+    let countdowns = r.countdowns;
+    waits_unseen(r.counting, countdowns, v)
 }
 
 // A trial with a reply that is due an answer.

@@ -1,4 +1,5 @@
 // Document 01's listing and edge vectors, read and written by `records`: a row per case, its name and what came out.
+mod counting;
 mod instant_values;
 mod instants;
 mod long;
@@ -31,6 +32,7 @@ fn main() {
     sheet_values::all();
     value_order::all();
     sorting::all();
+    counting::all();
     instants::all();
     instant_values::all();
     long::all();

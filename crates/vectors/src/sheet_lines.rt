@@ -44,6 +44,13 @@ fn row(l: Line) {
         Line::Weakly { a, b } => pair(a, b" weakly precedes ", b),
         Line::Strictly { a, b } => pair(a, b" strictly precedes ", b),
         Line::Kills { a, b } => pair(a, b" kills ", b),
+        Line::Counted { a, b, d, n } => {
+            byte(a);
+            say(b" counted by ");
+            byte(n);
+            say(b" on ");
+            pair(b, b" implies ", d);
+        }
     }
     end();
 }

@@ -50,7 +50,7 @@ fn first_record() {
 fn kinds() {
     heading(b"Sheets to read: the kind of a line");
     read_case(b"kind 15", b"\x01\x00\x01\x00\x02\x02\x00\x0F\x00\x00\x01");
-    read_case(b"kind 24", b"\x01\x00\x01\x00\x02\x02\x00\x18\x00\x00\x01");
+    read_case(b"kind 25", b"\x01\x00\x01\x00\x02\x02\x00\x19\x00\x00\x01");
     read_case(b"kind 0", b"\x01\x00\x01\x00\x02\x00\x00\x00\x00");
     read_case(b"kind 274", b"\x01\x00\x01\x00\x02\x02\x00\x12\x01\x00\x01");
     read_case(b"clocks again", b"\x01\x00\x01\x00\x02\x01\x00\x01\x00\x02");
@@ -67,24 +67,24 @@ fn two_faults() {
     read_case(b"wrong length, C = 9", b"\x02\x00\x01\x00\x09\x00");
     read_case(b"C = 9, then a torn line", b"\x01\x00\x01\x00\x09\x02");
     read_case(
-        b"kind 24, wrong length",
-        b"\x01\x00\x01\x00\x02\x03\x00\x18\x00\x00\x01\x00",
+        b"kind 25, wrong length",
+        b"\x01\x00\x01\x00\x02\x03\x00\x19\x00\x00\x01\x00",
     );
     read_case(
         b"wrong length, bad clock",
         b"\x01\x00\x01\x00\x02\x03\x00\x12\x00\x09\x09\x00",
     );
     read_case(
-        b"torn, and kind 24",
-        b"\x01\x00\x01\x00\x02\x03\x00\x18\x00\x00\x01",
+        b"torn, and kind 25",
+        b"\x01\x00\x01\x00\x02\x03\x00\x19\x00\x00\x01",
     );
     read_case(
-        b"bad clock, then kind 24",
-        b"\x01\x00\x01\x00\x02\x02\x00\x12\x00\x00\x02\x02\x00\x18\x00\x00\x01",
+        b"bad clock, then kind 25",
+        b"\x01\x00\x01\x00\x02\x02\x00\x12\x00\x00\x02\x02\x00\x19\x00\x00\x01",
     );
     read_case(
-        b"kind 24, then a torn line",
-        b"\x01\x00\x01\x00\x02\x02\x00\x18\x00\x00\x01\x02\x00",
+        b"kind 25, then a torn line",
+        b"\x01\x00\x01\x00\x02\x02\x00\x19\x00\x00\x01\x02\x00",
     );
     read_case(
         b"wrong length, then bad clock",
@@ -95,8 +95,8 @@ fn two_faults() {
 fn two_faults_late() {
     let sporadic = b"\x04\x00\x10\x00\x00\x01\xFF\x08";
     tape_case(
-        b"seventeenth line, kind 24",
-        with(sixteen_lines(), b"\x02\x00\x18\x00\x00\x01"),
+        b"seventeenth line, kind 25",
+        with(sixteen_lines(), b"\x02\x00\x19\x00\x00\x01"),
     );
     tape_case(
         b"seventeenth line, wrong length",

@@ -55,6 +55,7 @@ fn lengths() {
     length_row(22);
     length_row(23);
     length_row(24);
+    length_row(25);
 }
 
 // A line of a kind in a sheet of two clocks, 2 at one byte of its body and 0 at the others.
@@ -100,6 +101,7 @@ fn clock_numbers() {
     clock_row(21, 2);
     clock_row(22, 2);
     clock_row(23, 2);
+    clock_row(24, 4);
     read_case(
         b"0 implies 1",
         b"\x01\x00\x01\x00\x02\x02\x00\x12\x00\x00\x01",

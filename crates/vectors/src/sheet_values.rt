@@ -5,6 +5,7 @@ use crate::room::outcome;
 use crate::text::case;
 use crate::text::end;
 use crate::text::heading;
+use crate::values::counts;
 use crate::values::delayed;
 use crate::values::implies;
 use crate::values::relation;
@@ -40,16 +41,17 @@ fn both_case(name: &[u8], s: Sheet, t: Sheet) {
     end();
 }
 
-// A sheet of the eight kinds, on three clocks.
-fn eight_kinds() -> Sheet {
-    let s = sheet_of(3, 8, sporadic(0, 1, -3));
+// A sheet of the nine kinds, on three clocks.
+fn nine_kinds() -> Sheet {
+    let s = sheet_of(3, 9, sporadic(0, 1, -3));
     let s = with_line(s, 1, relation(0, 1, 60, -1));
     let s = with_line(s, 2, implies(1, 2));
     let s = with_line(s, 3, Line::Excludes { a: 2, b: 0 });
     let s = with_line(s, 4, delayed(0, 1, 2, 100));
     let s = with_line(s, 5, Line::Weakly { a: 0, b: 2 });
     let s = with_line(s, 6, Line::Strictly { a: 1, b: 0 });
-    with_line(s, 7, Line::Kills { a: 2, b: 1 })
+    let s = with_line(s, 7, Line::Kills { a: 2, b: 1 });
+    with_line(s, 8, counts(0, 1, 2, 3))
 }
 
 fn sizes() {
@@ -62,8 +64,8 @@ fn sizes() {
     write_case(b"the listing, no room", listing, 0);
     write_case(b"no line, just room", empty, 5);
     write_case(b"no line, room a byte short", empty, 4);
-    write_case(b"all eight kinds, just room", eight_kinds(), 62);
-    write_case(b"all eight kinds, room a byte short", eight_kinds(), 61);
+    write_case(b"all nine kinds, just room", nine_kinds(), 70);
+    write_case(b"all nine kinds, room a byte short", nine_kinds(), 69);
 }
 
 // A sheet of one clock and one line.
@@ -81,6 +83,8 @@ fn ends() {
     );
     end_case(b"delayed by 0", delayed(0, 0, 0, 0));
     end_case(b"delayed by 65535", delayed(0, 0, 0, 65535));
+    end_case(b"counted by 1", counts(0, 0, 0, 1));
+    end_case(b"counted by 255", counts(0, 0, 0, 255));
 }
 
 fn limits() {

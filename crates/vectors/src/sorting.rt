@@ -32,7 +32,7 @@ use records::sort::sorted_sheet;
 ghost use Prim.Native.Nat.{_≤_};
 
 // Sorts a sheet into the first `size` bytes of the room.
-fn sort_case(name: &[u8], bytes: &[u8], size: usize)
+pub fn sort_case(name: &[u8], bytes: &[u8], size: usize)
     requires { ⌜ size ≤ 192 ⌝ }
 {
     case(name);
@@ -63,8 +63,8 @@ fn whole() {
         192,
     );
     sort_case(
-        b"all eight kinds, falling",
-        b"\x01\x00\x01\x00\x03\x02\x00\x17\x00\x02\x01\x02\x00\x16\x00\x01\x00\x02\x00\x15\x00\x00\x02\x05\x00\x14\x00\x00\x01\x02\x64\x00\x02\x00\x13\x00\x02\x00\x02\x00\x12\x00\x01\x02\x06\x00\x11\x00\x00\x01\x3C\x00\xFF\xFF\x04\x00\x10\x00\x00\x01\xFD\xFF",
+        b"all nine kinds, falling",
+        b"\x01\x00\x01\x00\x03\x04\x00\x18\x00\x00\x01\x02\x03\x02\x00\x17\x00\x02\x01\x02\x00\x16\x00\x01\x00\x02\x00\x15\x00\x00\x02\x05\x00\x14\x00\x00\x01\x02\x64\x00\x02\x00\x13\x00\x02\x00\x02\x00\x12\x00\x01\x02\x06\x00\x11\x00\x00\x01\x3C\x00\xFF\xFF\x04\x00\x10\x00\x00\x01\xFD\xFF",
         192,
     );
 }
@@ -102,8 +102,8 @@ fn refusals() {
     sort_case(b"no bytes", b"", 192);
     sort_case(b"C = 9", b"\x01\x00\x01\x00\x09", 192);
     tape_case(
-        b"six lines, then one of kind 24",
-        with(repeats(), b"\x02\x00\x18\x00\x00\x01"),
+        b"six lines, then one of kind 25",
+        with(repeats(), b"\x02\x00\x19\x00\x00\x01"),
         192,
     );
     tape_case(
@@ -134,7 +134,7 @@ fn refusals() {
 }
 
 // Sorts a sheet value.
-fn value_case(name: &[u8], sheet: Sheet) {
+pub fn value_case(name: &[u8], sheet: Sheet) {
     case(name);
     let r = sorted_sheet(sheet);
     let answer = r.answer;

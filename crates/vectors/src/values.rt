@@ -46,6 +46,10 @@ pub fn delayed(a: u8, b: u8, d: u8, by: u16) -> Line {
     Line::Delayed { a, b, d, by }
 }
 
+pub fn counts(a: u8, b: u8, d: u8, n: u8) -> Line {
+    Line::Counted { a, b, d, n }
+}
+
 pub fn implies(a: u8, b: u8) -> Line {
     Line::Implies { a, b }
 }

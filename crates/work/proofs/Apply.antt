@@ -12,7 +12,6 @@ use Rattle.records.specs.Types.{All}
 use Rattle.records.specs.Sheet.{SheetValue}
 use Rattle.tesl.specs.Lists.{all, any, flatMap}
 use Rattle.tesl.specs.Run.{Instant, ticksOf, tagsOf, Filled, fillings}
-use Rattle.tesl.specs.Fits.{Obligation, owedFrom}
 use Rattle.tesl.specs.Remainder.{Remainder, sameRemainder}
 use Rattle.theory.specs.Sets.{SameSet}
 use Rattle.theory.specs.Step.{next, stepOk}
@@ -23,6 +22,7 @@ use Rattle.theory.proofs.Held.{successors-any}
 use Rattle.theory.proofs.Members.{each-of}
 use Rattle.work.specs.View.{tagsBefore}
 use Rattle.work.specs.Questions.{ticksHold}
+use Rattle.work.specs.Owed.{Owings, begunBy}
 use Rattle.work.specs.Work.{advanced, took, allAdvanced, filling, fillFrom, worked}
 use Rattle.work.proofs.Padded.{padded, lastIn, tagsFit, goesOn, step-ok, fill-is, filling-tags}
 use Rattle.work.proofs.Advance.{steps}
@@ -85,7 +85,7 @@ module _ (v : SheetValue) (last : Option (List ℤ)) where
   none-reached : (f : Filled) (rs : List Remainder) → ((r : Remainder) → stepOk v last f r ≡ false) → flatMap (one f) rs ≡ []
   none-reached f rs h = flatMap-none (one f) rs (each-of (λ (r : Remainder). one f r ≡ []) rs (λ r m. ap (λ (b : Bool). cond b (next v f r ∷ []) []) (h r)))
 
-all-advanced-fold : (room : ℕ) (v : SheetValue) (f : Filled) (begun : List Obligation) (rs : List Remainder) (found : Option (List Remainder))
+all-advanced-fold : (room : ℕ) (v : SheetValue) (f : Filled) (begun : Owings) (rs : List Remainder) (found : Option (List Remainder))
     → allAdvanced room v f begun rs found ≡ foldl (λ (q : Option (List Remainder)) (r : Remainder). took room q (advanced v f begun r)) found rs
 unfolding allAdvanced
 all-advanced-fold room v f begun [] found = refl
@@ -109,7 +109,7 @@ module _ (room : ℕ) (v : SheetValue) (first : Bool) (was : List ℤ) (i : Inst
       ∙ ap (λ (c : Bool). c && (all (ticksHold (padded f .ticks)) (v .lines) && goesOn v (padded f) r)) d
       ∙ ap (λ (c : Bool). a && (c && goesOn v (padded f) r)) e
 
-  module _ (rs : List Remainder) (shaped : (r : Remainder) → List·Memᴰ r rs → (length (r .stopped) ≡ v .clocks) × (length (r .owed) ≤ 8)) where
+  module _ (rs : List Remainder) (shaped : (r : Remainder) → List·Memᴰ r rs → (length (r .stopped) ≡ v .clocks) × (length (r .owed) ≤ 8) × (length (r .countdowns) ≤ 8)) where
     abbrev Work : List Remainder → Option (List Remainder) → Type 0
     Work = Gathering room v last i rs
 
@@ -123,15 +123,15 @@ module _ (room : ℕ) (v : SheetValue) (first : Bool) (was : List ℤ) (i : Inst
         subst (λ (t : List ℤ). Work (done ++ flatMap (one v last f) rs) (filling room v (filled 8 (pos 0) t) rs found (padded f .ticks))) (filling-tags i m)
         (by-test (all (ticksHold (padded f .ticks)) (v .lines)) refl)
       where
-        begun : List Obligation
-        begun = flatMap (owedFrom (padded f)) (v .lines)
+        begun : Owings
+        begun = begunBy (v .lines) (padded f)
 
         by-test : (b : Bool) → all (ticksHold (padded f .ticks)) (v .lines) ≡ b
             → Work (done ++ flatMap (one v last f) rs) (cond b (allAdvanced room v (padded f) begun rs found) found)
         by-test true e =
             subst (Work (done ++ flatMap (one v last f) rs)) (sym (all-advanced-fold room v (padded f) begun rs found))
             (gather-fold room v last i rs (λ q r. took room q (advanced v (padded f) begun r)) (one v last f) (λ (r : Remainder). List·Memᴰ r rs)
-            (λ done found r n k. gather-one room v last i rs n m done found (λ t. t) (steps v f r (shaped r n .0) (shaped r n .1) (step-by m fit e r)) k)
+            (λ done found r n k. gather-one room v last i rs n m done found (λ t. t) (steps v f r (shaped r n .0) (shaped r n .1) (shaped r n .2) (step-by m fit e r)) k)
             done found rs (each-of (λ (r : Remainder). List·Memᴰ r rs) rs (λ r n. n)) h)
         by-test false e = subst (λ (l : List Remainder). Work l found) (sym (ap (λ (l : List Remainder). done ++ l) (none-reached v last f rs (step-by m fit e)) ∙ append-nil done)) h
 
@@ -146,7 +146,7 @@ module _ (room : ℕ) (v : SheetValue) (first : Bool) (was : List ℤ) (i : Inst
         (sym (flatMap-none (λ (f : Filled). flatMap (one v last f) rs) (fillings i)
         (each-of (λ (f : Filled). flatMap (one v last f) rs ≡ []) (fillings i) (λ f m. none-reached v last f rs (step-by m e refl))))) nothing-yet
 
-  pub worked-gathers : length i ≤ 8 → (rs : List Remainder) → ((r : Remainder) → List·Memᴰ r rs → (length (r .stopped) ≡ v .clocks) × (length (r .owed) ≤ 8))
+  pub worked-gathers : length i ≤ 8 → (rs : List Remainder) → ((r : Remainder) → List·Memᴰ r rs → (length (r .stopped) ≡ v .clocks) × (length (r .owed) ≤ 8) × (length (r .countdowns) ≤ 8))
       → Gathering room v last i rs (reached v last rs (fillings i)) (worked room v (tagsBefore first was) (ticksOf i) tags (some rs))
   unfolding worked
   worked-gathers size [] shaped =

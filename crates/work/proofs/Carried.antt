@@ -9,7 +9,7 @@ use lib.Dec.{T, leb, ltb, leb·zero, ltb→lt}
 use lib.ListN.{length, getD, take, set, replicate, length-replicate, List·getD-eq-default}
 use borrow.Author.Tests.{le-leb, le-ltb, ltb-true}
 use Rattle.records.specs.declared.line.Line.{Line}
-use Rattle.records.specs.declared.line.Line.the-variants.{Sporadic, Relation, Implies, Excludes, Delayed, Weakly, Strictly, Kills}
+use Rattle.records.specs.declared.line.Line.the-variants.{Sporadic, Relation, Implies, Excludes, Delayed, Weakly, Strictly, Kills, Counted}
 use Rattle.records.specs.Line.{blankLine}
 use Rattle.records.specs.Sheet.{SheetValue}
 use Rattle.records.proofs.Lists.{both}
@@ -84,6 +84,7 @@ line-holds ticks (Relation A B p q) lead = sym (leb·zero lead)
 line-holds ticks (Implies A B) lead = sym (leb·zero lead)
 line-holds ticks (Excludes A B) lead = sym (leb·zero lead)
 line-holds ticks (Delayed A B D d) lead = sym (leb·zero lead)
+line-holds ticks (Counted A B D n) lead = sym (leb·zero lead)
 line-holds ticks (Kills A B) lead = sym (leb·zero lead)
 
 lines-hold : (ticks : List Bool) (ls : List Line) (leads : List ℕ) → linesOk (carriedHolds ticks) ls (nextLeads inUse ls leads) ≡ linesOk (asks ticks) ls leads
@@ -101,6 +102,7 @@ module _ (ticks : List Bool) where
   rule-stops (Implies A B) rules stopped = refl
   rule-stops (Excludes A B) rules stopped = refl
   rule-stops (Delayed A B D d) rules stopped = refl
+  rule-stops (Counted A B D n) rules stopped = refl
   rule-stops (Weakly A B) rules stopped = refl
   rule-stops (Strictly A B) rules stopped = refl
   rule-stops (Kills A B) rules stopped = refl
@@ -116,6 +118,7 @@ module _ (ticks : List Bool) where
   stops-either (Implies A B) xs ys h = refl
   stops-either (Excludes A B) xs ys h = refl
   stops-either (Delayed A B D d) xs ys h = refl
+  stops-either (Counted A B D n) xs ys h = refl
   stops-either (Weakly A B) xs ys h = refl
   stops-either (Strictly A B) xs ys h = refl
 
@@ -145,6 +148,7 @@ take-stopped c ticks (Relation A B p q) stopped = refl
 take-stopped c ticks (Implies A B) stopped = refl
 take-stopped c ticks (Excludes A B) stopped = refl
 take-stopped c ticks (Delayed A B D d) stopped = refl
+take-stopped c ticks (Counted A B D n) stopped = refl
 take-stopped c ticks (Weakly A B) stopped = refl
 take-stopped c ticks (Strictly A B) stopped = refl
 
@@ -164,6 +168,7 @@ module _ (ticks : List Bool) where
   no-need (Implies A B) e = refl
   no-need (Excludes A B) e = refl
   no-need (Delayed A B D d) e = refl
+  no-need (Counted A B D n) e = refl
   no-need (Kills A B) e = refl
 
   lead-moves : (l : Line) (old new : ℕ) → (isPrecedes l ≡ true → new ≡ old + gainOf ticks l - lossOf ticks l) → inUse l new ≡ leadAfter ticks l (inUse l old)
@@ -174,6 +179,7 @@ module _ (ticks : List Bool) where
   lead-moves (Implies A B) old new h = refl
   lead-moves (Excludes A B) old new h = refl
   lead-moves (Delayed A B D d) old new h = refl
+  lead-moves (Counted A B D n) old new h = refl
   lead-moves (Kills A B) old new h = refl
 
 -- a precedes line's lead is in use
@@ -185,6 +191,7 @@ in-use (Relation A B p q) n e = absurd (true≢false (sym e))
 in-use (Implies A B) n e = absurd (true≢false (sym e))
 in-use (Excludes A B) n e = absurd (true≢false (sym e))
 in-use (Delayed A B D d) n e = absurd (true≢false (sym e))
+in-use (Counted A B D k) n e = absurd (true≢false (sym e))
 in-use (Kills A B) n e = absurd (true≢false (sym e))
 
 pub used-by : (l : Line) (n : ℕ) → inUse l n ≡ cond (isPrecedes l) n 0
@@ -195,6 +202,7 @@ used-by (Relation A B p q) n = refl
 used-by (Implies A B) n = refl
 used-by (Excludes A B) n = refl
 used-by (Delayed A B D d) n = refl
+used-by (Counted A B D k) n = refl
 used-by (Kills A B) n = refl
 
 abbrev small : ℕ → Bool

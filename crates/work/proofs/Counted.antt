@@ -1,19 +1,19 @@
--- Equality of remainders by counts, where neither has an obligation twice. Assumes nothing.
+-- Equality of remainders by counts, where neither has an obligation or a countdown twice. Assumes nothing.
 use mathlib.Core.Bool.{Bool, true, false, _&&_, Bool·beq, and-true, and-false}
 use mathlib.Core.List.{List, [], _∷_}
 use mathlib.Core.Path.{_≡_, refl, ap, _∙_}
 use lib.Dec.{T, eqb}
 use Rattle.records.specs.Types.{All}
-use Rattle.tesl.specs.Lists.{any, within, sameList}
-use Rattle.tesl.specs.Remainder.{Remainder, sameObligation, sameRemainder}
+use Rattle.tesl.specs.Lists.{any, sameList}
+use Rattle.tesl.specs.Remainder.{Remainder, sameObligation, sameCountdown, sameSets, sameRemainder}
 use Rattle.theory.specs.Sets.{apart}
 use Rattle.theory.proofs.Adding.{by-count}
-use Rattle.theory.proofs.Respect.{owed-equivalence}
+use Rattle.theory.proofs.Respect.{owed-equivalence, count-equivalence}
 use Rattle.work.specs.Work.{sameCounted}
 
--- each obligation once
+-- each obligation once, and each countdown
 abbrev pub Once : Remainder → Type 0
-Once r = T (apart sameObligation (r .owed))
+Once r = T (apart sameObligation (r .owed)) × T (apart sameCountdown (r .countdowns))
 
 -- three tests in another order
 reordered : (a s l : Bool) → (a && (s && l)) ≡ (l && (s && a))
@@ -27,8 +27,8 @@ unfolding sameCounted sameRemainder
 counted x r a b =
     let s = sameList Bool·beq (x .stopped) (r .stopped) in
     let l = sameList eqb (x .leads) (r .leads) in
-    ap (λ (t : Bool). t && (s && l)) (by-count sameObligation owed-equivalence (x .owed) (r .owed) a b)
-    ∙ reordered (within sameObligation (x .owed) (r .owed) && within sameObligation (r .owed) (x .owed)) s l
+    (λ i. by-count sameObligation owed-equivalence (x .owed) (r .owed) (a .0) (b .0) i && by-count sameCountdown count-equivalence (x .countdowns) (r .countdowns) (a .1) (b .1) i && (s && l))
+    ∙ reordered (sameSets sameObligation (x .owed) (r .owed) && sameSets sameCountdown (x .countdowns) (r .countdowns)) s l
 
 pub any-counted : (x : Remainder) (rs : List Remainder) → Once x → All Once rs → any (sameCounted x) rs ≡ any (sameRemainder x) rs
 any-counted x [] a b = refl

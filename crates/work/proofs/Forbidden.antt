@@ -11,7 +11,7 @@ use borrow.Author.Tests.{ltb-true, not-true}
 use Rattle.records.specs.declared.instant.Tick.{Tick}
 use Rattle.records.specs.declared.instant.Tick.the-variants.{Idle, Ticks, Unseen}
 use Rattle.records.specs.declared.line.Line.{Line}
-use Rattle.records.specs.declared.line.Line.the-variants.{Sporadic, Relation, Implies, Excludes, Delayed, Weakly, Strictly, Kills}
+use Rattle.records.specs.declared.line.Line.the-variants.{Sporadic, Relation, Implies, Excludes, Delayed, Weakly, Strictly, Kills, Counted}
 use Rattle.records.proofs.Lists.{both}
 use Rattle.tesl.specs.Lists.{any, filter}
 use Rattle.theory.proofs.Lists.{filter-append}
@@ -48,6 +48,7 @@ module _ (k : ℕ) (ticks : List Bool) where
     forbidden-same (Sporadic A B t) h = absurd (false≢true h)
     forbidden-same (Relation A B p q) h = absurd (false≢true h)
     forbidden-same (Delayed A B D d) h = absurd (false≢true h)
+    forbidden-same (Counted A B D n) h = absurd (false≢true h)
     forbidden-same (Weakly A B) h = absurd (false≢true h)
     forbidden-same (Strictly A B) h = absurd (false≢true h)
 

@@ -1,4 +1,4 @@
--- What the monitor's work on an instant has found: some of the successors; and every one once, or a reason to answer exhausted, where each remainder held has an obligation once. Assumes nothing.
+-- What the monitor's work on an instant has found: some of the successors; and every one once, or a reason to answer exhausted, where each remainder held has an obligation once and a countdown once. Assumes nothing.
 use mathlib.Core.Bool.{Bool, not}
 use mathlib.Core.List.{List}
 use mathlib.Core.Option.{Option, none, some}
@@ -29,8 +29,9 @@ use Rattle.work.proofs.Apply.{reached, reached-are, worked-gathers}
 pub record Shaped (c : ℕ) (r : Remainder) : Type 0 where
   pub clocks : length (r .stopped) ≡ c
   pub owed : length (r .owed) ≤ 8
+  pub countdowns : length (r .countdowns) ≤ 8
 
--- each has an obligation once
+-- each has an obligation once, and a countdown
 abbrev pub Proper : List Remainder → Type 0
 Proper rs = All Once rs
 
@@ -45,7 +46,7 @@ module _ (room : ℕ) (v : SheetValue) (first : Bool) (was : List ℤ) (i : Inst
       → Gathering room v (lastIn v first was) i rs (reached v (lastIn v first was) rs (fillings i)) q
   gathered e =
       subst (Gathering room v (lastIn v first was) i rs (reached v (lastIn v first was) rs (fillings i))) e
-      (worked-gathers room v first was i size rs (λ r m. let h = of-each (Shaped (v .clocks)) shaped m in (h .clocks, h .owed)))
+      (worked-gathers room v first was i size rs (λ r m. let h = of-each (Shaped (v .clocks)) shaped m in (h .clocks, h .owed, h .countdowns)))
 
   -- whether a run has rs or not
   pub worked-among : {new : List Remainder} → worked room v (tagsBefore first was) (ticksOf i) (filled 8 (pos 0) (tagsOf i)) (some rs) ≡ some new

@@ -34,7 +34,7 @@ use Rattle.work.proofs.Advance.{Steps, broken, too-many, goes}
 -- ---- those found
 
 module _ (room : ℕ) (v : SheetValue) (last : Option (List ℤ)) (i : Instant) (rs : List Remainder) where
-  -- xs are successors; and the reached ones, where each of rs has an obligation once
+  -- xs are successors; and the reached ones, where each of rs has an obligation once and a countdown once
   pub record Gathered (reached xs : List Remainder) : Type 0 where
     pub among : Covers sameRemainder xs (successors v last i rs)
     pub live : length xs ≤ room

@@ -6,7 +6,7 @@ use Prim.Native.Nat.{ℕ, _<_}
 use lib.IntN.{ℤ}
 use lib.ListN.{length, getD, set, length-set}
 use Rattle.records.specs.declared.line.Line.{Line}
-use Rattle.records.specs.declared.line.Line.the-variants.{Sporadic, Relation, Implies, Excludes, Delayed, Weakly, Strictly, Kills}
+use Rattle.records.specs.declared.line.Line.the-variants.{Sporadic, Relation, Implies, Excludes, Delayed, Weakly, Strictly, Kills, Counted}
 use Rattle.tesl.specs.Lists.{any}
 use Rattle.tesl.specs.Remainder.{stops}
 use Rattle.theory.specs.Step.{nextLead, nextLeads}
@@ -32,6 +32,7 @@ as-many ticks (Relation A B p q) stopped = refl
 as-many ticks (Implies A B) stopped = refl
 as-many ticks (Excludes A B) stopped = refl
 as-many ticks (Delayed A B D d) stopped = refl
+as-many ticks (Counted A B D n) stopped = refl
 as-many ticks (Weakly A B) stopped = refl
 as-many ticks (Strictly A B) stopped = refl
 

@@ -1,5 +1,5 @@
 -- A filled instant of a sheet's clocks and the same one of eight clocks, those from C on idle at tag 0, are one to every question. Assumes nothing.
-use mathlib.Core.Bool.{Bool, true, false, not, cond, _&&_, _||_, and-true}
+use mathlib.Core.Bool.{Bool, true, false, not, cond, _&&_, _||_, and-true, and-false, and-comm}
 use mathlib.Core.List.{List, [], _∷_, _++_, List·Memᴰ, Memᴰ·of-map}
 use mathlib.Core.Option.{Option, none, some}
 use mathlib.Core.Path.{_≡_, refl, sym, ap, ap₂, _∙_}
@@ -18,18 +18,18 @@ use Rattle.tesl.specs.Run.{Instant, ticksOf, tagsOf, Filled, tagIn, tagAt, fill
 use Rattle.tesl.specs.Fits.{Obligation, noneFalls, owedFrom, notLate}
 use Rattle.tesl.specs.Remainder.{Remainder, stops}
 use Rattle.tesl.proofs.FormulaLists.{all-append}
-use Rattle.theory.specs.Step.{overlap, linesOk, nextOwed, next, stepOk}
+use Rattle.theory.specs.Step.{overlap, linesOk, nextOwed, noneMissed, nextCountdowns, next, stepOk}
 use Rattle.theory.proofs.Lists.{table-ext}
 use Rattle.theory.proofs.Fill.{settled, fillings-settled, foldl, fillFold-is}
 use Rattle.work.specs.View.{filledOf, tagsBefore}
 use Rattle.work.specs.Questions.{tagsHold, ticksHold, carriedHolds}
 use Rattle.work.specs.Lines.{allStopped}
-use Rattle.work.specs.Owed.{owing, left}
+use Rattle.work.specs.Owed.{Owings, owing, left}
 use Rattle.work.specs.Work.{carried, fillFrom}
 use Rattle.work.proofs.Questions.{lines-ok}
 use Rattle.work.proofs.Lines.{leads-after, all-as-many, all-stopped}
 use Rattle.work.proofs.Below.{below-ext}
-use Rattle.work.proofs.PaddedLaws.{Alike, filled-reads, table-reads, fills, foldl-map, all-begun-later, same-overlap, same-lines, same-leads, same-begun, same-stops, same-left, same-late}
+use Rattle.work.proofs.PaddedLaws.{Alike, filled-reads, table-reads, fills, foldl-map, all-begun-later, same-overlap, same-lines, same-leads, same-begun, same-stops, same-left, same-late, same-counted, same-counting, same-missed}
 
 abbrev pub padded : Filled → Filled
 padded f = filledOf (filled 8 false (f .ticks)) (filled 8 (pos 0) (f .tags))
@@ -43,7 +43,9 @@ abbrev pub tagsFit : SheetValue → Option (List ℤ) → List ℤ → Bool
 tagsFit v last tags = noneFalls (v .clocks) last tags && all (tagsHold tags) (v .lines)
 
 abbrev pub goesOn : SheetValue → Filled → Remainder → Bool
-goesOn v f r = (not (overlap (f .ticks) (r .stopped)) && linesOk (carriedHolds (f .ticks)) (v .lines) (r .leads)) && notLate (some (f .tags)) (left f (r .owed))
+goesOn v f r =
+    (not (overlap (f .ticks) (r .stopped)) && linesOk (carriedHolds (f .ticks)) (v .lines) (r .leads))
+    && (notLate (some (f .tags)) (left f (r .owed)) && noneMissed f (r .countdowns))
 
 -- ---- alike at each clock
 
@@ -67,14 +69,15 @@ late ls f os =
     ∙ same-late (alike f) (left f os)
     ∙ ap (notLate (some (padded f .tags))) (same-left (alike f) os)
 
-regroup : (n q a b c d : Bool) → (n && (q && (a && (b && c))) && d) ≡ (n && a && (b && (q && c && d)))
-regroup false q a b c d = refl
-regroup true false false b c d = refl
-regroup true false true false c d = refl
-regroup true false true true c d = refl
-regroup true true false b c d = refl
-regroup true true true false c d = refl
-regroup true true true true c d = refl
+regroup : (n m q a b c d : Bool) → (n && (m && (q && (a && (b && c)))) && d) ≡ (n && a && (b && (q && c && (d && m))))
+regroup false m q a b c d = refl
+regroup true m false false b c d = ap (λ (x : Bool). x && d) (and-false m)
+regroup true m false true false c d = ap (λ (x : Bool). x && d) (and-false m)
+regroup true m false true true c d = ap (λ (x : Bool). x && d) (and-false m)
+regroup true m true false b c d = ap (λ (x : Bool). x && d) (and-false m)
+regroup true m true true false c d = ap (λ (x : Bool). x && d) (and-false m)
+regroup true m true true true false d = ap (λ (x : Bool). x && d) (and-false m)
+regroup true m true true true true d = ap (λ (x : Bool). x && d) (and-true m) ∙ and-comm m d
 
 pub step-ok : (v : SheetValue) (first : Bool) (was : List ℤ) (f : Filled) (r : Remainder)
     → stepOk v (lastIn v first was) f r ≡ (tagsFit v (tagsBefore first was) (padded f .tags) && (all (ticksHold (padded f .ticks)) (v .lines) && goesOn v (padded f) r))
@@ -83,12 +86,13 @@ step-ok v first was f r =
     let g = padded f in
     rw (
       falls (v .clocks) first was f,
+      same-missed (alike f) (r .countdowns),
       same-overlap (f .ticks) (g .ticks) (r .stopped) (alike f .ticks),
       same-lines (alike f) (v .lines) (r .leads),
       lines-ok (g .ticks) (g .tags) (v .lines) (r .leads),
       late (v .lines) f (r .owed),
     )
-    (regroup (noneFalls (v .clocks) (tagsBefore first was) (g .tags)) (not (overlap (g .ticks) (r .stopped))) (all (tagsHold (g .tags)) (v .lines)) (all (ticksHold (g .ticks)) (v .lines))
+    (regroup (noneFalls (v .clocks) (tagsBefore first was) (g .tags)) (noneMissed g (r .countdowns)) (not (overlap (g .ticks) (r .stopped))) (all (tagsHold (g .tags)) (v .lines)) (all (ticksHold (g .ticks)) (v .lines))
     (linesOk (carriedHolds (g .ticks)) (v .lines) (r .leads)) (notLate (some (g .tags)) (left g (r .owed))))
 
 stopped-next : (c : ℕ) (ls : List Line) (f : Filled) (stopped : List Bool) → length stopped ≡ c
@@ -101,13 +105,18 @@ stopped-next c ls f stopped e =
     ∙ ap (λ (n : ℕ). table n (λ k. getD after k false)) (sym (all-as-many (g .ticks) ls stopped ∙ e))
     ∙ table-reads false after
 
+-- what r owes after f, repeats and all
+abbrev pub afterwards : SheetValue → Filled → Remainder → Owings
+afterwards v f r = record { owed = left f (r .owed) ++ flatMap (owedFrom f) (v .lines); countdowns = nextCountdowns (v .lines) f (r .countdowns) }
+
 pub step-next : (v : SheetValue) (f : Filled) (r : Remainder) → length (r .stopped) ≡ v .clocks
-    → next v f r ≡ carried v (padded f .ticks) (owing (left (padded f) (r .owed) ++ flatMap (owedFrom (padded f)) (v .lines)) r)
+    → next v f r ≡ carried v (padded f .ticks) (owing (afterwards v (padded f) r) r)
 unfolding next
 step-next v f r h =
     let g = padded f in
     λ i. record {
       owed = same-left (alike f) (r .owed) i ++ same-begun (alike f) (v .lines) i;
+      countdowns = same-counting (alike f) (r .countdowns) i ++ same-counted (alike f) (v .lines) i;
       leads = (same-leads (alike f) (v .lines) (r .leads) ∙ leads-after (g .ticks) (g .tags) (v .lines) (r .leads)) i;
       stopped = stopped-next (v .clocks) (v .lines) f (r .stopped) h i;
     }

@@ -13,16 +13,16 @@ use lib.Signed.{leZ}
 use Rattle.records.specs.declared.instant.Tick.{Tick}
 use Rattle.records.specs.declared.instant.Tick.the-variants.{Idle, Ticks, Unseen}
 use Rattle.records.specs.declared.line.Line.{Line}
-use Rattle.records.specs.declared.line.Line.the-variants.{Sporadic, Relation, Implies, Excludes, Delayed, Weakly, Strictly, Kills}
+use Rattle.records.specs.declared.line.Line.the-variants.{Sporadic, Relation, Implies, Excludes, Delayed, Weakly, Strictly, Kills, Counted}
 use Rattle.records.specs.Lists.{filled}
 use Rattle.records.proofs.Lists.{filled-set}
 use Rattle.tesl.specs.Lists.{all, any, filter, flatMap, table}
 use Rattle.tesl.specs.Run.{Filled, ticksAt, tagAt}
-use Rattle.tesl.specs.Fits.{Obligation, owedFrom, notLate}
+use Rattle.tesl.specs.Fits.{Obligation, owedFrom, notLate, Countdown, countedFrom, leftBy}
 use Rattle.tesl.specs.Remainder.{stops}
 use Rattle.tesl.proofs.FormulaLists.{all-append}
 use Rattle.tesl.proofs.Tests.{T→≡}
-use Rattle.theory.specs.Step.{lineOk, overlap, linesOk, nextLead, nextLeads}
+use Rattle.theory.specs.Step.{lineOk, overlap, linesOk, nextLead, nextLeads, noneMissed, begunCountdowns}
 use Rattle.theory.proofs.Fill.{foldl, fillFold}
 use Rattle.work.specs.Owed.{left}
 use Rattle.work.specs.Work.{fillFrom}
@@ -106,6 +106,7 @@ begun-later f (Excludes A B) = refl
 begun-later f (Weakly A B) = refl
 begun-later f (Strictly A B) = refl
 begun-later f (Kills A B) = refl
+begun-later f (Counted A B D n) = refl
 
 pub all-begun-later : (f : Filled) (ls : List Line) → notLate (some (f .tags)) (flatMap (owedFrom f) ls) ≡ true
 all-begun-later f [] = refl
@@ -132,18 +133,20 @@ record Same (f g : Filled) (l : Line) : Type 0 where
   holds : (lead : ℕ) → lineOk f l lead ≡ lineOk g l lead
   leads : (lead : ℕ) → nextLead f l lead ≡ nextLead g l lead
   begins : owedFrom f l ≡ owedFrom g l
+  counts : countedFrom f l ≡ countedFrom g l
   stop : (k : ℕ) → stops (f ∷ []) k l ≡ stops (g ∷ []) k l
 
 module _ {f g : Filled} (a : Alike f g) where
   same : (l : Line) → Same f g l
-  same (Relation A B p q) = record { holds = λ n. rw (a .tags A, a .tags B); leads = λ n. refl; begins = refl; stop = λ k. refl }
-  same (Implies A B) = record { holds = λ n. rw (a .ticks A, a .ticks B); leads = λ n. refl; begins = refl; stop = λ k. refl }
-  same (Excludes A B) = record { holds = λ n. rw (a .ticks A, a .ticks B); leads = λ n. refl; begins = refl; stop = λ k. refl }
-  same (Weakly A B) = record { holds = λ n. rw (a .ticks A, a .ticks B); leads = λ n. rw (a .ticks A, a .ticks B); begins = refl; stop = λ k. refl }
-  same (Strictly A B) = record { holds = λ n. rw (a .ticks B); leads = λ n. rw (a .ticks A, a .ticks B); begins = refl; stop = λ k. refl }
-  same (Kills A B) = record { holds = λ n. rw (a .ticks A, a .ticks B); leads = λ n. refl; begins = refl; stop = λ k. rw (a .ticks A) }
-  same (Sporadic A B t) = record { holds = λ n. refl; leads = λ n. refl; begins = refl; stop = λ k. refl }
-  same (Delayed A B D d) = record { holds = λ n. refl; leads = λ n. refl; begins = rw (a .ticks A, a .tags B); stop = λ k. refl }
+  same (Relation A B p q) = record { holds = λ n. rw (a .tags A, a .tags B); leads = λ n. refl; begins = refl; counts = refl; stop = λ k. refl }
+  same (Implies A B) = record { holds = λ n. rw (a .ticks A, a .ticks B); leads = λ n. refl; begins = refl; counts = refl; stop = λ k. refl }
+  same (Excludes A B) = record { holds = λ n. rw (a .ticks A, a .ticks B); leads = λ n. refl; begins = refl; counts = refl; stop = λ k. refl }
+  same (Weakly A B) = record { holds = λ n. rw (a .ticks A, a .ticks B); leads = λ n. rw (a .ticks A, a .ticks B); begins = refl; counts = refl; stop = λ k. refl }
+  same (Strictly A B) = record { holds = λ n. rw (a .ticks B); leads = λ n. rw (a .ticks A, a .ticks B); begins = refl; counts = refl; stop = λ k. refl }
+  same (Kills A B) = record { holds = λ n. rw (a .ticks A, a .ticks B); leads = λ n. refl; begins = refl; counts = refl; stop = λ k. rw (a .ticks A) }
+  same (Sporadic A B t) = record { holds = λ n. refl; leads = λ n. refl; begins = refl; counts = refl; stop = λ k. refl }
+  same (Delayed A B D d) = record { holds = λ n. refl; leads = λ n. refl; begins = rw (a .ticks A, a .tags B); counts = refl; stop = λ k. refl }
+  same (Counted A B D n) = record { holds = λ k. refl; leads = λ k. refl; begins = refl; counts = rw (a .ticks A); stop = λ k. refl }
 
   pub same-lines : (ls : List Line) (leads : List ℕ) → linesOk (lineOk f) ls leads ≡ linesOk (lineOk g) ls leads
   same-lines ls leads = ap (λ (ok : Line → ℕ → Bool). linesOk ok ls leads) (fun-ext (λ l. fun-ext (same l .holds)))
@@ -154,6 +157,9 @@ module _ {f g : Filled} (a : Alike f g) where
   pub same-begun : (ls : List Line) → flatMap (owedFrom f) ls ≡ flatMap (owedFrom g) ls
   same-begun ls = ap (λ (begun : Line → List Obligation). flatMap begun ls) (fun-ext (λ l. same l .begins))
 
+  pub same-counted : (ls : List Line) → begunCountdowns ls f ≡ begunCountdowns ls g
+  same-counted ls = ap (λ (begun : Line → List Countdown). flatMap begun ls) (fun-ext (λ l. ap (leftBy []) (same l .counts)))
+
   pub same-stops : (k : ℕ) (ls : List Line) → any (stops (f ∷ []) k) ls ≡ any (stops (g ∷ []) k) ls
   same-stops k ls = ap (λ (p : Line → Bool). any p ls) (fun-ext (λ l. same l .stop k))
 
@@ -162,3 +168,9 @@ module _ {f g : Filled} (a : Alike f g) where
 
   pub same-late : (os : List Obligation) → notLate (some (f .tags)) os ≡ notLate (some (g .tags)) os
   same-late os = ap (λ (p : Obligation → Bool). all p os) (fun-ext (λ (o : Obligation). ap (λ (x : ℤ). leZ x (o .due)) (a .tags (o .on))))
+
+  pub same-counting : (cs : List Countdown) → leftBy (f ∷ []) cs ≡ leftBy (g ∷ []) cs
+  same-counting cs = ap (λ (h : Countdown → List Countdown). flatMap h cs) (fun-ext (λ (c : Countdown). rw (a .ticks (c .on))))
+
+  pub same-missed : (cs : List Countdown) → noneMissed f cs ≡ noneMissed g cs
+  same-missed cs = ap (λ (p : Countdown → Bool). all p cs) (fun-ext (λ (c : Countdown). rw (a .ticks (c .on), a .ticks (c .clock))))

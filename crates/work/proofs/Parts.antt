@@ -4,12 +4,13 @@ use mathlib.Core.List.{List, [], _∷_, _++_}
 use mathlib.Core.Path.{_≡_, refl}
 use lib.IntN.{ℤ}
 use Rattle.records.specs.declared.line.Line.{Line}
-use Rattle.records.specs.declared.line.Line.the-variants.{Sporadic, Relation, Implies, Excludes, Delayed, Weakly, Strictly, Kills}
+use Rattle.records.specs.declared.line.Line.the-variants.{Sporadic, Relation, Implies, Excludes, Delayed, Weakly, Strictly, Kills, Counted}
 use Rattle.tesl.specs.Lists.{all, filter, flatMap}
 use Rattle.tesl.specs.Run.{Filled}
 use Rattle.tesl.specs.Fits.{owedFrom}
+use Rattle.theory.specs.Step.{startedBy, begunCountdowns}
 use Rattle.work.specs.Questions.{tagsHold, ticksHold}
-use Rattle.work.specs.Parts.{isRelation, isRule, isDelay}
+use Rattle.work.specs.Parts.{isRelation, isRule, isDelay, isCounted}
 use Rattle.work.specs.Rules.{allowed}
 
 module _ (part : Line → Bool) where
@@ -38,6 +39,7 @@ free-tags tags (Delayed A B D d) h = refl
 free-tags tags (Weakly A B) h = refl
 free-tags tags (Strictly A B) h = refl
 free-tags tags (Kills A B) h = refl
+free-tags tags (Counted A B D n) h = refl
 
 -- only relations ask of the tags
 pub relations-enough : (tags : List ℤ) (ls : List Line) → all (tagsHold tags) (filter isRelation ls) ≡ all (tagsHold tags) ls
@@ -52,6 +54,7 @@ free-ticks ticks (Delayed A B D d) h = refl
 free-ticks ticks (Weakly A B) h = refl
 free-ticks ticks (Strictly A B) h = refl
 free-ticks ticks (Kills A B) h = absurd (true≢false h)
+free-ticks ticks (Counted A B D n) h = refl
 
 -- only rules ask of the ticks
 pub rules-enough : (ls : List Line) (ticks : List Bool) → allowed (filter isRule ls) ticks ≡ all (ticksHold ticks) ls
@@ -66,7 +69,23 @@ free-begins f (Delayed A B D d) h = absurd (true≢false h)
 free-begins f (Weakly A B) h = refl
 free-begins f (Strictly A B) h = refl
 free-begins f (Kills A B) h = refl
+free-begins f (Counted A B D n) h = refl
 
 -- only delay lines begin obligations
 pub delays-enough : (f : Filled) (ls : List Line) → flatMap (owedFrom f) (filter isDelay ls) ≡ flatMap (owedFrom f) ls
 delays-enough f ls = each-part isDelay (owedFrom f) (free-begins f) ls
+
+free-starts : (f : Filled) (l : Line) → isCounted l ≡ false → startedBy f l ≡ []
+free-starts f (Counted A B D n) h = absurd (true≢false h)
+free-starts f (Sporadic A B t) h = refl
+free-starts f (Relation A B p q) h = refl
+free-starts f (Implies A B) h = refl
+free-starts f (Excludes A B) h = refl
+free-starts f (Delayed A B D d) h = refl
+free-starts f (Weakly A B) h = refl
+free-starts f (Strictly A B) h = refl
+free-starts f (Kills A B) h = refl
+
+-- only counted lines begin countdowns
+pub counted-enough : (f : Filled) (ls : List Line) → begunCountdowns (filter isCounted ls) f ≡ begunCountdowns ls f
+counted-enough f ls = each-part isCounted (startedBy f) (free-starts f) ls

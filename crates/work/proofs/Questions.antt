@@ -9,7 +9,7 @@ use lib.ListN.{length, getD, set}
 use lib.Seq.{getD-set-same, getD-set-other}
 use borrow.Author.Tests.{eqb-true, eqb-false}
 use Rattle.records.specs.declared.line.Line.{Line}
-use Rattle.records.specs.declared.line.Line.the-variants.{Sporadic, Relation, Implies, Excludes, Delayed, Weakly, Strictly, Kills}
+use Rattle.records.specs.declared.line.Line.the-variants.{Sporadic, Relation, Implies, Excludes, Delayed, Weakly, Strictly, Kills, Counted}
 use Rattle.tesl.specs.Lists.{all}
 use Rattle.tesl.specs.Remainder.{stops}
 use Rattle.theory.specs.Step.{lineOk, linesOk, nextLead}
@@ -26,6 +26,7 @@ module _ (ticks : List Bool) (tags : List ℤ) where
   line-ok (Strictly A B) lead = refl
   line-ok (Sporadic A B t) lead = refl
   line-ok (Delayed A B D d) lead = refl
+  line-ok (Counted A B D n) lead = refl
 
 -- a test of a list's head and of its rest, in three parts
 regroup : (a b c x y z : Bool) → ((a && (b && c)) && (x && (y && z))) ≡ ((a && x) && ((b && y) && (c && z)))
@@ -66,5 +67,6 @@ stopped-after ticks tags (Relation A B p q) stopped k h = sym (or-false _)
 stopped-after ticks tags (Implies A B) stopped k h = sym (or-false _)
 stopped-after ticks tags (Excludes A B) stopped k h = sym (or-false _)
 stopped-after ticks tags (Delayed A B D d) stopped k h = sym (or-false _)
+stopped-after ticks tags (Counted A B D n) stopped k h = sym (or-false _)
 stopped-after ticks tags (Weakly A B) stopped k h = sym (or-false _)
 stopped-after ticks tags (Strictly A B) stopped k h = sym (or-false _)

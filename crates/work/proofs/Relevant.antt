@@ -1,4 +1,4 @@
--- An unseen tick that no line and no obligation held names may count as idle: a filling with it makes of the remainders held what the filling without it does, or is barred, and what was found once is not found again. Assumes nothing.
+-- An unseen tick that no line, no obligation held and no countdown held names may count as idle: a filling with it makes of the remainders held what the filling without it does, or is barred, and what was found once is not found again. Assumes nothing.
 use mathlib.Core.Bool.{Bool, true, false, not, cond, _&&_, Bool·beq, or-true, true≢false}
 use mathlib.Core.List.{List, [], _∷_, _++_, map}
 use mathlib.Core.Logic.{_⊎_, inl, inr, ⊎-elim}
@@ -14,16 +14,16 @@ use borrow.Author.Tests.{eq-eqb}
 use Rattle.records.specs.declared.instant.Tick.{Tick}
 use Rattle.records.specs.declared.instant.Tick.the-variants.{Idle, Ticks, Unseen}
 use Rattle.records.specs.declared.line.Line.{Line}
-use Rattle.records.specs.declared.line.Line.the-variants.{Sporadic, Relation, Implies, Excludes, Delayed, Weakly, Strictly, Kills}
+use Rattle.records.specs.declared.line.Line.the-variants.{Sporadic, Relation, Implies, Excludes, Delayed, Weakly, Strictly, Kills, Counted}
 use Rattle.records.specs.Sheet.{SheetValue}
 use Rattle.records.specs.Types.{All}
 use Rattle.records.proofs.Lists.{neither}
 use Rattle.tesl.specs.Lists.{all, any, flatMap, within, sameList}
 use Rattle.tesl.specs.Run.{Filled}
-use Rattle.tesl.specs.Fits.{Obligation, owedFrom}
-use Rattle.tesl.specs.Remainder.{Remainder, sameObligation, sameRemainder}
+use Rattle.tesl.specs.Fits.{Obligation, owedFrom, Countdown, countedFrom, leftBy}
+use Rattle.tesl.specs.Remainder.{Remainder, sameObligation, sameCountdown, sameRemainder}
 use Rattle.tesl.proofs.Tests.{and-l, and-r, and-i, or-l, or-r, or-e, T→≡, ≡→T}
-use Rattle.theory.specs.Step.{overlap, linesOk, nextLeads}
+use Rattle.theory.specs.Step.{overlap, linesOk, nextLeads, noneMissed, begunCountdowns}
 use Rattle.theory.proofs.Lists.{any-append, any-snoc}
 use Rattle.theory.proofs.Respect.{remainder-equivalence}
 use Rattle.theory.specs.Adding.{addedTo}
@@ -31,9 +31,9 @@ use Rattle.work.specs.Advanced.{Advanced, fails, over, onto}
 use Rattle.work.specs.View.{filledOf, heldList, isNone}
 use Rattle.work.specs.Questions.{tickIn, ticksHold, carriedHolds, leadAfter, stoppedAfter}
 use Rattle.work.specs.Lines.{allStopped}
-use Rattle.work.specs.Owed.{owing, left, stillOwed}
+use Rattle.work.specs.Owed.{Owings, owing, begunBy, addedAll, addedCountdowns, left, stillOwed, stillCounting, together}
 use Rattle.work.specs.Relevant.{namedBy, flagged, isRelevant, tickIfRelevant, relevantOnly}
-use Rattle.work.specs.Work.{carried, withBegun, withStillOwed, addedAll, advanced, sameCounted, inserted, took, allAdvanced, filling, fillFrom}
+use Rattle.work.specs.Work.{carried, withBegun, withStillOwed, advanced, sameCounted, inserted, took, allAdvanced, filling, fillFrom}
 
 abbrev Found : Type 0
 Found = Option (List Remainder)
@@ -46,9 +46,15 @@ counted-self x =
     let l = sameList eqb (x .leads) (x .leads) in
     let s = sameList Bool·beq (x .stopped) (x .stopped) in
     let w = within sameObligation (x .owed) (x .owed) in
-    let t₁ = and-r l (s && (w && w)) t in
+    let u = within sameCountdown (x .countdowns) (x .countdowns) in
+    let sets = (w && w) && (u && u) in
+    let t₁ = and-r l (s && sets) t in
+    let t₂ = and-r s sets t₁ in
     let c = eqb (length (x .owed)) (length (x .owed)) in
-    and-i (c && w) (s && l) (and-i c w (eqb-refl (length (x .owed))) (and-l w w (and-r s (w && w) t₁))) (and-i s l (and-l s (w && w) t₁) (and-l l (s && (w && w)) t))
+    let d = eqb (length (x .countdowns)) (length (x .countdowns)) in
+    and-i ((c && w) && (d && u)) (s && l)
+    (and-i (c && w) (d && u) (and-i c w (eqb-refl (length (x .owed))) (and-l w w (and-l (w && w) (u && u) t₂))) (and-i d u (eqb-refl (length (x .countdowns))) (and-l u u (and-r (w && w) (u && u) t₂))))
+    (and-i s l (and-l s sets t₁) (and-l l (s && sets) t))
 
 module _ (room : ℕ) where
   -- those found with one more, by whether it is there and whether there is room
@@ -115,7 +121,7 @@ module _ (room : ℕ) where
   take-both f g a b p o h = b (f p) o (a p o h)
 
   module _ (v : SheetValue) where
-    all-advanced-takes : (f : Filled) (begun : List Obligation) (rs : List Remainder) → Taking (allAdvanced room v f begun rs)
+    all-advanced-takes : (f : Filled) (begun : Owings) (rs : List Remainder) → Taking (allAdvanced room v f begun rs)
     unfolding allAdvanced
     all-advanced-takes f begun [] = λ p o h. h
     all-advanced-takes f begun (r ∷ rs) = take-both (λ p. took room p (advanced v f begun r)) (allAdvanced room v f begun rs) (λ p. took-holds p (advanced v f begun r)) (all-advanced-takes f begun rs)
@@ -124,8 +130,8 @@ module _ (room : ℕ) where
     unfolding filling
     filling-takes tags rs ticks = by-test (all (ticksHold ticks) (v .lines))
       where
-        begun : List Obligation
-        begun = flatMap (owedFrom (filledOf ticks tags)) (v .lines)
+        begun : Owings
+        begun = begunBy (v .lines) (filledOf ticks tags)
 
         by-test : (b : Bool) → Taking (λ p. cond b (allAdvanced room v (filledOf ticks tags) begun rs p) p)
         by-test true = all-advanced-takes (filledOf ticks tags) begun rs
@@ -173,16 +179,20 @@ module _ (room : ℕ) where
       fill-relevant k [] ticks found = refl
       fill-relevant k (t ∷ seen) ticks found = by-flag (p k) k refl t (relevantOnly p (k + 1) seen) seen (fill-relevant (k + 1) seen) ticks found
 
--- the clocks that a remainder owes a tick of
-abbrev pub clocksOf : Remainder → List ℕ
-clocksOf r = map (λ (o : Obligation). o .clock) (r .owed)
+-- the clocks that a remainder owes a tick of, and those that its countdowns are on
+abbrev pub countClocks : Countdown → List ℕ
+countClocks c = c .clock ∷ c .on ∷ []
 
--- ---- lines and obligations that don't name clock k don't tell ticks t and u apart
+abbrev pub clocksOf : Remainder → List ℕ
+clocksOf r = map (λ (o : Obligation). o .clock) (r .owed) ++ flatMap countClocks (r .countdowns)
+
+-- ---- lines, obligations and countdowns that don't name clock k don't tell ticks t and u apart
 module _ (k : ℕ) (t u : List Bool) (e : (a : ℕ) → eqb k a ≡ false → tickIn u a ≡ tickIn t a) where
   record Same (l : Line) : Type 0 where
     pub rule : ticksHold u l ≡ ticksHold t l
     pub holds : (lead : ℕ) → carriedHolds u l lead ≡ carriedHolds t l lead
     pub begun : (tags : List ℤ) → owedFrom (filledOf u tags) l ≡ owedFrom (filledOf t tags) l
+    pub counts : (tags : List ℤ) → countedFrom (filledOf u tags) l ≡ countedFrom (filledOf t tags) l
     pub lead : (n : ℕ) → leadAfter u l n ≡ leadAfter t l n
     pub stop : (stopped : List Bool) → stoppedAfter u l stopped ≡ stoppedAfter t l stopped
 
@@ -194,14 +204,15 @@ module _ (k : ℕ) (t u : List Bool) (e : (a : ℕ) → eqb k a ≡ false → ti
     two = e B (neither (eqb k B) (neither (eqb k A) h .1) .0)
 
   same : (l : Line) → any (eqb k) (namedBy l) ≡ false → Same l
-  same (Implies A B) h = record { rule = rw (one A B h, two A B h); holds = λ n. refl; begun = λ tags. refl; lead = λ n. refl; stop = λ s. refl }
-  same (Excludes A B) h = record { rule = rw (one A B h, two A B h); holds = λ n. refl; begun = λ tags. refl; lead = λ n. refl; stop = λ s. refl }
-  same (Weakly A B) h = record { rule = refl; holds = λ n. rw (one A B h, two A B h); begun = λ tags. refl; lead = λ n. rw (one A B h, two A B h); stop = λ s. refl }
-  same (Strictly A B) h = record { rule = refl; holds = λ n. rw (two A B h); begun = λ tags. refl; lead = λ n. rw (one A B h, two A B h); stop = λ s. refl }
-  same (Kills A B) h = record { rule = rw (one A B h, two A B h); holds = λ n. refl; begun = λ tags. refl; lead = λ n. refl; stop = λ s. rw (one A B h) }
-  same (Delayed A B D d) h = record { rule = refl; holds = λ n. refl; begun = λ tags. rw (e A (neither (eqb k A) h .0)); lead = λ n. refl; stop = λ s. refl }
-  same (Sporadic A B d) h = record { rule = refl; holds = λ n. refl; begun = λ tags. refl; lead = λ n. refl; stop = λ s. refl }
-  same (Relation A B p q) h = record { rule = refl; holds = λ n. refl; begun = λ tags. refl; lead = λ n. refl; stop = λ s. refl }
+  same (Implies A B) h = record { rule = rw (one A B h, two A B h); holds = λ n. refl; begun = λ tags. refl; counts = λ tags. refl; lead = λ n. refl; stop = λ s. refl }
+  same (Excludes A B) h = record { rule = rw (one A B h, two A B h); holds = λ n. refl; begun = λ tags. refl; counts = λ tags. refl; lead = λ n. refl; stop = λ s. refl }
+  same (Weakly A B) h = record { rule = refl; holds = λ n. rw (one A B h, two A B h); begun = λ tags. refl; counts = λ tags. refl; lead = λ n. rw (one A B h, two A B h); stop = λ s. refl }
+  same (Strictly A B) h = record { rule = refl; holds = λ n. rw (two A B h); begun = λ tags. refl; counts = λ tags. refl; lead = λ n. rw (one A B h, two A B h); stop = λ s. refl }
+  same (Kills A B) h = record { rule = rw (one A B h, two A B h); holds = λ n. refl; begun = λ tags. refl; counts = λ tags. refl; lead = λ n. refl; stop = λ s. rw (one A B h) }
+  same (Delayed A B D d) h = record { rule = refl; holds = λ n. refl; begun = λ tags. rw (e A (neither (eqb k A) h .0)); counts = λ tags. refl; lead = λ n. refl; stop = λ s. refl }
+  same (Counted A B D n) h = record { rule = refl; holds = λ n. refl; begun = λ tags. refl; counts = λ tags. rw (e A (neither (eqb k A) h .0)); lead = λ n. refl; stop = λ s. refl }
+  same (Sporadic A B d) h = record { rule = refl; holds = λ n. refl; begun = λ tags. refl; counts = λ tags. refl; lead = λ n. refl; stop = λ s. refl }
+  same (Relation A B p q) h = record { rule = refl; holds = λ n. refl; begun = λ tags. refl; counts = λ tags. refl; lead = λ n. refl; stop = λ s. refl }
 
   same-all : (ls : List Line) → any (eqb k) (flatMap namedBy ls) ≡ false → All Same ls
   same-all [] h = tt
@@ -220,6 +231,10 @@ module _ (k : ℕ) (t u : List Bool) (e : (a : ℕ) → eqb k a ≡ false → ti
   begun-same tags [] h = refl
   begun-same tags (l ∷ ls) h = rw (h .0 .begun tags, begun-same tags ls (h .1))
 
+  counted-same : (tags : List ℤ) (ls : List Line) → All Same ls → begunCountdowns ls (filledOf u tags) ≡ begunCountdowns ls (filledOf t tags)
+  counted-same tags [] h = refl
+  counted-same tags (l ∷ ls) h = rw (h .0 .counts tags, counted-same tags ls (h .1))
+
   leads-same : (ls : List Line) (leads : List ℕ) → All Same ls → nextLeads (leadAfter u) ls leads ≡ nextLeads (leadAfter t) ls leads
   leads-same [] leads h = refl
   leads-same (l ∷ ls) [] h = rw (h .0 .lead 0, leads-same ls [] (h .1))
@@ -233,34 +248,53 @@ module _ (k : ℕ) (t u : List Bool) (e : (a : ℕ) → eqb k a ≡ false → ti
   left-same tags [] h = refl
   left-same tags (o ∷ os) h = let n = neither (eqb k (o .clock)) h in rw (e (o .clock) (n .0), left-same tags os (n .1))
 
+  counting-same : (tags : List ℤ) (cs : List Countdown) → any (eqb k) (flatMap countClocks cs) ≡ false → stillCounting (filledOf u tags) cs ≡ stillCounting (filledOf t tags) cs
+  unfolding stillCounting
+  counting-same tags cs h = λ i. cond (each cs h .0 i) (some (each cs h .1 i)) none
+    where
+      each : (cs : List Countdown) → any (eqb k) (flatMap countClocks cs) ≡ false
+          → (noneMissed (filledOf u tags) cs ≡ noneMissed (filledOf t tags) cs) × (leftBy (filledOf u tags ∷ []) cs ≡ leftBy (filledOf t tags ∷ []) cs)
+      each [] h = (refl, refl)
+      each (c ∷ cs) h =
+          let n = neither (eqb k (c .clock)) h in
+          let m = neither (eqb k (c .on)) (n .1) in
+          let r = each cs (m .1) in
+          (rw (e (c .clock) (n .0), e (c .on) (m .0), r .0), rw (e (c .on) (m .0), r .1))
+
   module _ (v : SheetValue) (h : All Same (v .lines)) (tags : List ℤ) where
     carried-same : (r : Remainder) → carried v u r ≡ carried v t r
     carried-same r = rw (leads-same (v .lines) (r .leads) h, stopped-same (v .lines) (r .stopped) h)
 
-    with-begun : (r : Remainder) (q : Option (List Obligation)) → withBegun v u r q ≡ withBegun v t r q
+    with-begun : (r : Remainder) (q : Option Owings) → withBegun v u r q ≡ withBegun v t r q
     with-begun r none = refl
-    with-begun r (some os) = ap onto (carried-same (owing os r))
+    with-begun r (some w) = ap onto (carried-same (owing w r))
 
-    with-still-owed : (begun : List Obligation) (r : Remainder) (q : Option (List Obligation)) → withStillOwed v u begun r q ≡ withStillOwed v t begun r q
+    with-still-owed : (begun : Owings) (r : Remainder) (q : Option Owings) → withStillOwed v u begun r q ≡ withStillOwed v t begun r q
     with-still-owed begun r none = refl
-    with-still-owed begun r (some os) = with-begun r (addedAll begun os)
+    with-still-owed begun r (some w) = with-begun r (together (addedAll (begun .owed) (w .owed)) (addedCountdowns (begun .countdowns) (w .countdowns)))
 
     -- where a clock stopped that ticks in t ticks in u: a remainder is barred by u, or becomes what it becomes by t
     module _ (more : (stopped : List Bool) → T (overlap t stopped) → T (overlap u stopped)) where
-      advanced-same : (begun : List Obligation) (r : Remainder) → any (eqb k) (clocksOf r) ≡ false
+      advanced-same : (begun : Owings) (r : Remainder) → any (eqb k) (clocksOf r) ≡ false
           → (advanced v (filledOf u tags) begun r ≡ fails) ⊎ (advanced v (filledOf u tags) begun r ≡ advanced v (filledOf t tags) begun r)
       unfolding advanced stillOwed
       advanced-same begun r n = by-tests (overlap u (r .stopped)) (overlap t (r .stopped)) (more (r .stopped))
         where
+          leftAfter : List Bool → Remainder → Option Owings
+          leftAfter ticks r = together (stillOwed (filledOf ticks tags) (r .owed)) (stillCounting (filledOf ticks tags) (r .countdowns))
+
+          parts : (any (eqb k) (map (λ (o : Obligation). o .clock) (r .owed)) ≡ false) × (any (eqb k) (flatMap countClocks (r .countdowns)) ≡ false)
+          parts = neither (any (eqb k) (map (λ (o : Obligation). o .clock) (r .owed))) (sym (any-append (eqb k) (map (λ (o : Obligation). o .clock) (r .owed)) (flatMap countClocks (r .countdowns))) ∙ n)
+
           by-tests : (a b : Bool) → (T b → T a)
-              → (cond (not a && linesOk (carriedHolds u) (v .lines) (r .leads)) (withStillOwed v u begun r (stillOwed (filledOf u tags) (r .owed))) fails ≡ fails)
-              ⊎ (cond (not a && linesOk (carriedHolds u) (v .lines) (r .leads)) (withStillOwed v u begun r (stillOwed (filledOf u tags) (r .owed))) fails
-              ≡ cond (not b && linesOk (carriedHolds t) (v .lines) (r .leads)) (withStillOwed v t begun r (stillOwed (filledOf t tags) (r .owed))) fails)
+              → (cond (not a && linesOk (carriedHolds u) (v .lines) (r .leads)) (withStillOwed v u begun r (leftAfter u r)) fails ≡ fails)
+              ⊎ (cond (not a && linesOk (carriedHolds u) (v .lines) (r .leads)) (withStillOwed v u begun r (leftAfter u r)) fails
+              ≡ cond (not b && linesOk (carriedHolds t) (v .lines) (r .leads)) (withStillOwed v t begun r (leftAfter t r)) fails)
           by-tests true b h = inl refl
           by-tests false true h = absurd (h tt)
-          by-tests false false m = inr (rw (holds-same (v .lines) (r .leads) h, left-same tags (r .owed) n, with-still-owed begun r (stillOwed (filledOf t tags) (r .owed))))
+          by-tests false false m = inr (rw (holds-same (v .lines) (r .leads) h, left-same tags (r .owed) (parts .0), counting-same tags (r .countdowns) (parts .1), with-still-owed begun r (leftAfter t r)))
 
-      all-advanced-less : (room : ℕ) (begun : List Obligation) (rs : List Remainder) (p q : Found) → any (eqb k) (flatMap clocksOf rs) ≡ false
+      all-advanced-less : (room : ℕ) (begun : Owings) (rs : List Remainder) (p q : Found) → any (eqb k) (flatMap clocksOf rs) ≡ false
           → Holds room (allAdvanced room v (filledOf t tags) begun rs p) q → allAdvanced room v (filledOf u tags) begun rs q ≡ q
       unfolding allAdvanced
       all-advanced-less room begun [] p q n w = refl
@@ -273,10 +307,10 @@ module _ (k : ℕ) (t u : List Bool) (e : (a : ℕ) → eqb k a ≡ false → ti
 
       filling-less : (room : ℕ) (rs : List Remainder) (p q : Found) → any (eqb k) (flatMap clocksOf rs) ≡ false → Holds room (filling room v tags rs p t) q → filling room v tags rs q u ≡ q
       unfolding filling
-      filling-less room rs p q n w = rw (rules-same (v .lines) h, begun-same tags (v .lines) h) (by-test (all (ticksHold t) (v .lines)) w)
+      filling-less room rs p q n w = rw (rules-same (v .lines) h, begun-same tags (v .lines) h, counted-same tags (v .lines) h) (by-test (all (ticksHold t) (v .lines)) w)
         where
-          begun : List Obligation
-          begun = flatMap (owedFrom (filledOf t tags)) (v .lines)
+          begun : Owings
+          begun = begunBy (v .lines) (filledOf t tags)
 
           by-test : (b : Bool) → Holds room (cond b (allAdvanced room v (filledOf t tags) begun rs p) p) q → cond b (allAdvanced room v (filledOf u tags) begun rs q) q ≡ q
           by-test true w = all-advanced-less room begun rs p q n w

@@ -9,10 +9,9 @@ use Rattle.records.specs.declared.instant.Tick.{Tick}
 use Rattle.records.specs.declared.instant.Tick.the-variants.{Idle, Ticks, Unseen}
 use Rattle.records.specs.Lists.{listed}
 use Rattle.records.specs.Sheet.{SheetValue}
-use Rattle.tesl.specs.Lists.{flatMap}
-use Rattle.tesl.specs.Fits.{owedFrom}
 use Rattle.tesl.specs.Remainder.{Remainder}
 use Rattle.work.specs.View.{filledOf}
+use Rattle.work.specs.Owed.{begunBy}
 use Rattle.work.specs.Work.{allAdvanced}
 
 -- the fillings of the clocks from k on, idle before tick
@@ -44,4 +43,4 @@ takenBy g (ticks ∷ more) r = takenBy g more (g r ticks)
 
 -- each of rs goes on by a filling that the rules allow
 abbrev pub byFilling : ℕ → SheetValue → List ℤ → List Remainder → Option (List Remainder) → List Bool → Option (List Remainder)
-byFilling room v tags rs found ticks = allAdvanced room v (filledOf ticks tags) (flatMap (owedFrom (filledOf ticks tags)) (v .lines)) rs found
+byFilling room v tags rs found ticks = allAdvanced room v (filledOf ticks tags) (begunBy (v .lines) (filledOf ticks tags)) rs found

@@ -1,4 +1,4 @@
--- The parts of a sheet: relations, rules, delay lines and precedes lines.
+-- The parts of a sheet: relations, rules, delay lines, counted lines and precedes lines.
 use mathlib.Core.Bool.{Bool, true, false, _&&_}
 use mathlib.Core.List.{List}
 use mathlib.Core.Path.{_≡_}
@@ -6,8 +6,8 @@ use Prim.Native.Nat.{ℕ, _≤_}
 use lib.Dec.{ltb}
 use lib.ListN.{getD}
 use Rattle.records.specs.declared.line.Line.{Line}
-use Rattle.records.specs.declared.line.Line.the-variants.{Sporadic, Relation, Implies, Excludes, Delayed, Weakly, Strictly, Kills}
-use Rattle.records.specs.Line.{blankLine, ofRelation, ofDelayed, ofPrecedes}
+use Rattle.records.specs.declared.line.Line.the-variants.{Sporadic, Relation, Implies, Excludes, Delayed, Weakly, Strictly, Kills, Counted}
+use Rattle.records.specs.Line.{blankLine, ofRelation, ofDelayed, ofCounted, ofPrecedes}
 use Rattle.records.specs.Sheet.{SheetValue}
 
 abbrev pub isRelation : Line → Bool
@@ -23,9 +23,13 @@ isRule (Relation A B p q) = false
 isRule (Delayed A B D d) = false
 isRule (Weakly A B) = false
 isRule (Strictly A B) = false
+isRule (Counted A B D n) = false
 
 abbrev pub isDelay : Line → Bool
 isDelay l = ofDelayed false (λ A B D d. true) l
+
+abbrev pub isCounted : Line → Bool
+isCounted l = ofCounted false (λ A B D n. true) l
 
 abbrev pub isPrecedes : Line → Bool
 isPrecedes l = ofPrecedes false (λ A B. true) l

@@ -7,7 +7,7 @@ use lib.Dec.{leb}
 use lib.IntN.{ℤ, _+ℤ_, _*ℤ_}
 use lib.ListN.{getD, set}
 use Rattle.records.specs.declared.line.Line.{Line}
-use Rattle.records.specs.declared.line.Line.the-variants.{Sporadic, Relation, Implies, Excludes, Delayed, Weakly, Strictly, Kills}
+use Rattle.records.specs.declared.line.Line.the-variants.{Sporadic, Relation, Implies, Excludes, Delayed, Weakly, Strictly, Kills, Counted}
 use Rattle.records.specs.Line.{ofRelation, ofEachPrecedes, ofKills}
 use Rattle.tesl.specs.Run.{tagIn}
 use Rattle.tesl.specs.Fits.{eqZ}
@@ -34,6 +34,7 @@ ticksHold ticks (Relation A B p q) = true
 ticksHold ticks (Delayed A B D d) = true
 ticksHold ticks (Weakly A B) = true
 ticksHold ticks (Strictly A B) = true
+ticksHold ticks (Counted A B D n) = true
 
 -- of a precedes line: its lead; a clock stopped before bars by itself
 abbrev pub carriedHolds : List Bool → Line → ℕ → Bool

@@ -1,10 +1,10 @@
--- The ticks of an instant that its work asks about: those of the clocks that a line or an obligation held names. An unseen tick of another clock counts as idle.
+-- The ticks of an instant that its work asks about: those of the clocks that a line, an obligation held or a countdown held names. An unseen tick of another clock counts as idle.
 use mathlib.Core.Bool.{Bool, true, false}
 use mathlib.Core.List.{List, [], _∷_}
 use Prim.Native.Nat.{ℕ, _+_}
 use lib.ListN.{getD, set, replicate, drop}
 use Rattle.records.specs.declared.line.Line.{Line}
-use Rattle.records.specs.declared.line.Line.the-variants.{Sporadic, Relation, Implies, Excludes, Delayed, Weakly, Strictly, Kills}
+use Rattle.records.specs.declared.line.Line.the-variants.{Sporadic, Relation, Implies, Excludes, Delayed, Weakly, Strictly, Kills, Counted}
 use Rattle.records.specs.declared.instant.Tick.{Tick}
 use Rattle.records.specs.declared.instant.Tick.the-variants.{Idle, Ticks, Unseen}
 use Rattle.records.specs.declared.instant.TickSlot.{TickSlot}
@@ -12,7 +12,7 @@ use Rattle.tesl.specs.Lists.{flatMap}
 use Rattle.work.specs.View.{seenOf}
 use Rattle.work.specs.Fillings.{fillingsFrom}
 
--- the clocks whose ticks a line asks about; a sporadic or delayed line asks for a tick by an obligation
+-- the clocks whose ticks a line asks about; a sporadic or delayed line asks for a tick by an obligation, a counted line by a countdown
 abbrev pub namedBy : Line → List ℕ
 namedBy (Implies A B) = A ∷ B ∷ []
 namedBy (Excludes A B) = A ∷ B ∷ []
@@ -20,6 +20,7 @@ namedBy (Weakly A B) = A ∷ B ∷ []
 namedBy (Strictly A B) = A ∷ B ∷ []
 namedBy (Kills A B) = A ∷ B ∷ []
 namedBy (Delayed A B D d) = A ∷ []
+namedBy (Counted A B D n) = A ∷ []
 namedBy (Sporadic A B t) = []
 namedBy (Relation A B p q) = []
 

@@ -4,7 +4,7 @@ use mathlib.Core.List.{List}
 use Prim.Native.Nat.{ℕ}
 use lib.Dec.{ltb}
 use Rattle.records.specs.declared.line.Line.{Line}
-use Rattle.records.specs.declared.line.Line.the-variants.{Sporadic, Relation, Implies, Excludes, Delayed, Weakly, Strictly, Kills}
+use Rattle.records.specs.declared.line.Line.the-variants.{Sporadic, Relation, Implies, Excludes, Delayed, Weakly, Strictly, Kills, Counted}
 use Rattle.tesl.specs.Lists.{all}
 use Rattle.work.specs.Questions.{ticksHold}
 
@@ -22,6 +22,7 @@ isSettled k (Relation A B p q) = false
 isSettled k (Delayed A B D d) = false
 isSettled k (Weakly A B) = false
 isSettled k (Strictly A B) = false
+isSettled k (Counted A B D n) = false
 
 -- a rule whose clocks are below k forbids these ticks
 abbrev pub forbids : ℕ → List Bool → Line → Bool

@@ -32,7 +32,7 @@ inUse l lead = ofPrecedes 0 (λ A B. lead) l
 
 -- of the sheet's lines the leads in use, and its clocks
 abbrev pub usedPart : SheetValue → Remainder → Remainder
-usedPart v r = record { owed = r .owed; leads = nextLeads inUse (v .lines) (r .leads); stopped = take (v .clocks) (r .stopped) }
+usedPart v r = record { owed = r .owed; countdowns = r .countdowns; leads = nextLeads inUse (v .lines) (r .leads); stopped = take (v .clocks) (r .stopped) }
 
 abbrev pub heldList : Option (List Remainder) → List Remainder
 heldList none = []

@@ -9,48 +9,53 @@ use lib.ListN.{replicate, set}
 use Rattle.records.specs.declared.instant.Tick.{Tick}
 use Rattle.records.specs.declared.instant.Tick.the-variants.{Idle, Ticks, Unseen}
 use Rattle.records.specs.Sheet.{SheetValue}
-use Rattle.tesl.specs.Lists.{all, flatMap, sameList}
+use Rattle.tesl.specs.Lists.{all, sameList}
 use Rattle.tesl.specs.Run.{Filled}
-use Rattle.tesl.specs.Fits.{Obligation, noneFalls, owedFrom}
-use Rattle.tesl.specs.Remainder.{Remainder, sameObligation}
-use Rattle.theory.specs.Adding.{onward, addedTo, allAddedTo, sameByCount}
+use Rattle.tesl.specs.Fits.{noneFalls}
+use Rattle.tesl.specs.Remainder.{Remainder, sameObligation, sameCountdown}
+use Rattle.theory.specs.Adding.{onward, addedTo, sameByCount}
 use Rattle.theory.specs.Step.{overlap, linesOk, nextLeads}
 use Rattle.work.specs.Advanced.{Advanced, fails, over, onto}
 use Rattle.work.specs.View.{filledOf}
 use Rattle.work.specs.Questions.{tagsHold, ticksHold, carriedHolds, leadAfter}
 use Rattle.work.specs.Lines.{allStopped}
-use Rattle.work.specs.Owed.{owing, stillOwed}
+use Rattle.work.specs.Owed.{Owings, owing, begunBy, addedAll, addedCountdowns, stillOwed, stillCounting, together}
 
 -- ---- one remainder
 
--- one obligation after the other
-abbrev pub addedAll : List Obligation → List Obligation → Option (List Obligation)
-addedAll begun os = allAddedTo sameObligation 8 begun os
-
 -- the leads and stopped clocks after an instant
 abbrev pub carried : SheetValue → List Bool → Remainder → Remainder
-carried v ticks r = record { owed = r .owed; leads = nextLeads (leadAfter ticks) (v .lines) (r .leads); stopped = allStopped ticks (v .lines) (r .stopped) }
+carried v ticks r = record {
+  owed = r .owed;
+  countdowns = r .countdowns;
+  leads = nextLeads (leadAfter ticks) (v .lines) (r .leads);
+  stopped = allStopped ticks (v .lines) (r .stopped);
+}
 
--- r owes os after it
-abbrev pub withBegun : SheetValue → List Bool → Remainder → Option (List Obligation) → Advanced
+-- r owes w after it
+abbrev pub withBegun : SheetValue → List Bool → Remainder → Option Owings → Advanced
 withBegun v ticks r none = over
-withBegun v ticks r (some os) = onto (carried v ticks (owing os r))
+withBegun v ticks r (some w) = onto (carried v ticks (owing w r))
 
-abbrev pub withStillOwed : SheetValue → List Bool → List Obligation → Remainder → Option (List Obligation) → Advanced
+-- what was left of what r owes, and what is begun
+abbrev pub withStillOwed : SheetValue → List Bool → Owings → Remainder → Option Owings → Advanced
 withStillOwed v ticks begun r none = fails
-withStillOwed v ticks begun r (some os) = withBegun v ticks r (addedAll begun os)
+withStillOwed v ticks begun r (some w) = withBegun v ticks r (together (addedAll (begun .owed) (w .owed)) (addedCountdowns (begun .countdowns) (w .countdowns)))
 
--- by the stopped clocks, the leads, what is met or late, and what is begun
-unfoldable pub advanced : SheetValue → Filled → List Obligation → Remainder → Advanced
+-- by the stopped clocks, the leads, what is met, late or missed, and what is begun
+unfoldable pub advanced : SheetValue → Filled → Owings → Remainder → Advanced
 advanced v f begun r =
-    cond (not (overlap (f .ticks) (r .stopped)) && linesOk (carriedHolds (f .ticks)) (v .lines) (r .leads)) (withStillOwed v (f .ticks) begun r (stillOwed f (r .owed))) fails
+    cond (not (overlap (f .ticks) (r .stopped)) && linesOk (carriedHolds (f .ticks)) (v .lines) (r .leads))
+    (withStillOwed v (f .ticks) begun r (together (stillOwed f (r .owed)) (stillCounting f (r .countdowns))))
+    fails
 
 -- ---- those held
 
--- equal remainders, where each owes an obligation once
+-- equal remainders, where each has an obligation once and a countdown once
 unfoldable pub sameCounted : Remainder → Remainder → Bool
 sameCounted x r =
-    sameByCount sameObligation (x .owed) (r .owed) && (sameList Bool·beq (x .stopped) (r .stopped) && sameList eqb (x .leads) (r .leads))
+    sameByCount sameObligation (x .owed) (r .owed) && sameByCount sameCountdown (x .countdowns) (r .countdowns)
+    && (sameList Bool·beq (x .stopped) (r .stopped) && sameList eqb (x .leads) (r .leads))
 
 -- one more, unless it is there, while there is room
 unfoldable pub inserted : ℕ → Option (List Remainder) → Remainder → Option (List Remainder)
@@ -61,8 +66,8 @@ took room found fails = found
 took room found over = none
 took room found (onto x) = inserted room found x
 
--- each of rs goes on by a filled instant that begins these obligations
-unfoldable pub allAdvanced : ℕ → SheetValue → Filled → List Obligation → List Remainder → Option (List Remainder) → Option (List Remainder)
+-- each of rs goes on by a filled instant that begins these
+unfoldable pub allAdvanced : ℕ → SheetValue → Filled → Owings → List Remainder → Option (List Remainder) → Option (List Remainder)
 allAdvanced room v f begun [] found = found
 allAdvanced room v f begun (r ∷ rs) found = allAdvanced room v f begun rs (took room found (advanced v f begun r))
 
@@ -70,7 +75,7 @@ allAdvanced room v f begun (r ∷ rs) found = allAdvanced room v f begun rs (too
 unfoldable pub filling : ℕ → SheetValue → List ℤ → List Remainder → Option (List Remainder) → List Bool → Option (List Remainder)
 filling room v tags rs found ticks =
     let f = filledOf ticks tags in
-    cond (all (ticksHold ticks) (v .lines)) (allAdvanced room v f (flatMap (owedFrom f) (v .lines)) rs found) found
+    cond (all (ticksHold ticks) (v .lines)) (allAdvanced room v f (begunBy (v .lines) f) rs found) found
 
 -- the fillings of the clocks from k on, idle before tick; g takes each
 abbrev pub fillFrom : {R : Type 0} → (R → List Bool → R) → ℕ → List Tick → List Bool → R → R

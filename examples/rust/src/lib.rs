@@ -65,8 +65,8 @@ pub struct Taken<T> {
     pub count: u32,
 }
 
-/// A refusal: document 01's number, and the instants taken before it; with
-/// `SHORT_BUFFER` the instants to make room for.
+/// A refusal: its number in document 01 or 02, and the instants taken before
+/// it; with `SHORT_BUFFER` the instants to make room for.
 #[derive(Clone, Copy, Debug, PartialEq, Eq)]
 pub struct Refused {
     pub number: u8,
@@ -130,7 +130,8 @@ impl State {
         unpack(result, answer)
     }
 
-    /// How many of the live remainders owe this clock a tick.
+    /// How many of the live remainders owe this clock a tick, by an obligation
+    /// or a countdown.
     pub fn owing(&self, clock: u8) -> Result<u8> {
         let result = unsafe { raw::lift_owing(&self.0, clock) };
         unpack(result, |[_, owing, _]| owing)
@@ -186,7 +187,8 @@ pub fn answers(out: &[u8], count: u32) -> impl Iterator<Item = Answer> + '_ {
         .map(|e| answer([e[0], e[1], e[2]]))
 }
 
-/// How many of the live remainders owe this clock a tick after a whole log.
+/// How many of the live remainders owe this clock a tick after a whole log, by
+/// an obligation or a countdown.
 pub fn panel(sheet: &[u8], log: &[u8], clock: u8) -> Result<u8> {
     let result =
         unsafe { raw::lift_panel(sheet.as_ptr(), sheet.len(), log.as_ptr(), log.len(), clock) };

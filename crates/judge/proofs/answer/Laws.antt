@@ -1,25 +1,27 @@
 -- What an answer says of those held: one of them is clear where the code counts no obligation, and as many are live as the code holds. Assumes nothing.
-use mathlib.Core.Bool.{Bool, true, false, cond}
-use mathlib.Core.List.{List, [], _∷_}
-use mathlib.Core.Path.{_≡_, refl, sym, ap, _∙_}
+use mathlib.Core.Bool.{Bool, true, false, cond, _&&_}
+use mathlib.Core.List.{List, [], _∷_, map}
+use mathlib.Core.Path.{_≡_, refl, sym, ap, ap₂, _∙_}
 use Prim.Native.Nat.{ℕ, _+_, _<_}
 use native.Mathlib.Omega.{arith}
 use lib.Dec.{eqb}
-use lib.ListN.{length}
-use borrow.Author.Tests.{eq-eqb, ne-eqb}
+use lib.ListN.{length, length-map}
+use borrow.Author.Tests.{ne-eqb}
 use Rattle.records.specs.Lists.{listedFrom}
 use Rattle.records.specs.Sheet.{SheetValue}
 use Rattle.records.proofs.Lists.{length-listed, listed-snoc}
 use Rattle.tesl.specs.Lists.{any, distinct}
-use Rattle.tesl.specs.Remainder.{Remainder, sameObligation, owes, isClear}
+use Rattle.tesl.specs.Remainder.{Remainder, sameObligation, sameCountdown, distinctCount, owes, counts, isClear}
 use Rattle.tesl.specs.Answer.{broken, holding, clear, owed, standing, judged}
 use Rattle.theory.proofs.Lists.{any-snoc}
 use Rattle.work.specs.View.{usedPart}
 use Rattle.work.proofs.Listing.{any-of}
 use Rattle.judge.specs.declared.held.Status.{Status}
 use Rattle.judge.specs.declared.held.Status.the-variants.{Live}
+use Rattle.judge.specs.declared.obligation.Obligation as code
+use Rattle.judge.specs.View.{obligationOf, countdownOf}
 use Rattle.judge.specs.Answer.{saidBy}
-use Rattle.judge.specs.Rows.{rowCount, rowObligation, rowOwed, rowOf, rowsOf}
+use Rattle.judge.specs.Rows.{rowCount, rowObligation, rowSet, rowOf, rowsOf}
 use Rattle.judge.specs.Apply.{foundIn}
 
 -- one of each of a list is none only of the empty list
@@ -45,22 +47,27 @@ judged-some (r ∷ rs) k = refl
 -- ---- in rows
 
 module _ (v : SheetValue) (rows : List ℕ) where
-  clear-row : (i : ℕ) → isClear (usedPart v (rowOf rows i)) ≡ eqb (rowCount rows i) 0
-  unfolding owes isClear
-  clear-row i = distinct-none sameObligation (rowOwed rows i) ∙ ap (λ k. eqb k 0) (length-listed (rowObligation rows i) (rowCount rows i))
+  -- a set of the row, read
+  read-count : {E : Type 0} (read : code.Obligation → E) (same : E → E → Bool) (i part : ℕ) → eqb (distinctCount same (map read (rowSet rows i part))) 0 ≡ eqb (rowCount rows i part) 0
+  read-count read same i part =
+      distinct-none same (map read (rowSet rows i part)) ∙ ap (λ k. eqb k 0) (length-map (rowSet rows i part) read ∙ length-listed (rowObligation rows i part) (rowCount rows i part))
+
+  clear-row : (i : ℕ) → isClear (usedPart v (rowOf rows i)) ≡ (eqb (rowCount rows i 0) 0 && eqb (rowCount rows i 1) 0)
+  unfolding owes counts isClear
+  clear-row i = ap₂ _&&_ (read-count obligationOf sameObligation i 0) (read-count countdownOf sameCountdown i 1)
 
   module _ (from : ℕ) where
     pub none-clear : any isClear (rowsOf v rows from 0) ≡ false
     unfolding listedFrom
     none-clear = refl
 
-    pub row-owes : (i : ℕ) → any isClear (rowsOf v rows from i) ≡ false → (rowCount rows (from + i) ≡ 0 → ⊥) → any isClear (rowsOf v rows from (i + 1)) ≡ false
+    pub row-owes : (i : ℕ) → any isClear (rowsOf v rows from i) ≡ false → (eqb (rowCount rows (from + i) 0) 0 && eqb (rowCount rows (from + i) 1) 0) ≡ false → any isClear (rowsOf v rows from (i + 1)) ≡ false
     row-owes i a k =
-        let b : isClear (usedPart v (rowOf rows (from + i))) ≡ false = clear-row (from + i) ∙ ne-eqb (rowCount rows (from + i)) 0 k in
+        let b : isClear (usedPart v (rowOf rows (from + i))) ≡ false = clear-row (from + i) ∙ k in
         ap (any isClear) (listed-snoc (λ j. usedPart v (rowOf rows (from + j))) i) ∙ any-snoc isClear (rowsOf v rows from i) (usedPart v (rowOf rows (from + i))) ∙ simp (a, b)
 
-    pub row-clear : (n i : ℕ) → i < n → rowCount rows (from + i) ≡ 0 → any isClear (rowsOf v rows from n) ≡ true
-    row-clear n i h e = any-of (λ j. usedPart v (rowOf rows (from + j))) isClear n i h (clear-row (from + i) ∙ eq-eqb (rowCount rows (from + i)) 0 e)
+    pub row-clear : (n i : ℕ) → i < n → (eqb (rowCount rows (from + i) 0) 0 && eqb (rowCount rows (from + i) 1) 0) ≡ true → any isClear (rowsOf v rows from n) ≡ true
+    row-clear n i h e = any-of (λ j. usedPart v (rowOf rows (from + j))) isClear n i h (clear-row (from + i) ∙ e)
 
     module _ {count : Status} {n : ℕ} (e : count ≡ Live n) where
       pub rows-none : n ≡ 0 → broken ≡ saidBy (foundIn v count rows from)

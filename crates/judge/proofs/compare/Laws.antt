@@ -1,29 +1,32 @@
 -- A row compared with another, test by test as the code makes them: they are equal in every sheet of these clocks and precedes lines, or in none. Assumes nothing.
-use mathlib.Core.Bool.{Bool, true, false, not, _&&_, _||_, Bool·beq, and-true, and-false}
+use mathlib.Core.Bool.{Bool, true, false, not, _&&_, _||_, Bool·beq, and-comm, and-false}
 use mathlib.Core.List.{List, [], _∷_}
 use mathlib.Core.Path.{_≡_, refl, sym, ap, ap₂, _∙_}
-use Prim.Native.Nat.{ℕ, zero, suc, _+_, _<_, _≤_}
+use Prim.Native.Nat.{ℕ, zero, suc, _+_, _-_, _<_, _≤_}
 use native.Mathlib.Omega.{arith}
 use lib.Dec.{eqb}
 use lib.ListN.{length, take, getD, List·getD-eq-default}
 use lib.Seq.{length-take-le, getD-take}
 use borrow.Author.Tests.{lt-ltb, le-ltb, eq-eqb, ne-eqb, not-true, not-false}
 use Rattle.records.specs.declared.line.Line.{Line}
-use Rattle.records.specs.declared.line.Line.the-variants.{Sporadic, Relation, Implies, Excludes, Delayed, Weakly, Strictly, Kills}
+use Rattle.records.specs.declared.line.Line.the-variants.{Sporadic, Relation, Implies, Excludes, Delayed, Weakly, Strictly, Kills, Counted}
 use Rattle.records.specs.Line.{blankLine}
 use Rattle.records.specs.Lists.{listed}
 use Rattle.records.specs.Sheet.{SheetValue}
 use Rattle.records.proofs.Lists.{length-listed}
 use Rattle.tesl.specs.Lists.{any, below, sameList}
-use Rattle.tesl.specs.Fits.{Obligation}
-use Rattle.tesl.specs.Remainder.{sameObligation}
+use Rattle.tesl.specs.Remainder.{sameObligation, sameCountdown}
+use Rattle.theory.specs.Adding.{sameByCount}
 use Rattle.theory.specs.Step.{nextLeads}
 use Rattle.work.specs.View.{inUse, usedPart}
 use Rattle.work.specs.Work.{sameCounted}
 use Rattle.work.specs.Parts.{isPrecedes, Leading}
 use Rattle.work.proofs.Below.{below-ext, below-miss, below-front, below-either}
 use Rattle.work.proofs.Listing.{listed-at, all-listed, any-listed}
-use Rattle.judge.specs.Rows.{rowCount, rowObligation, rowOwed, rowLead, rowStop, rowOf, rowsOf}
+use Rattle.judge.specs.View.{obligationOf, countdownOf, sameStored}
+use Rattle.judge.specs.Rows.{parts, rowCount, rowObligation, rowSet, rowLead, rowStop, rowStopped, rowOf, rowsOf}
+use Rattle.judge.proofs.obligation.Laws.{same-read, same-counted}
+use Rattle.judge.proofs.rows.Reading.{same-by-count-read}
 
 -- ---- lists compared place by place
 module _ {A : Type 0} (same : A → A → Bool) (d : A) where
@@ -65,6 +68,7 @@ same-lead (Implies A B) a b = refl
 same-lead (Excludes A B) a b = refl
 same-lead (Delayed A B D d) a b = refl
 same-lead (Kills A B) a b = refl
+same-lead (Counted A B D n) a b = refl
 
 module _ (v : SheetValue) (leaders : ℕ) (precede : List Bool) (leading : Leading v leaders precede) (f g : ℕ → ℕ) where
   abbrev xs : List ℕ
@@ -99,19 +103,38 @@ module _ (v : SheetValue) (leaders : ℕ) (precede : List Bool) (leading : Leadi
 
 -- ---- rows x and i
 
--- row x owes obligation j of row i
-abbrev pub owesAt : List ℕ → ℕ → ℕ → ℕ → Bool
-owesAt r x i j = any (sameObligation (rowObligation r i j)) (rowOwed r x)
+-- a part of them
+abbrev pub setSame : List ℕ → ℕ → ℕ → ℕ → Bool
+setSame r x i part = sameByCount sameStored (rowSet r x part) (rowSet r i part)
 
-pub owes-here : (r : List ℕ) (x i j : ℕ) {o : Obligation} {os : List Obligation} {b : Bool} → o ≡ rowObligation r i j → os ≡ rowOwed r x → b ≡ any (sameObligation o) os → owesAt r x i j ≡ b
-owes-here r x i j e w f = rw (sym e, sym w) (sym f)
+-- that of row x has place j of that of row i
+abbrev pub hasAt : List ℕ → ℕ → ℕ → ℕ → ℕ → Bool
+hasAt r x i part j = any (sameStored (rowObligation r i part j)) (rowSet r x part)
 
--- equality by counts, and the same carried, with the tests in turn
-in-turn : (c s l w : Bool) → ((c && w) && (s && l)) ≡ (c && (s && (l && w)))
-in-turn false s l w = refl
-in-turn true true true w = and-true w
-in-turn true true false w = and-false w
-in-turn true false l w = and-false w
+module _ (r : List ℕ) (x i part : ℕ) where
+  by-places : setSame r x i part ≡ (eqb (rowCount r x part) (rowCount r i part) && below (rowCount r i part) (hasAt r x i part))
+  by-places =
+      ap₂ _&&_ (ap₂ eqb (length-listed (rowObligation r x part) (rowCount r x part)) (length-listed (rowObligation r i part) (rowCount r i part)))
+      (all-listed (rowObligation r i part) (λ o. any (sameStored o) (rowSet r x part)) (rowCount r i part))
+
+  pub set-count : (rowCount r x part ≡ rowCount r i part → ⊥) → false ≡ setSame r x i part
+  set-count q = sym (by-places ∙ ap (λ (b : Bool). b && below (rowCount r i part) (hasAt r x i part)) (ne-eqb (rowCount r x part) (rowCount r i part) q))
+
+  pub set-misses : (j : ℕ) → j < rowCount r i part → hasAt r x i part j ≡ false → false ≡ setSame r x i part
+  set-misses j h q = sym (by-places ∙ ap (λ (b : Bool). eqb (rowCount r x part) (rowCount r i part) && b) (below-miss (hasAt r x i part) (rowCount r i part) j h q) ∙ and-false (eqb (rowCount r x part) (rowCount r i part)))
+
+  pub set-equal : rowCount r x part ≡ rowCount r i part → below (rowCount r i part) (hasAt r x i part) ≡ true → true ≡ setSame r x i part
+  set-equal z o = sym (by-places ∙ ap₂ _&&_ (eq-eqb (rowCount r x part) (rowCount r i part) z) o)
+
+-- two rows with nothing in them
+module _ (r : List ℕ) (x i : ℕ) where
+  empty-set : (part : ℕ) → rowCount r x part ≡ 0 → rowCount r i part ≡ 0 → setSame r x i part ≡ true
+  empty-set part a b = sym (set-equal r x i part (a ∙ sym b) (ap (λ (n : ℕ). below n (hasAt r x i part)) b))
+
+  pub empty-sets : (part : ℕ) → part < parts → rowCount r x part ≡ 0 → rowCount r x (1 - part) ≤ rowCount r x part → rowCount r i part ≡ rowCount r x part → rowCount r i (1 - part) ≡ rowCount r x (1 - part) → below parts (setSame r x i) ≡ true
+  empty-sets zero h z l a b = ap₂ _&&_ (empty-set 0 z (a ∙ z)) (empty-set 1 (omega arith) (omega arith))
+  empty-sets (suc zero) h z l a b = ap₂ _&&_ (empty-set 0 (omega arith) (omega arith)) (empty-set 1 z (a ∙ z))
+  empty-sets (suc (suc part)) h z l a b = absurd (omega arith)
 
 module _ (clocks leaders : ℕ) (precede : List Bool) (r : List ℕ) (x : ℕ) where
   abbrev stopsSame : ℕ → Bool
@@ -122,47 +145,46 @@ module _ (clocks leaders : ℕ) (precede : List Bool) (r : List ℕ) (x : ℕ) w
 
   -- the tests in turn
   unfoldable pub sameRow : ℕ → Bool
-  sameRow i = eqb (rowCount r x) (rowCount r i) && (stopsSame i && (leadsSame i && below (rowCount r i) (owesAt r x i)))
+  sameRow i = below parts (setSame r x i) && (leadsSame i && stopsSame i)
 
   -- none of the m rows from `first` on is row x
   abbrev pub noneSame : ℕ → ℕ → Bool
   noneSame first m = below m (λ k. not (sameRow (first + k)))
 
   module _ (i : ℕ) where
-    pub other-count : (rowCount r i ≡ rowCount r x → ⊥) → sameRow i ≡ false
-    unfolding sameRow
-    other-count q = rw (ne-eqb (rowCount r x) (rowCount r i) (λ e. q (sym e)))
+    abbrev setsSame : Bool
+    setsSame = below parts (setSame r x i)
 
-    pub other-stops : {b : Bool} → b ≡ stopsSame i → not b ≡ true → sameRow i ≡ false
+    pub other-set : (part : ℕ) → part < parts → setSame r x i part ≡ false → sameRow i ≡ false
     unfolding sameRow
-    other-stops {b} e q = rw (sym e, not-true b q) (and-false (eqb (rowCount r x) (rowCount r i)))
+    other-set part h q = ap (λ (b : Bool). b && (leadsSame i && stopsSame i)) (below-miss (setSame r x i) parts part h q)
+
+    pub other-count : (part : ℕ) → part < parts → (rowCount r x part ≡ rowCount r i part → ⊥) → sameRow i ≡ false
+    other-count part h q = other-set part h (sym (set-count r x i part q))
 
     pub other-leads : {b : Bool} → b ≡ leadsSame i → not b ≡ true → sameRow i ≡ false
     unfolding sameRow
-    other-leads {b} e q = rw (sym e, not-true b q, and-false (stopsSame i)) (and-false (eqb (rowCount r x) (rowCount r i)))
+    other-leads {b} e q = ap (λ (l : Bool). setsSame && (l && stopsSame i)) (sym e ∙ not-true b q) ∙ and-false setsSame
 
-    pub other-owed : (j : ℕ) → j < rowCount r i → owesAt r x i j ≡ false → sameRow i ≡ false
+    pub other-stops : {b : Bool} → b ≡ stopsSame i → not b ≡ true → sameRow i ≡ false
     unfolding sameRow
-    other-owed j h q = rw (below-miss (owesAt r x i) (rowCount r i) j h q, and-false (leadsSame i), and-false (stopsSame i)) (and-false (eqb (rowCount r x) (rowCount r i)))
+    other-stops {b} e q = ap (λ (s : Bool). setsSame && (leadsSame i && s)) (sym e ∙ not-true b q) ∙ ap (λ (l : Bool). setsSame && l) (and-false (leadsSame i)) ∙ and-false setsSame
 
-    pub equal : {s l : Bool} → rowCount r i ≡ rowCount r x → s ≡ stopsSame i → not s ≡ false → l ≡ leadsSame i → not l ≡ false → below (rowCount r i) (owesAt r x i) ≡ true → sameRow i ≡ true
+    pub equal : {s l : Bool} → setsSame ≡ true → l ≡ leadsSame i → not l ≡ false → s ≡ stopsSame i → not s ≡ false → sameRow i ≡ true
     unfolding sameRow
-    equal {s} {l} z e q f g o = rw (eq-eqb (rowCount r x) (rowCount r i) (sym z), sym e, not-false s q, sym f, not-false l g, o)
+    equal {s} {l} o f g e q = ap₂ _&&_ o (ap₂ _&&_ (sym f ∙ not-false l g) (sym e ∙ not-false s q))
 
   -- in any sheet of these clocks and precedes lines
   module _ (c : clocks ≤ 8) (v : SheetValue) (e : v .clocks ≡ clocks) (leading : Leading v leaders precede) where
     same-row : (i : ℕ) → sameCounted (usedPart v (rowOf r x)) (usedPart v (rowOf r i)) ≡ sameRow i
     unfolding sameCounted sameRow
     same-row i =
-        rw (
-          e,
-          length-listed (rowObligation r x) (rowCount r x),
-          length-listed (rowObligation r i) (rowCount r i),
-          same-first Bool·beq false clocks 8 (rowStop r x) (rowStop r i) c,
-          same-leads v leaders precede leading (rowLead r x) (rowLead r i),
-          all-listed (rowObligation r i) (λ o. any (sameObligation o) (rowOwed r x)) (rowCount r i),
-        )
-        (in-turn (eqb (rowCount r x) (rowCount r i)) (stopsSame i) (leadsSame i) (below (rowCount r i) (owesAt r x i)))
+        ap₂ _&&_
+        (ap₂ _&&_ (same-by-count-read obligationOf sameStored sameObligation same-read (rowSet r x 0) (rowSet r i 0)) (same-by-count-read countdownOf sameStored sameCountdown same-counted (rowSet r x 1) (rowSet r i 1)))
+        (ap₂ _&&_
+        (ap (λ (n : ℕ). sameList Bool·beq (take n (rowStopped r x)) (take n (rowStopped r i))) e ∙ same-first Bool·beq false clocks 8 (rowStop r x) (rowStop r i) c)
+        (same-leads v leaders precede leading (rowLead r x) (rowLead r i))
+        ∙ and-comm (stopsSame i) (leadsSame i))
 
     pub is-one : (first n : ℕ) → any (sameCounted (usedPart v (rowOf r x))) (rowsOf v r first n) ≡ not (noneSame first n)
     is-one first n = any-listed (λ k. usedPart v (rowOf r (first + k))) (sameCounted (usedPart v (rowOf r x))) n ∙ ap not (below-ext n _ _ (λ k h. ap not (same-row (first + k))))

@@ -1,8 +1,8 @@
 -- What an instant makes of the rows held, by the cases of what is worked. Assumes nothing.
 use mathlib.Core.Bool.{Bool, true, false, _&&_}
-use mathlib.Core.List.{List, [], _++_}
+use mathlib.Core.List.{List, [], _∷_, _++_, map, append-nil}
 use mathlib.Core.Option.{Option, none, some}
-use mathlib.Core.Path.{_≡_, refl, sym}
+use mathlib.Core.Path.{_≡_, refl, sym, ap, _∙_}
 use Prim.Native.Nat.{ℕ, zero, suc, _+_, _<_}
 use native.Mathlib.Omega.{arith}
 use lib.IntN.{ℤ}
@@ -22,12 +22,13 @@ use Rattle.work.specs.Rules.{allowed}
 use Rattle.work.specs.Fillings.{fillingsIn, takenBy, byFilling}
 use Rattle.work.specs.Relevant.{fillingsLeft, namedBy, flagged}
 use Rattle.work.specs.Work.{worked}
-use Rattle.work.proofs.Listing.{map-listed}
-use Rattle.work.proofs.Relevant.{clocksOf}
+use Rattle.work.proofs.Relevant.{countClocks, clocksOf}
 use Rattle.work.proofs.Listed.{worked-no, worked-yes}
 use Rattle.judge.specs.declared.held.Status.{Status}
 use Rattle.judge.specs.declared.held.Status.the-variants.{Exhausted, Live}
-use Rattle.judge.specs.Rows.{rowObligation, rowCount, rowOf, rowsOf, rowClocks, rowsClocks}
+use Rattle.judge.specs.declared.obligation.Obligation as code
+use Rattle.judge.specs.View.{obligationOf, countdownOf}
+use Rattle.judge.specs.Rows.{rowSet, rowOf, rowsOf, clocksAsked, rowClocks, rowsClocks}
 use Rattle.judge.specs.Apply.{foundIn}
 
 -- ---- the clocks that rows owe a tick of
@@ -36,10 +37,21 @@ unfolding listedFrom
 flat-listed f g at e i zero = refl
 flat-listed f g at e i (suc n) = rw (e i, flat-listed f g at e (i + 1) n)
 
+-- read, the clocks of a set's places are those that the obligations and the countdowns name
+owed-clocks : (os : List code.Obligation) → map (λ (o : Obligation). o .clock) (map obligationOf os) ≡ flatMap (clocksAsked 0) os
+owed-clocks [] = refl
+owed-clocks (o ∷ os) = ap (λ (ks : List ℕ). o .clock ∷ ks) (owed-clocks os)
+
+counting-clocks : (os : List code.Obligation) → flatMap countClocks (map countdownOf os) ≡ flatMap (clocksAsked 1) os
+counting-clocks [] = refl
+counting-clocks (o ∷ os) = ap (λ (ks : List ℕ). o .clock ∷ o .on ∷ ks) (counting-clocks os)
+
+row-clocks : (v : SheetValue) (rows : List ℕ) (i : ℕ) → clocksOf (usedPart v (rowOf rows i)) ≡ rowClocks rows i
+unfolding listedFrom
+row-clocks v rows i = λ k. owed-clocks (rowSet rows i 0) k ++ (counting-clocks (rowSet rows i 1) ∙ sym (append-nil (flatMap (clocksAsked 1) (rowSet rows i 1)))) k
+
 rows-clocks : (v : SheetValue) (from n : ℕ) (rows : List ℕ) → flatMap clocksOf (rowsOf v rows from n) ≡ rowsClocks rows from n
-rows-clocks v from n rows =
-    flat-listed clocksOf (λ i. rowClocks rows (from + i)) (λ i. usedPart v (rowOf rows (from + i)))
-    (λ i. map-listed (rowObligation rows (from + i)) (λ (o : Obligation). o .clock) (rowCount rows (from + i))) 0 n
+rows-clocks v from n rows = flat-listed clocksOf (λ i. rowClocks rows (from + i)) (λ i. usedPart v (rowOf rows (from + i))) (λ i. row-clocks v rows (from + i)) 0 n
 
 -- ---- an instant
 module _ (room : ℕ) (v : SheetValue) (last : Option (List ℤ)) (ticks : List TickSlot) (tags : List ℤ) (count : Status) (rows : List ℕ) (from : ℕ) where

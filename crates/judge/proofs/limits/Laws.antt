@@ -1,21 +1,64 @@
--- A lead within its limit: of one line, and of all lines with the leads listed as the code reads them. Assumes nothing.
-use mathlib.Core.Bool.{Bool, true, _&&_}
-use mathlib.Core.List.{List, [], _∷_}
-use mathlib.Core.Path.{_≡_, refl, sym, ap, _∙_}
+-- An obligation within its limits as it is stored; a lead within its limit: of one line, and of all lines with the leads listed as the code reads them. Assumes nothing.
+use mathlib.Core.Bool.{Bool, true, false, _&&_}
+use mathlib.Core.List.{List, [], _∷_, map}
+use mathlib.Core.Path.{_≡_, refl, sym, ap, ap₂, _∙_}
 use Prim.Native.Nat.{ℕ, _≤_}
 use native.Mathlib.Omega.{arith}
-use lib.Dec.{leb}
+use lib.Dec.{leb, ltb}
 use lib.ListN.{length, take}
 use borrow.Author.Tests.{le-leb}
 use Rattle.records.specs.declared.line.Line.{Line}
 use Rattle.records.specs.declared.sheet.Sheet.{Sheet}
-use Rattle.records.specs.Sheet.{lineAt, sheetValue}
+use Rattle.records.specs.Sheet.{SheetValue, lineAt, sheetValue}
 use Rattle.records.proofs.Lists.{listed-take, length-listed}
 use Rattle.tesl.specs.Lists.{all}
 use Rattle.theory.specs.Step.{linesOk, nextLeads}
 use Rattle.work.specs.View.{inUse}
 use Rattle.work.specs.Lines.{leadIn}
+use Rattle.judge.specs.declared.obligation.Obligation as code
+use Rattle.judge.specs.declared.remainder.Remainder as arrays
+use Rattle.judge.specs.Word.{dueOf}
+use Rattle.judge.specs.View.{obligationOf, countdownOf, viewOf}
+use Rattle.judge.specs.Limits.{obligationWithin, countdownWithin, storedWithin, leastDue, mostDue, leastWanted, mostWanted, setWithin, remainderWithin}
+use Rattle.judge.proofs.obligation.Laws.{due-le}
 use Rattle.judge.proofs.lines.Laws.{okFrom, ok-start}
+
+-- ---- obligations
+module _ (c : ℕ) where
+  pub stored-within : (o : code.Obligation) → storedWithin c leastDue mostDue o ≡ obligationWithin c (obligationOf o)
+  unfolding storedWithin obligationWithin dueOf
+  stored-within o = ap (λ (b : Bool). (ltb (o .clock) c && ltb (o .on) c) && b) (ap₂ _&&_ (sym (due-le leastDue (o .number))) (sym (due-le (o .number) mostDue)))
+
+  pub all-stored : (os : List code.Obligation) → all (storedWithin c leastDue mostDue) os ≡ all (obligationWithin c) (map obligationOf os)
+  all-stored [] = refl
+  all-stored (o ∷ os) = ap₂ _&&_ (stored-within o) (all-stored os)
+
+  all-counted : (os : List code.Obligation) → all (storedWithin c leastWanted mostWanted) os ≡ all (countdownWithin c) (map countdownOf os)
+  unfolding storedWithin countdownWithin
+  all-counted [] = refl
+  all-counted (o ∷ os) = ap (λ (b : Bool). storedWithin c leastWanted mostWanted o && b) (all-counted os)
+
+  -- a remainder: its two sets and its leads
+  pub by-sets : (v : SheetValue) → v .clocks ≡ c → (m : ℕ) (r : arrays.Remainder) → remainderWithin v m r
+      ≡ (setWithin c leastDue mostDue (r .owed) (take (r .owed) (r .obligations))
+      && (setWithin c leastWanted mostWanted (r .counting) (take (r .counting) (r .countdowns)) && all (λ (n : ℕ). leb n m) (viewOf v r .leads)))
+  unfolding remainderWithin setWithin
+  by-sets v e m r =
+      rw (e, all-stored (take (r .owed) (r .obligations)), all-counted (take (r .counting) (r .countdowns))) refl
+
+-- one test after the other
+module _ (v : SheetValue) (m : ℕ) (r : arrays.Remainder) {b : Bool} (owed : b ≡ setWithin (v .clocks) leastDue mostDue (r .owed) (take (r .owed) (r .obligations))) where
+  pub not-owed : b ≡ false → false ≡ remainderWithin v m r
+  not-owed f = sym (by-sets (v .clocks) v refl m r ∙ rw (sym owed, f))
+
+  module _ (t : b ≡ true) {d : Bool} (counted : d ≡ setWithin (v .clocks) leastWanted mostWanted (r .counting) (take (r .counting) (r .countdowns))) where
+    pub not-counted : d ≡ false → false ≡ remainderWithin v m r
+    not-counted f = sym (by-sets (v .clocks) v refl m r ∙ rw (sym owed, t, sym counted, f))
+
+    pub by-leads : {l : Bool} → d ≡ true → l ≡ all (λ (n : ℕ). leb n m) (viewOf v r .leads) → l ≡ remainderWithin v m r
+    by-leads f g = g ∙ sym (by-sets (v .clocks) v refl m r ∙ rw (sym owed, t, sym counted, f))
+
+-- ---- leads
 
 -- a line without a lead reads 0
 pub zero-within : (m : ℕ) → true ≡ leb 0 m

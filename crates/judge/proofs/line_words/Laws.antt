@@ -4,7 +4,7 @@ use Prim.Native.Nat.{ℕ, _%_, _≤_}
 use native.Mathlib.Omega.{arith}
 use lib.IntN.{ℤ, pos, negsuc}
 use Rattle.records.specs.declared.line.Line.{Line}
-use Rattle.records.specs.declared.line.Line.the-variants.{Sporadic, Relation, Implies, Excludes, Delayed, Weakly, Strictly, Kills}
+use Rattle.records.specs.declared.line.Line.the-variants.{Sporadic, Relation, Implies, Excludes, Delayed, Weakly, Strictly, Kills, Counted}
 use Rattle.records.specs.Types.{IsByte, IsWord, IsTag, IsLineValue}
 use Rattle.records.specs.Word.{unsigned, tagOf, rawOf}
 use Rattle.records.proofs.word.Inverse.{tag-raw}
@@ -13,6 +13,9 @@ use Rattle.judge.specs.LineWords.{lineBy, lineOfWords, wordsOf, WordsOf}
 
 clock-back : {c : ℕ} → IsByte c → c % 256 ≡ c
 clock-back h = omega arith
+
+count-back : {n : ℕ} → IsByte n → n % 65536 % 256 ≡ n
+count-back h = omega arith
 
 number-back : {n : ℕ} → IsWord n → n % 65536 ≡ n
 number-back h = omega arith
@@ -35,8 +38,9 @@ back (Delayed a b d by) (p, q, r, h) = rw (clock-back p, clock-back q, clock-bac
 back (Weakly a b) (p, q) = rw (clock-back p, clock-back q)
 back (Strictly a b) (p, q) = rw (clock-back p, clock-back q)
 back (Kills a b) (p, q) = rw (clock-back p, clock-back q)
+back (Counted a b d n) (p, q, r, h) = rw (clock-back p, clock-back q, clock-back r, count-back h)
 
-kinds : (l : Line) → (16 ≤ wordsOf l .kind) × (wordsOf l .kind ≤ 23)
+kinds : (l : Line) → (16 ≤ wordsOf l .kind) × (wordsOf l .kind ≤ 24)
 kinds (Sporadic a b t) = (omega arith, omega arith)
 kinds (Relation a b t u) = (omega arith, omega arith)
 kinds (Implies a b) = (omega arith, omega arith)
@@ -45,6 +49,7 @@ kinds (Delayed a b d by) = (omega arith, omega arith)
 kinds (Weakly a b) = (omega arith, omega arith)
 kinds (Strictly a b) = (omega arith, omega arith)
 kinds (Kills a b) = (omega arith, omega arith)
+kinds (Counted a b d n) = (omega arith, omega arith)
 
 pub words-of : {l : Line} {w : LineWords} → IsLineValue l → w ≡ wordsOf l → WordsOf l w
 words-of {l} h e = record { words = e; line = rw e (back l h); least = rw e (kinds l .0); most = rw e (kinds l .1) }

@@ -26,18 +26,14 @@ raw-zero = refl
 module _ {v : SheetValue} {p : Plan} {lines : List ℕ} (planned : Planned v p lines) (rows : List ℕ) (i : ℕ) where
   by-sheet : NothingInRow p rows i → UnusedInRow v rows i
   by-sheet n = record {
-    clocks = n .clocks;
-    on-clocks = n .on-clocks;
-    dues = n .dues;
+    sets = n .sets;
     leads = λ k l e. n .leads k l (sym (planned .leading .1 k) ∙ e);
     rest = λ q l m. n .rest q (omega (arith, planned .as-many)) m;
   }
 
   by-plan : UnusedInRow v rows i → NothingInRow p rows i
   by-plan n = record {
-    clocks = n .clocks;
-    on-clocks = n .on-clocks;
-    dues = n .dues;
+    sets = n .sets;
     leads = λ k l e. n .leads k l (planned .leading .1 k ∙ e);
     rest = λ q l m. n .rest q (omega (arith, planned .as-many)) m;
   }

@@ -16,7 +16,7 @@ use Rattle.tesl.specs.Lists.{all}
 use Rattle.tesl.specs.Fits.{Obligation}
 use Rattle.tesl.specs.Remainder.{Remainder}
 use Rattle.tesl.proofs.Tests.{and-l, and-r, ≡→T, T→≡}
-use Rattle.theory.specs.Limits.{SheetLimits, clocksOk, dueOk, withinLimits}
+use Rattle.theory.specs.Limits.{SheetLimits, clocksOk, dueOk, countdownOk, withinLimits}
 use Rattle.theory.proofs.Lists.{all-imp}
 use Rattle.theory.proofs.Opened.{checked-limits}
 use Rattle.work.specs.View.{heldList}
@@ -26,8 +26,8 @@ use Rattle.judge.specs.declared.remainder.Remainder as arrays
 use Rattle.judge.specs.declared.held.Status.{Status}
 use Rattle.judge.specs.declared.held.Status.the-variants.{Exhausted, Live}
 use Rattle.judge.specs.declared.monitor.Monitor.{Monitor}
-use Rattle.judge.specs.View.{obligationOf, owedOf, viewOf, heldIn, sizedIn, sized}
-use Rattle.judge.specs.Limits.{isTaken, sheetWithin, obligationWithin, remainderWithin, heldWithin, monitorWithin}
+use Rattle.judge.specs.View.{obligationOf, countdownOf, owedOf, countdownsOf, viewOf, heldIn, fewOwed, sizedIn, sized}
+use Rattle.judge.specs.Limits.{isTaken, sheetWithin, obligationWithin, countdownWithin, remainderWithin, heldWithin, monitorWithin}
 use Rattle.judge.specs.Monitor.{sheetBy, heldBy, Workable}
 
 -- ---- tests of a list
@@ -63,19 +63,26 @@ both-limits : (c : ℕ) (os : List Obligation) → all (obligationWithin c) os �
 unfolding obligationWithin
 both-limits c os = all-parts (clocksOk c) (λ o. dueOk (o .due)) os
 
-remainder-limits : (v : SheetValue) (n : ℕ) (r : arrays.Remainder) → remainderWithin v n r ≡ (leb (r .owed) 8 && withinLimits (v .clocks) n (viewOf v r))
-unfolding remainderWithin withinLimits
-remainder-limits v n r = rw (both-limits (v .clocks) (owedOf r))
+six : (a b c d e : Bool) → (a && b && (c && d && e)) ≡ (a && c && (b && (d && e)))
+six false b c d e = refl
+six true b false d e = and-false b
+six true b true d e = refl
+
+remainder-limits : (v : SheetValue) (n : ℕ) (r : arrays.Remainder) → remainderWithin v n r ≡ (fewOwed r && withinLimits (v .clocks) n (viewOf v r))
+unfolding remainderWithin withinLimits countdownWithin
+remainder-limits v n r =
+    six (leb (r .owed) 8) (all (obligationWithin (v .clocks)) (owedOf r)) (leb (r .counting) 8) (all (countdownWithin (v .clocks)) (countdownsOf r)) (all (λ (k : ℕ). leb k n) (viewOf v r .leads))
+    ∙ ap (λ (b : Bool). fewOwed r && (b && (all (countdownWithin (v .clocks)) (countdownsOf r) && all (λ (k : ℕ). leb k n) (viewOf v r .leads)))) (both-limits (v .clocks) (owedOf r))
 
 -- ---- those held
 
 -- of the first ones of an array: how many each owes, and the limits of each view
 each-limits : (v : SheetValue) (n : ℕ) (rs : List arrays.Remainder)
-    → all (remainderWithin v n) rs ≡ (all (λ (r : arrays.Remainder). leb (r .owed) 8) rs && all (withinLimits (v .clocks) n) (map (viewOf v) rs))
+    → all (remainderWithin v n) rs ≡ (all fewOwed rs && all (withinLimits (v .clocks) n) (map (viewOf v) rs))
 each-limits v n rs =
     ap (λ (p : arrays.Remainder → Bool). all p rs) (fun-ext (remainder-limits v n))
-    ∙ all-parts (λ r. leb (r .owed) 8) (λ r. withinLimits (v .clocks) n (viewOf v r)) rs
-    ∙ ap (λ (b : Bool). all (λ (r : arrays.Remainder). leb (r .owed) 8) rs && b) (sym (all-map (withinLimits (v .clocks) n) (viewOf v) rs))
+    ∙ all-parts fewOwed (λ r. withinLimits (v .clocks) n (viewOf v r)) rs
+    ∙ ap (λ (b : Bool). all fewOwed rs && b) (sym (all-map (withinLimits (v .clocks) n) (viewOf v) rs))
 
 -- within the limits: room for what is counted, and each view within them
 pub held-limits : (v : SheetValue) (n : ℕ) (count : Status) (rs : List arrays.Remainder)
@@ -113,7 +120,8 @@ within-limits m s i f w =
 small-leads : (c n : ℕ) → n ≤ 4000 → (r : Remainder) → T (withinLimits c n r) → T (smallLeads r)
 unfolding withinLimits
 small-leads c n h r t = all-imp (λ (k : ℕ). leb k n) (λ (k : ℕ). ltb k 65535) (r .leads) (λ k u. let b = leb→le k n u in lt→ltb k 65535 (omega arith))
-    (and-r (all (clocksOk c) (r .owed) && all (λ (o : Obligation). dueOk (o .due)) (r .owed)) (all (λ (k : ℕ). leb k n) (r .leads)) t)
+    (and-r (all (countdownOk c) (r .countdowns)) (all (λ (k : ℕ). leb k n) (r .leads))
+    (and-r (all (clocksOk c) (r .owed) && all (λ (o : Obligation). dueOk (o .due)) (r .owed)) (all (countdownOk c) (r .countdowns) && all (λ (k : ℕ). leb k n) (r .leads)) t))
 
 pub leads-small : (m : Monitor) → Limits m → T (all smallLeads (heldList (heldBy m)))
 leads-small m l = all-imp (withinLimits (m .sheet .clocks) (m .instants)) smallLeads (heldList (heldBy m)) (small-leads (m .sheet .clocks) (m .instants) (l .instants)) (l .views)
@@ -135,21 +143,23 @@ take-most (suc n) [] = omega arith
 take-most (suc n) (x ∷ xs) = let h = take-most n xs in omega arith
 
 module _ (v : SheetValue) (c-most : v .clocks ≤ 8) where
-  shaped : (r : arrays.Remainder) → length (r .stopped) ≡ 8 → T (leb (r .owed) 8) → Shaped (v .clocks) (viewOf v r)
+  shaped : (r : arrays.Remainder) → length (r .stopped) ≡ 8 → T (fewOwed r) → Shaped (v .clocks) (viewOf v r)
   shaped r s t =
-      let n = leb→le (r .owed) 8 t in
+      let n = leb→le (r .owed) 8 (and-l (leb (r .owed) 8) (leb (r .counting) 8) t) in
+      let m = leb→le (r .counting) 8 (and-r (leb (r .owed) 8) (leb (r .counting) 8) t) in
       let k = take-most (r .owed) (r .obligations) in
+      let j = take-most (r .counting) (r .countdowns) in
       record {
         clocks = length-take-le (v .clocks) (r .stopped) (omega arith);
         owed = omega (arith, length-map (take (r .owed) (r .obligations)) obligationOf);
+        countdowns = omega (arith, length-map (take (r .counting) (r .countdowns)) countdownOf);
       }
 
-  all-shaped : (rs : List arrays.Remainder) → All (λ (r : arrays.Remainder). length (r .stopped) ≡ 8) rs → T (all (λ (r : arrays.Remainder). leb (r .owed) 8) rs)
+  all-shaped : (rs : List arrays.Remainder) → All (λ (r : arrays.Remainder). length (r .stopped) ≡ 8) rs → T (all fewOwed rs)
       → All (Shaped (v .clocks)) (map (viewOf v) rs)
   all-shaped [] s t = tt
   all-shaped (r ∷ rs) s t =
-      let p : arrays.Remainder → Bool = λ r. leb (r .owed) 8 in
-      (shaped r (s .0) (and-l (p r) (all p rs) t), all-shaped rs (s .1) (and-r (p r) (all p rs) t))
+      (shaped r (s .0) (and-l (fewOwed r) (all fewOwed rs) t), all-shaped rs (s .1) (and-r (fewOwed r) (all fewOwed rs) t))
 
   all-take : {A : Type 0} (P : A → Type 0) (n : ℕ) (xs : List A) → All P xs → All P (take n xs)
   all-take P zero xs h = tt
@@ -159,4 +169,4 @@ module _ (v : SheetValue) (c-most : v .clocks ≤ 8) where
   pub held-shaped : (count : Status) (rs : List arrays.Remainder) → All (λ (r : arrays.Remainder). length (r .stopped) ≡ 8) rs → T (sizedIn count rs)
       → All (Shaped (v .clocks)) (heldList (heldIn v count rs))
   held-shaped Exhausted rs s t = tt
-  held-shaped (Live n) rs s t = all-shaped (take n rs) (all-take _ n rs s) (and-r (leb n 32) (all (λ (r : arrays.Remainder). leb (r .owed) 8) (take n rs)) t)
+  held-shaped (Live n) rs s t = all-shaped (take n rs) (all-take _ n rs s) (and-r (leb n 32) (all fewOwed (take n rs)) t)

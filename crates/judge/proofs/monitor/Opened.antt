@@ -22,7 +22,7 @@ use Rattle.records.proofs.sheet.Writing.{refused-done}
 use Rattle.records.proofs.sheet.RoundTrip.{read-writes, sheetOf-value}
 use Rattle.tesl.specs.Lists.{all, any, flatMap}
 use Rattle.tesl.specs.Fits.{Obligation, owedAtStart, unmet}
-use Rattle.tesl.specs.Remainder.{Remainder, remainder, sameObligation, sameRemainder}
+use Rattle.tesl.specs.Remainder.{Remainder, remainder, sameObligation, sameRemainder, owes}
 use Rattle.tesl.specs.Answer.{answer, mostLive}
 use Rattle.tesl.proofs.Tests.{and-i}
 use Rattle.theory.specs.Sets.{apart, SameSet}
@@ -30,13 +30,12 @@ use Rattle.theory.specs.Limits.{SheetLimits, withinLimits}
 use Rattle.theory.proofs.Lists.{filter-true}
 use Rattle.theory.proofs.Respect.{same-of, owed-equivalence}
 use Rattle.theory.proofs.Adding.{Adding, room, full, added-all}
-use Rattle.theory.proofs.Tidy.{owes-more}
+use Rattle.theory.proofs.Sets.{number-more}
 use Rattle.theory.proofs.Held.{held-start}
 use Rattle.theory.proofs.Limits.{same-within, start-within}
 use Rattle.theory.proofs.Opened.{read-limits, opening-owes, opening-answer}
 use Rattle.work.specs.View.{heldList}
-use Rattle.work.specs.Owed.{owing}
-use Rattle.work.specs.Work.{addedAll}
+use Rattle.work.specs.Owed.{owing, addedAll}
 use Rattle.judge.specs.declared.answer.Answer as code
 use Rattle.judge.specs.declared.answer.Reply.the-variants as reply
 use Rattle.judge.specs.declared.remainder.Remainder as arrays
@@ -74,10 +73,10 @@ module _ (s : SheetValue) (l : SheetLimits s) where
     pub once : T (apart sameObligation owed)
 
   first-of : {x : Option (List Obligation)} → Adding sameObligation 8 [] start x → addedAll start [] ≡ x → First
-  unfolding remainder
+  unfolding remainder owes
   first-of (room {xs = xs} h) e = record { owed = xs; found = e; these = h .set; once = h .once tt }
   first-of (full h) e =
-      let many = owes-more (remainder s []) 8 (h .among) (h .once tt) (λ o t. subst (λ (os : List Obligation). T (any (sameObligation o) os)) (sym start-unmet) (h .covered o t)) (h .many) in
+      let many = number-more sameObligation owed-equivalence 8 (h .among) (unmet (s .lines) []) (h .once tt) (λ o t. subst (λ (os : List Obligation). T (any (sameObligation o) os)) (sym start-unmet) (h .covered o t)) (h .many) in
       absurd (omega (arith, opening-owes s l))
 
   first : First
@@ -85,17 +84,17 @@ module _ (s : SheetValue) (l : SheetLimits s) where
 
   -- as the monitor holds it
   held : Remainder
-  held = owing (first .owed) (remainder s [])
+  held = owing (record { owed = first .owed; countdowns = [] }) (remainder s [])
 
   held-same : T (sameRemainder held (remainder s []))
   unfolding remainder held
-  held-same = same-of held (remainder s []) (record { leads = refl; stopped = refl; owed = λ o. first .these o ∙ ap (any (sameObligation o)) (sym start-unmet) })
+  held-same = same-of held (remainder s []) (record { leads = refl; stopped = refl; owed = λ o. first .these o ∙ ap (any (sameObligation o)) (sym start-unmet); countdowns = λ c. refl })
 
 -- ---- a sheet that was read
 
 module _ (b : List ℕ) (bytes : IsBytes b) (s : SheetValue) (e : readSheet b ≡ taken s) where
   l : SheetLimits s
-  l = read-limits Rising 23 b bytes e
+  l = read-limits Rising 24 b bytes e
 
   -- a monitor that holds the remainder of no instant
   module _ (m : Monitor) (same : sheetBy m ≡ s) (none : m .instants ≡ 0) (holds : heldBy m ≡ some (held s l ∷ [])) (fits : T (sized (m .held))) where
@@ -106,7 +105,7 @@ module _ (b : List ℕ) (bytes : IsBytes b) (s : SheetValue) (e : readSheet b �
     unfolding sheetWithin
     sheet-within =
         subst (λ (v : SheetValue). T (sheetWithin v)) (sym same)
-        (subst (λ (o : Outcome SheetValue). T (isTaken o)) (sym (passed-taken (sheetValueChecks Any s) s (passed-any Rising s (taken-passed (sheetValueChecks Rising s) (read-writes Rising 23 b bytes e .checks) .0)))) tt)
+        (subst (λ (o : Outcome SheetValue). T (isTaken o)) (sym (passed-taken (sheetValueChecks Any s) s (passed-any Rising s (taken-passed (sheetValueChecks Rising s) (read-writes Rising 24 b bytes e .checks) .0)))) tt)
 
     views : T (all (withinLimits (m .sheet .clocks) (m .instants)) (heldList (heldBy m)))
     views = rw (holds, ap (λ (v : SheetValue). v .clocks) same, none)
@@ -121,7 +120,7 @@ module _ (b : List ℕ) (bytes : IsBytes b) (s : SheetValue) (e : readSheet b �
       last = rw none;
       said = said;
       held = λ n. rw holds (held-start s (held-same s l));
-      owed = rw holds (first s l .once, tt);
+      owed = rw holds ((first s l .once, tt), tt);
       limits = within-limits m sheet-within (omega (arith, none)) fits views;
     }
 
@@ -131,13 +130,13 @@ module _ (b : List ℕ) (bytes : IsBytes b) (s : SheetValue) (e : readSheet b �
     unfolding held
     holds-begun =
         held-rows rows headRows (sheetValue sheet) (Live 1)
-        ∙ ap some (subst (λ (v : SheetValue). BegunRows v blank rows → rowsOf v rows headRows 1 ≡ owing (first s l .owed) (remainder s []) ∷ []) (sym same) (λ b. b .first (l .clocks-most) (first s l .owed) (first s l .found)) begun)
+        ∙ ap some (subst (λ (v : SheetValue). BegunRows v blank rows → rowsOf v rows headRows 1 ≡ owing (record { owed = first s l .owed; countdowns = [] }) (remainder s []) ∷ []) (sym same) (λ b. b .first (l .clocks-most) (first s l .owed) (first s l .found)) begun)
 
     pub follows-begun : Follows s [] (rowsMonitor sheet firstProgress rows)
     follows-begun = follows (rowsMonitor sheet firstProgress rows) same refl holds-begun (sized-rows rows headRows (Live 1) (begun .small))
 
     pub ready-begun : {p : Plan} {lines : List ℕ} → PlanOf sheet p lines → Ready sheet firstProgress p lines rows
-    ready-begun plan = record { value = subst IsSheet (sym same) (read-writes Rising 23 b bytes e .value); planned = plan .planned; limits = follows-begun .limits }
+    ready-begun plan = record { value = subst IsSheet (sym same) (read-writes Rising 24 b bytes e .value); planned = plan .planned; limits = follows-begun .limits }
 
 -- ---- a refused one: no clock is within the limits
 
@@ -152,7 +151,7 @@ module _ (b : List ℕ) (x : SheetRead) (e : x ≡ sheetRead (readSheet b)) wher
   prepares-read bytes {lines} size = by-outcome (readSheet b) refl
     where
       by-outcome : (o : Outcome SheetValue) → readSheet b ≡ o → Preparing (x .sheet) lines
-      by-outcome (taken s) h = let l = read-limits Rising 23 b bytes h in rw (e, h) (record { few-lines = l .lines-most; few-clocks = l .clocks-most; size = size })
+      by-outcome (taken s) h = let l = read-limits Rising 24 b bytes h in rw (e, h) (record { few-lines = l .lines-most; few-clocks = l .clocks-most; size = size })
       by-outcome (refused n) h = rw (e, h) (record { few-lines = omega arith; few-clocks = omega arith; size = size })
 
   pub read-answer : {n : ℕ} → x .answer ≡ told.Refused n → readSheet b ≡ refused n

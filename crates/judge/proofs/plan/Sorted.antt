@@ -1,25 +1,26 @@
 -- The lines of a sheet, sorted one by one into rows and flags: none of them, one more, and all. Assumes nothing.
-use mathlib.Core.Bool.{Bool, true, false, cond, _&&_}
+use mathlib.Core.Bool.{Bool, true, false, cond, _&&_, true≢false}
 use mathlib.Core.List.{List, [], _∷_, _++_, append-nil}
 use mathlib.Core.Path.{_≡_, refl, sym, ap, _∙_}
-use Prim.Native.Nat.{ℕ, _+_, _<_, _≤_}
+use Prim.Native.Nat.{ℕ, suc, _+_, _<_, _≤_}
 use native.Mathlib.Omega.{arith}
 use lib.Dec.{eqb, ltb}
 use lib.ListN.{length, getD, set, replicate, length-set, length-append, List·getD-append, List·getD-eq-default}
 use lib.Seq.{getD-set-same, getD-set-other, getD-append-seam}
 use borrow.Author.Tests.{ltb-true, ltb-false, eqb-true, eqb-false}
 use Rattle.records.specs.declared.line.Line.{Line}
+use Rattle.records.specs.declared.line.Line.the-variants.{Sporadic, Relation, Implies, Excludes, Delayed, Weakly, Strictly, Kills, Counted}
 use Rattle.records.specs.declared.sheet.Sheet.{Sheet}
 use Rattle.records.specs.Lists.{listedFrom, listed}
 use Rattle.records.specs.Line.{blankLine}
 use Rattle.records.specs.Sheet.{lineAt, sheetValue}
-use Rattle.records.proofs.Lists.{listed-snoc}
+use Rattle.records.proofs.Lists.{listed-snoc, length-listed}
 use Rattle.tesl.specs.Lists.{filter, flatMap}
 use Rattle.theory.proofs.Lists.{filter-append}
 use Rattle.work.specs.Relevant.{namedBy, flagged}
-use Rattle.work.specs.Parts.{isRelation, isRule, isDelay, isPrecedes}
+use Rattle.work.specs.Parts.{isRelation, isRule, isDelay, isCounted, isPrecedes}
 use Rattle.judge.specs.declared.plan.Plan.{Plan}
-use Rattle.judge.specs.Plan.{numbers, relationsFrom, rulesFrom, delaysFrom, planLine, planLines, PutPlanLine, PutPart, Preparing, PlanOf}
+use Rattle.judge.specs.Plan.{numbers, relationsFrom, rulesFrom, delaysFrom, countedRows, planLine, planLines, PutPlanLine, PutPart, Preparing, PlanOf}
 use Rattle.judge.proofs.relevant.Laws.{flagged-append}
 use Rattle.judge.proofs.rows.Placing.{blank-at}
 use Rattle.judge.proofs.plan.Rows.{rows-stay}
@@ -31,22 +32,24 @@ pub record Sorted (ls : List Line) (i : ℕ) (p : Plan) (lines : List ℕ) : Typ
   pub few-relations : p .relations ≤ i
   pub few-rules : p .rules ≤ i
   pub few-delays : p .delays ≤ i
+  pub few-counted : p .counted ≤ i
   pub all : (k : ℕ) → k < i → planLine lines k ≡ getD ls k blankLine
   pub relations : planLines lines relationsFrom (p .relations) ≡ filter isRelation ls
   pub rules : planLines lines rulesFrom (p .rules) ≡ filter isRule ls
   pub delays : planLines lines delaysFrom (p .delays) ≡ filter isDelay ls
+  pub counted : planLines lines countedRows (p .counted) ≡ filter isCounted ls
   pub leaders : p .leaders ≤ i
   pub past : (k : ℕ) → p .leaders ≤ k → isPrecedes (getD ls k blankLine) ≡ false
   pub places : length (p .precede) ≡ 16
   pub precede : (k : ℕ) → getD (p .precede) k false ≡ isPrecedes (getD ls k blankLine)
   pub named : p .named ≡ flagged (flatMap namedBy ls) (replicate 8 false)
 
-abbrev pub planBy : ℕ → ℕ → ℕ → ℕ → ℕ → List Bool → List Bool → Plan
-planBy clocks relations rules delays leaders precede named =
-    record { clocks = clocks; relations = relations; rules = rules; delays = delays; leaders = leaders; precede = precede; named = named }
+abbrev pub planBy : ℕ → ℕ → ℕ → ℕ → ℕ → ℕ → List Bool → List Bool → Plan
+planBy clocks relations rules delays counted leaders precede named =
+    record { clocks = clocks; relations = relations; rules = rules; delays = delays; counted = counted; leaders = leaders; precede = precede; named = named }
 
 -- ---- none
-pub sorted-none : (s : Sheet) (clocks : ℕ) (lines : List ℕ) → length lines ≡ numbers → Sorted (listed (lineAt s) 0) 0 (planBy clocks 0 0 0 0 (replicate 16 false) (replicate 8 false)) lines
+pub sorted-none : (s : Sheet) (clocks : ℕ) (lines : List ℕ) → length lines ≡ numbers → Sorted (listed (lineAt s) 0) 0 (planBy clocks 0 0 0 0 0 (replicate 16 false) (replicate 8 false)) lines
 unfolding listedFrom
 sorted-none s clocks lines e = record {
   many = refl;
@@ -54,10 +57,12 @@ sorted-none s clocks lines e = record {
   few-relations = omega arith;
   few-rules = omega arith;
   few-delays = omega arith;
+  few-counted = omega arith;
   all = λ k h. absurd (omega arith);
   relations = refl;
   rules = refl;
   delays = refl;
+  counted = refl;
   leaders = omega arith;
   past = λ k h. refl;
   places = refl;
@@ -93,9 +98,9 @@ named-more (x ∷ ls) l flags =
 
 module _ {ls : List Line} {i : ℕ} {p : Plan} {a : List ℕ} (s : Sorted ls i p a) (few : i < 16) {k l : Line} (t : k ≡ l) where
   -- its rows
-  module _ {b c d e : List ℕ} {one₁ one₂ one₃ : Bool} {m n o : ℕ} (w : PutPlanLine i k a b) (x : PutPart relationsFrom (p .relations) one₁ k m b c) (y : PutPart rulesFrom (p .rules) one₂ k n c d) (z : PutPart delaysFrom (p .delays) one₃ k o d e) where
-    all-more : (k : ℕ) → k < i + 1 → planLine e k ≡ getD (ls ++ (l ∷ [])) k blankLine
-    all-more k h = z .stays .same k (λ f. omega arith) ∙ y .stays .same k (λ f. omega arith) ∙ x .stays .same k (λ f. omega arith) ∙ by-test (eqb k i) refl
+  module _ {b c d e last : List ℕ} {one₁ one₂ one₃ one₄ : Bool} {m n o r : ℕ} (w : PutPlanLine i k a b) (x : PutPart relationsFrom (p .relations) one₁ k m b c) (y : PutPart rulesFrom (p .rules) one₂ k n c d) (z : PutPart delaysFrom (p .delays) one₃ k o d e) (q : PutPart countedRows (p .counted) one₄ k r e last) where
+    all-more : (k : ℕ) → k < i + 1 → planLine last k ≡ getD (ls ++ (l ∷ [])) k blankLine
+    all-more k h = q .stays .same k (λ f. omega arith) ∙ z .stays .same k (λ f. omega arith) ∙ y .stays .same k (λ f. omega arith) ∙ x .stays .same k (λ f. omega arith) ∙ by-test (eqb k i) refl
       where
         by-test : (t : Bool) → eqb k i ≡ t → planLine b k ≡ getD (ls ++ (l ∷ [])) k blankLine
         by-test true u = let f = eqb-true k i u in ap (planLine b) f ∙ w .there ∙ t ∙ sym (at-end ls l k (f ∙ sym (s .many)))
@@ -103,7 +108,7 @@ module _ {ls : List Line} {i : ℕ} {p : Plan} {a : List ℕ} (s : Sorted ls i p
             let apart = eqb-false k i u in
             w .stays .same k apart ∙ s .all k (omega (arith, apart)) ∙ sym (elsewhere ls l k (λ f. apart (f ∙ s .many)))
 
-    module _ {one : Bool} {leaders : ℕ} {named : List Bool} (u₁ : one₁ ≡ isRelation l) (u₂ : one₂ ≡ isRule l) (u₃ : one₃ ≡ isDelay l) (v : one ≡ isPrecedes l) (f : leaders ≡ cond one (i + 1) (p .leaders)) (g : named ≡ flagged (namedBy l) (p .named)) where
+    module _ {one : Bool} {leaders : ℕ} {named : List Bool} (u₁ : one₁ ≡ isRelation l) (u₂ : one₂ ≡ isRule l) (u₃ : one₃ ≡ isDelay l) (u₄ : one₄ ≡ isCounted l) (v : one ≡ isPrecedes l) (f : leaders ≡ cond one (i + 1) (p .leaders)) (g : named ≡ flagged (namedBy l) (p .named)) where
       leaders-more : (t : Bool) → one ≡ t → leaders ≤ i + 1
       leaders-more true e = let h : leaders ≡ i + 1 = f ∙ rw e in omega arith
       leaders-more false e = let h : leaders ≡ p .leaders = f ∙ rw e in omega (arith, s .leaders)
@@ -131,27 +136,38 @@ module _ {ls : List Line} {i : ℕ} {p : Plan} {a : List ℕ} (s : Sorted ls i p
               let apart = eqb-false k i u in
               rw (getD-set-other (p .precede) i k one false apart, elsewhere ls l k (λ q. apart (q ∙ s .many))) (s .precede k)
 
-      pub sorted-more : Sorted (ls ++ (l ∷ [])) (i + 1) (planBy (p .clocks) m n o leaders (set (p .precede) i one) named) e
+      pub sorted-more : Sorted (ls ++ (l ∷ [])) (i + 1) (planBy (p .clocks) m n o r leaders (set (p .precede) i one) named) last
       sorted-more = record {
         many = length-append ls (l ∷ []) ∙ ap (λ (k : ℕ). k + 1) (s .many);
-        size = z .stays .size;
+        size = q .stays .size;
         few-relations = omega (arith, x .few, s .few-relations);
         few-rules = omega (arith, y .few, s .few-rules);
         few-delays = omega (arith, z .few, s .few-delays);
+        few-counted = omega (arith, q .few, s .few-counted);
         all = all-more;
         relations =
-            rows-stay (z .stays) relationsFrom m (λ k h q. omega (arith, x .few, s .few-relations))
+            rows-stay (q .stays) relationsFrom m (λ k h q. omega (arith, x .few, s .few-relations))
+            ∙ rows-stay (z .stays) relationsFrom m (λ k h q. omega (arith, x .few, s .few-relations))
             ∙ rows-stay (y .stays) relationsFrom m (λ k h q. omega (arith, x .few, s .few-relations))
             ∙ filtered isRelation ls t x u₁ (rows-stay (w .stays) relationsFrom (p .relations) (λ k h q. omega arith) ∙ s .relations);
         rules =
-            rows-stay (z .stays) rulesFrom n (λ k h q. omega (arith, y .few, s .few-rules))
+            rows-stay (q .stays) rulesFrom n (λ k h q. omega (arith, y .few, s .few-rules))
+            ∙ rows-stay (z .stays) rulesFrom n (λ k h q. omega (arith, y .few, s .few-rules))
             ∙ filtered isRule ls t y u₂ (rows-stay (x .stays) rulesFrom (p .rules) (λ k h q. omega (arith, s .few-relations)) ∙ rows-stay (w .stays) rulesFrom (p .rules) (λ k h q. omega arith) ∙ s .rules);
         delays =
-            filtered isDelay ls t z u₃
+            rows-stay (q .stays) delaysFrom o (λ k h q. omega (arith, z .few, s .few-delays))
+            ∙ filtered isDelay ls t z u₃
             (rows-stay (y .stays) delaysFrom (p .delays) (λ k h q. omega (arith, s .few-rules))
             ∙ rows-stay (x .stays) delaysFrom (p .delays) (λ k h q. omega (arith, s .few-relations))
             ∙ rows-stay (w .stays) delaysFrom (p .delays) (λ k h q. omega arith)
             ∙ s .delays);
+        counted =
+            filtered isCounted ls t q u₄
+            (rows-stay (z .stays) countedRows (p .counted) (λ k h q. omega (arith, s .few-delays))
+            ∙ rows-stay (y .stays) countedRows (p .counted) (λ k h q. omega (arith, s .few-rules))
+            ∙ rows-stay (x .stays) countedRows (p .counted) (λ k h q. omega (arith, s .few-relations))
+            ∙ rows-stay (w .stays) countedRows (p .counted) (λ k h q. omega arith)
+            ∙ s .counted);
         leaders = leaders-more one refl;
         past = past-more one refl;
         places = length-set (p .precede) i one ∙ s .places;
@@ -171,10 +187,39 @@ leading {ls} {p = p} w k = by-test (ltb k (p .leaders)) refl
     by-test true e = sym (w .precede k)
     by-test false e = w .past k (ltb-false k (p .leaders) e)
 
+-- delay lines and counted lines are different ones
+apart : (l : Line) → isDelay l ≡ true → isCounted l ≡ false
+apart (Counted A B D n) h = absurd (true≢false (sym h))
+apart (Sporadic A B t) h = refl
+apart (Relation A B p q) h = refl
+apart (Implies A B) h = refl
+apart (Excludes A B) h = refl
+apart (Delayed A B D d) h = refl
+apart (Weakly A B) h = refl
+apart (Strictly A B) h = refl
+apart (Kills A B) h = refl
+
+both-among : (ls : List Line) → length (filter isDelay ls) + length (filter isCounted ls) ≤ length ls
+both-among [] = omega arith
+both-among (l ∷ ls) = by-tests (isDelay l) (isCounted l) (apart l) (both-among ls)
+  where
+    by-tests : (a b : Bool) → (a ≡ true → b ≡ false) → length (filter isDelay ls) + length (filter isCounted ls) ≤ length ls
+        → length (cond a (l ∷ filter isDelay ls) (filter isDelay ls)) + length (cond b (l ∷ filter isCounted ls) (filter isCounted ls)) ≤ suc (length ls)
+    by-tests true true h m = absurd (true≢false (h refl))
+    by-tests true false h m = omega (arith, m)
+    by-tests false true h m = omega (arith, m)
+    by-tests false false h m = omega (arith, m)
+
+both-fit : {ls : List Line} {i : ℕ} {p : Plan} {lines : List ℕ} → Sorted ls i p lines → p .delays + p .counted ≤ length ls
+both-fit {ls} {p = p} {lines} w =
+    let delays : p .delays ≡ length (filter isDelay ls) = sym (length-listed (λ j. planLine lines (delaysFrom + j)) (p .delays)) ∙ ap length (w .delays) in
+    let counted : p .counted ≡ length (filter isCounted ls) = sym (length-listed (λ j. planLine lines (countedRows + j)) (p .counted)) ∙ ap length (w .counted) in
+    omega (arith, delays, counted, both-among ls)
+
 pub sorted-all : (s : Sheet) {p : Plan} {was lines : List ℕ} → Preparing s was → p .clocks ≡ s .clocks → Sorted (sheetValue s .lines) (s .count) p lines → PlanOf s p lines
 sorted-all s {p} q c w = record {
   size = w .size;
-  fits = record { clocks = rw c (q .few-clocks); leaders = omega (arith, w .leaders, q .few-lines); few-relations = omega (arith, w .few-relations, q .few-lines); few-rules = omega (arith, w .few-rules, q .few-lines); few-delays = omega (arith, w .few-delays, q .few-lines) };
+  fits = record { clocks = rw c (q .few-clocks); leaders = omega (arith, w .leaders, q .few-lines); few-relations = omega (arith, w .few-relations, q .few-lines); few-rules = omega (arith, w .few-rules, q .few-lines); few-begin = omega (arith, both-fit w, w .many, q .few-lines) };
   planned = record {
     as-many = c;
     few-clocks = q .few-clocks;
@@ -182,6 +227,7 @@ sorted-all s {p} q c w = record {
     relations = w .relations;
     rules = w .rules;
     delays = w .delays;
+    counted = w .counted;
     leading = (omega (arith, w .leaders, q .few-lines), leading w);
     named = w .named;
   };

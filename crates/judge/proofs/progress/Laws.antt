@@ -37,17 +37,17 @@ use Rattle.judge.specs.declared.held.Held.{Held}
 use Rattle.judge.specs.declared.plan.Plan.{Plan}
 use Rattle.judge.specs.declared.progress.Progress.{Progress}
 use Rattle.judge.specs.declared.monitor.Monitor.{Monitor}
-use Rattle.judge.specs.View.{obligationOf, owedOf, viewOf, heldOf, liveCount, sized}
+use Rattle.judge.specs.View.{obligationOf, countdownOf, owedOf, countdownsOf, viewOf, heldOf, liveCount, fewOwed, sized}
 use Rattle.judge.specs.Unused.{BlankFrom, KeepsNothing}
 use Rattle.judge.specs.Answer.{answerOf, saidBy}
 use Rattle.judge.specs.Limits.{sheetWithin, monitorWithin, Limited}
 use Rattle.judge.specs.Plan.{numbers, Preparing, PlanOf}
-use Rattle.judge.specs.Rows.{words, rowCount, rowObligation, rowOwed, rowLeads, rowStopped, rowOf}
+use Rattle.judge.specs.Rows.{words, rowCount, rowObligation, rowOwed, rowCountdowns, rowLeads, rowStopped, rowOf, FewInRow}
 use Rattle.judge.specs.Apply.{Side, foundIn, FewOwedIn}
 use Rattle.judge.specs.Stored.{StoringHeld, StoredHeld, FromRows}
 use Rattle.judge.specs.Monitor.{sheetBy, heldBy, Accepts}
 use Rattle.judge.specs.Fill.{Working}
-use Rattle.judge.specs.Progress.{asStruct, rowRemainder, rowsHeld, rowsMonitor, progressOf, given, readBack, Ready}
+use Rattle.judge.specs.Progress.{rowRemainder, rowsHeld, rowsMonitor, progressOf, given, readBack, Ready}
 use Rattle.judge.specs.Promises.{Follows}
 use Rattle.judge.proofs.monitor.Limits.{held-limits, limits-of, within-limits, leads-small}
 
@@ -66,13 +66,25 @@ module _ {A : Type 0} (f : ℕ → A) where
 
 -- ---- those held
 owed-row : (rows : List ℕ) (i : ℕ) → owedOf (rowRemainder rows i) ≡ rowOwed rows i
-owed-row rows i = map-all (λ j. asStruct (rowObligation rows i j)) obligationOf (rowCount rows i)
+owed-row rows i = ap (map obligationOf) (take-all (rowObligation rows i 0) (rowCount rows i 0))
+
+countdowns-row : (rows : List ℕ) (i : ℕ) → countdownsOf (rowRemainder rows i) ≡ rowCountdowns rows i
+countdowns-row rows i = ap (map countdownOf) (take-all (rowObligation rows i 1) (rowCount rows i 1))
 
 view-row : (v : SheetValue) (rows : List ℕ) (i : ℕ) → viewOf v (rowRemainder rows i) ≡ usedPart v (rowOf rows i)
-view-row v rows i = ap (λ (os : List _). usedPart v (record { owed = os; leads = rowLeads rows i; stopped = rowStopped rows i })) (owed-row rows i)
+view-row v rows i = λ k. usedPart v (record { owed = owed-row rows i k; countdowns = countdowns-row rows i k; leads = rowLeads rows i; stopped = rowStopped rows i })
 
-few : arrays.Remainder → Bool
-few q = leb (q .owed) 8
+-- at most eight in each set
+few-row : (rows : List ℕ) (i : ℕ) → T (fewOwed (rowRemainder rows i)) → FewInRow rows i
+few-row rows i t part h = by-part part (omega arith)
+  where
+    by-part : (part : ℕ) → part ≤ 1 → rowCount rows i part ≤ 8
+    by-part zero h = leb→le (rowCount rows i 0) 8 (and-l (leb (rowCount rows i 0) 8) (leb (rowCount rows i 1) 8) t)
+    by-part (suc zero) h = leb→le (rowCount rows i 1) 8 (and-r (leb (rowCount rows i 0) 8) (leb (rowCount rows i 1) 8) t)
+    by-part (suc (suc part)) h = absurd (omega arith)
+
+row-few : (rows : List ℕ) (i : ℕ) → FewInRow rows i → T (fewOwed (rowRemainder rows i))
+row-few rows i h = and-i (leb (rowCount rows i 0) 8) (leb (rowCount rows i 1) 8) (le→leb (rowCount rows i 0) 8 (h 0 (omega arith))) (le→leb (rowCount rows i 1) 8 (h 1 (omega arith)))
 
 module _ (rows : List ℕ) (from : ℕ) where
   abbrev one : ℕ → arrays.Remainder
@@ -83,18 +95,16 @@ module _ (rows : List ℕ) (from : ℕ) where
   held-rows v (Live n) = ap some (map-all one (viewOf v) n ∙ ap (λ (f : ℕ → Remainder). listed f n) (fun-ext (λ k. view-row v rows (from + k))))
 
   pub small-rows : (count : Status) → T (sized (rowsHeld count rows from)) → FewOwedIn count rows from
-  unfolding few
   small-rows Exhausted t = tt
   small-rows (Live n) t =
-      let u = rw (take-all one n) at (and-r (leb n 32) (all few (take n (listed one n))) t) in
-      (leb→le n 32 (and-l (leb n 32) (all few (take n (listed one n))) t), λ k h. leb→le (rowCount rows (from + k)) 8 (one-of one few n u k h))
+      let u = rw (take-all one n) at (and-r (leb n 32) (all fewOwed (take n (listed one n))) t) in
+      (leb→le n 32 (and-l (leb n 32) (all fewOwed (take n (listed one n))) t), λ k h. few-row rows (from + k) (one-of one fewOwed n u k h))
 
   pub sized-rows : (count : Status) → FewOwedIn count rows from → T (sized (rowsHeld count rows from))
-  unfolding few
   sized-rows Exhausted h = tt
   sized-rows (Live n) h =
-      and-i (leb n 32) (all few (take n (listed one n))) (le→leb n 32 (h .0))
-      (rw (take-all one n) (all-of one few n (λ k l. le→leb (rowCount rows (from + k)) 8 (h .1 k l))))
+      and-i (leb n 32) (all fewOwed (take n (listed one n))) (le→leb n 32 (h .0))
+      (rw (take-all one n) (all-of one fewOwed n (λ k l. row-few rows (from + k) (h .1 k l))))
 
   pub eight-rows : (count : Status) → All (λ (q : arrays.Remainder). length (q .stopped) ≡ 8) (rowsHeld count rows from .remainders)
   eight-rows count = each-from one (λ (q : arrays.Remainder). length (q .stopped) ≡ 8) (λ k. length-listed _ 8) 0 (liveCount count)

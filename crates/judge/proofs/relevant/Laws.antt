@@ -10,21 +10,7 @@ use Rattle.records.proofs.Lists.{listed-cons, listed-end}
 use Rattle.tesl.specs.Lists.{flatMap}
 use Rattle.work.specs.Relevant.{flagged}
 
--- ---- the flags of the clocks at i and after: place by place, and those that each place names
-module _ (at : ℕ → ℕ) (n i : ℕ) (flags : List Bool) where
-  abbrev pub flaggedFrom : List Bool
-  flaggedFrom = flagged (listedFrom at i (n - i)) flags
-
-  module _ {whole : List Bool} (w : whole ≡ flaggedFrom) where
-    pub flags-end : n ≤ i → flags ≡ whole
-    flags-end h = sym (w ∙ rw (listed-end at n i h))
-
-    pub flags-more : i < n → {after : List Bool} → after ≡ set flags (at i) true → whole ≡ flagged (listedFrom at (i + 1) (n - (i + 1))) after
-    flags-more h e = w ∙ rw (listed-cons at n i h, e)
-
-pub flags-start : (at : ℕ → ℕ) (n : ℕ) (flags : List Bool) → flagged (listed at n) flags ≡ flaggedFrom at n 0 flags
-flags-start at n flags = let k : n - 0 ≡ n = omega arith in rw k
-
+-- ---- the flags of the clocks that each place from i on names
 pub flagged-append : (ks ls : List ℕ) (flags : List Bool) → flagged (ks ++ ls) flags ≡ flagged ls (flagged ks flags)
 flagged-append [] ls flags = refl
 flagged-append (k ∷ ks) ls flags = flagged-append ks ls (set flags k true)

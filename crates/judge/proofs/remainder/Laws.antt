@@ -1,6 +1,5 @@
 -- What past the end of an array of obligations reads. Assumes nothing.
-use lib.IntN.{pos}
 use Rattle.judge.specs.declared.obligation.Obligation as code
 
 abbrev pub blank : code.Obligation
-blank = record { clock = 0; on = 0; due = pos 0 }
+blank = record { clock = 0; on = 0; number = 0 }

@@ -1,16 +1,14 @@
 -- Words stored in a row: what was stored is read there, and every other word stays. Assumes nothing.
 use mathlib.Core.List.{List, [], _∷_, _++_}
-use mathlib.Core.Path.{_≡_, refl, ap, _∙_}
-use Prim.Native.Nat.{ℕ, zero, suc, _+_, _*_, _%_, _<_, _≤_}
+use mathlib.Core.Path.{_≡_, refl, ap, ap₂, _∙_}
+use Prim.Native.Nat.{ℕ, zero, suc, _+_, _*_, _<_, _≤_}
 use native.Mathlib.Omega.{arith}
-use lib.IntN.{ℤ}
 use lib.ListN.{length, getD, set, length-set}
 use lib.Seq.{getD-set-same, getD-set-other}
 use Rattle.records.specs.Lists.{listed}
-use Rattle.tesl.specs.Fits.{Obligation}
 use Rattle.work.proofs.Listing.{listed-same, listed-next}
-use Rattle.judge.specs.Word.{dueOf}
-use Rattle.judge.specs.Rows.{leadsPart, width, words, word, rowCount, rowObligation, rowOwed, Stays, RowsStay, PutObligation}
+use Rattle.judge.specs.declared.obligation.Obligation as code
+use Rattle.judge.specs.Rows.{parts, partWords, leadsPart, height, width, words, word, rowCount, storedIn, rowObligation, rowSet, FewInRow, CountsSame, NothingInParts, Stays, RowsStay, PutObligation}
 
 -- ---- one word
 module _ (a : List ℕ) (i p w : ℕ) where
@@ -64,70 +62,94 @@ module _ {first n : ℕ} {a b : List ℕ} (s : RowsStay first n a b) where
   pub rows-stay-on : {c : List ℕ} → RowsStay first n b c → RowsStay first n a c
   rows-stay-on t = record { size = t .size ∙ s .size; same = λ h p k f. t .same h p k f ∙ s .same h p k f }
 
--- ---- an obligation
-pub same-obligation : {c c′ o o′ : ℕ} {t t′ : ℤ} → c ≡ c′ → t ≡ t′ → o ≡ o′ → _≡_ {A = Obligation} (record { clock = c; due = t; on = o }) (record { clock = c′; due = t′; on = o′ })
-same-obligation a b c = rw (a, b, c)
+-- ---- a place of a part
 
--- obligation k of a row whose words are the same
-pub obligation-same : (a b : List ℕ) (h k : ℕ) → word b h (1 + k) ≡ word a h (1 + k) → word b h (9 + k) ≡ word a h (9 + k) → word b h (17 + k) ≡ word a h (17 + k) → rowObligation b h k ≡ rowObligation a h k
-obligation-same a b h k c o d = same-obligation (ap (λ (w : ℕ). w % 256) c) (ap dueOf d) (ap (λ (w : ℕ). w % 256) o)
+-- place k of a part whose words are the same
+pub obligation-same : (a b : List ℕ) (h part k : ℕ) → word b h (partWords * part + 1 + k) ≡ word a h (partWords * part + 1 + k) → word b h (partWords * part + 9 + k) ≡ word a h (partWords * part + 9 + k) → rowObligation b h part k ≡ rowObligation a h part k
+obligation-same a b h part k c n = ap₂ storedIn c n
 
-pub obligation-stays : {i lo hi : ℕ} {a b : List ℕ} → Stays i lo hi a b → (h k : ℕ) → k < 8 → ((p : ℕ) → 1 ≤ p → p < leadsPart → h ≡ i → lo ≤ p → p < hi → ⊥) → rowObligation b h k ≡ rowObligation a h k
-obligation-stays {a = a} {b} s h k l f =
-    let same : (p : ℕ) → 1 ≤ p → p < leadsPart → word b h p ≡ word a h p = λ p x y. s .same h p (omega arith) (f p x y) in
-    obligation-same a b h k (same (1 + k) (omega arith) (omega arith)) (same (9 + k) (omega arith) (omega arith)) (same (17 + k) (omega arith) (omega arith))
+-- the words of a part of row h are the same
+pub record PartSame (h part : ℕ) (a b : List ℕ) : Type 0 where
+  pub same : (p : ℕ) → partWords * part ≤ p → p < partWords * part + partWords → word b h p ≡ word a h p
 
-module _ (a : List ℕ) (i j c n d : ℕ) (size : length a ≡ words) (row : i < 72) (place : j < 8) where
+module _ {h part : ℕ} {a b : List ℕ} (s : PartSame h part a b) where
+  pub count-same : rowCount b h part ≡ rowCount a h part
+  count-same = s .same (partWords * part) (omega arith) (omega arith)
+
+  pub place-same : (k : ℕ) → k < 8 → rowObligation b h part k ≡ rowObligation a h part k
+  place-same k l = obligation-same a b h part k (s .same (partWords * part + 1 + k) (omega arith) (omega arith)) (s .same (partWords * part + 9 + k) (omega arith) (omega arith))
+
+  pub set-same : rowCount a h part ≤ 8 → rowSet b h part ≡ rowSet a h part
+  set-same few = ap (listed (rowObligation b h part)) count-same ∙ listed-same (rowCount a h part) (λ k l. place-same k (omega arith))
+
+-- a part of another row, or of this one where other words are stored
+pub part-stays : {i lo hi : ℕ} {a b : List ℕ} → Stays i lo hi a b → (h part : ℕ) → part < parts → ((p : ℕ) → partWords * part ≤ p → p < partWords * part + partWords → h ≡ i → lo ≤ p → p < hi → ⊥) → PartSame h part a b
+part-stays s h part l f = record { same = λ p x y. s .same h p (omega arith) (f p x y) }
+
+module _ (a : List ℕ) (i part j c n : ℕ) (size : length a ≡ words) (row : i < height) (inside : part < parts) (place : j < 8) where
   abbrev first : List ℕ
-  first = set a (width * i + (1 + j)) c
+  first = set a (width * i + (partWords * part + 1 + j)) c
 
   abbrev second : List ℕ
-  second = set first (width * i + (9 + j)) n
+  second = set first (width * i + (partWords * part + 9 + j)) n
 
-  abbrev third : List ℕ
-  third = set second (width * i + (17 + j)) d
+  other : (p : ℕ) → p < width → (p ≡ partWords * part + 1 + j → ⊥) → (p ≡ partWords * part + 9 + j → ⊥) → word second i p ≡ word a i p
+  other p h f g =
+      stored-other first i (partWords * part + 9 + j) n i p (omega arith) h (λ z. g) ∙ stored-other a i (partWords * part + 1 + j) c i p (omega arith) h (λ z. f)
 
-  long : length second ≡ words
-  long = length-set first (width * i + (9 + j)) n ∙ length-set a (width * i + (1 + j)) c ∙ size
-
-  other : (p : ℕ) → p < width → (p ≡ 1 + j → ⊥) → (p ≡ 9 + j → ⊥) → (p ≡ 17 + j → ⊥) → word third i p ≡ word a i p
-  other p h f g e =
-      stored-other second i (17 + j) d i p (omega arith) h (λ z. e) ∙ stored-other first i (9 + j) n i p (omega arith) h (λ z. g) ∙ stored-other a i (1 + j) c i p (omega arith) h (λ z. f)
-
-  pub obligation-put : {o : Obligation} → c % 256 ≡ o .clock → n % 256 ≡ o .on → dueOf d ≡ o .due → PutObligation i j o a third
-  obligation-put ec en ed =
+  pub obligation-put : {o : code.Obligation} → storedIn c n ≡ o → PutObligation i part j o a second
+  obligation-put e =
       record {
-        stays = stays-put (stays-put (stays-put (stays-all i 1 leadsPart a) (1 + j) c (omega arith) (omega arith) (omega arith)) (9 + j) n (omega arith) (omega arith) (omega arith)) (17 + j) d (omega arith) (omega arith) (omega arith);
-        here = same-obligation
-            (rw (stored-other second i (17 + j) d i (1 + j) (omega arith) (omega arith) (λ z e. omega arith), stored-other first i (9 + j) n i (1 + j) (omega arith) (omega arith) (λ z e. omega arith), stored a i (1 + j) c (omega arith)) ec)
-            (rw (stored second i (17 + j) d (omega (arith, long))) ed)
-            (rw (stored-other second i (17 + j) d i (9 + j) (omega arith) (omega arith) (λ z e. omega arith), stored first i (9 + j) n (omega (arith, length-set a (width * i + (1 + j)) c))) en);
-        others = λ k l f. same-obligation
-            (ap (λ (w : ℕ). w % 256) (other (1 + k) (omega arith) (λ e. f (omega arith)) (λ e. omega arith) (λ e. omega arith)))
-            (ap dueOf (other (17 + k) (omega arith) (λ e. omega arith) (λ e. omega arith) (λ e. f (omega arith))))
-            (ap (λ (w : ℕ). w % 256) (other (9 + k) (omega arith) (λ e. omega arith) (λ e. f (omega arith)) (λ e. omega arith)));
+        stays = stays-put (stays-put (stays-all i (partWords * part + 1) (partWords * part + partWords) a) (partWords * part + 1 + j) c (omega arith) (omega arith) (omega arith)) (partWords * part + 9 + j) n (omega arith) (omega arith) (omega arith);
+        here = ap₂ storedIn
+            (stored-other first i (partWords * part + 9 + j) n i (partWords * part + 1 + j) (omega arith) (omega arith) (λ z e. omega arith) ∙ stored a i (partWords * part + 1 + j) c (omega arith))
+            (stored first i (partWords * part + 9 + j) n (omega (arith, length-set a (width * i + (partWords * part + 1 + j)) c)))
+            ∙ e;
+        others = λ k l f. obligation-same a second i part k
+            (other (partWords * part + 1 + k) (omega arith) (λ e. f (omega arith)) (λ e. omega arith))
+            (other (partWords * part + 9 + k) (omega arith) (λ e. omega arith) (λ e. f (omega arith)));
       }
 
--- ---- what a row owes
+-- ---- a set
 
--- one obligation more
-pub owed-next : {i j : ℕ} {o : Obligation} {a b : List ℕ} → PutObligation i j o a b → j < 8 → listed (rowObligation b i) (j + 1) ≡ listed (rowObligation a i) j ++ (o ∷ [])
-owed-next {i} {j} p h = listed-next j (λ k l. p .others k (omega arith) (λ e. omega arith)) (p .here) refl
+-- one more
+pub set-next : {i part j : ℕ} {o : code.Obligation} {a b : List ℕ} → PutObligation i part j o a b → j < 8 → listed (rowObligation b i part) (j + 1) ≡ listed (rowObligation a i part) j ++ (o ∷ [])
+set-next {j = j} p h = listed-next j (λ k l. p .others k (omega arith) (λ e. omega arith)) (p .here) refl
 
--- the count stored, after the obligations
-module _ (a : List ℕ) (i n : ℕ) (size : length a ≡ words) (row : i < 72) where
+-- the count stored, after the others
+module _ (a : List ℕ) (i part n : ℕ) (size : length a ≡ words) (row : i < height) (inside : part < parts) where
   abbrev counted : List ℕ
-  counted = set a (width * i + 0) n
+  counted = set a (width * i + partWords * part) n
 
-  pub count-put : rowCount counted i ≡ n
-  count-put = stored a i 0 n (omega arith)
+  pub count-put : rowCount counted i part ≡ n
+  count-put = stored a i (partWords * part) n (omega arith)
 
-  pub owed-put : n ≤ 8 → rowOwed counted i ≡ listed (rowObligation a i) n
-  owed-put h =
-      rw count-put
-      (listed-same n (λ k l. obligation-stays (stays-put (stays-all i 0 1 a) 0 n (omega arith) (omega arith) (omega arith)) i k (omega arith) (λ p x y e l m. omega arith)))
+  pub set-put : n ≤ 8 → rowSet counted i part ≡ listed (rowObligation a i part) n
+  set-put h =
+      ap (listed (rowObligation counted i part)) count-put
+      ∙ listed-same n (λ k l. obligation-same a counted i part k
+      (stored-other a i (partWords * part) n i (partWords * part + 1 + k) (omega arith) (omega arith) (λ z e. omega arith))
+      (stored-other a i (partWords * part) n i (partWords * part + 9 + k) (omega arith) (omega arith) (λ z e. omega arith)))
 
--- what another row owes, or this one where other words are stored
-pub owed-stays : {i lo hi : ℕ} {a b : List ℕ} → Stays i lo hi a b → (h : ℕ) → rowCount a h ≤ 8 → ((p : ℕ) → p < leadsPart → h ≡ i → lo ≤ p → p < hi → ⊥) → rowOwed b h ≡ rowOwed a h
-owed-stays {a = a} s h few f =
-    rw (s .same h 0 (omega arith) (f 0 (omega arith))) (listed-same (rowCount a h) (λ k l. obligation-stays s h k (omega arith) (λ p x. f p)))
+-- ---- all sets of a row
+
+pub few-counts : (a b : List ℕ) (h : ℕ) → CountsSame h a b → FewInRow a h → FewInRow b h
+few-counts a b h same few part l = rw (same part l) (few part l)
+
+-- where the words before its leads are the same
+module _ (a b : List ℕ) (h : ℕ) (same : (p : ℕ) → p < leadsPart → word b h p ≡ word a h p) where
+  pub counts-words : CountsSame h a b
+  counts-words part l = same (partWords * part) (omega arith)
+
+  pub few-words : FewInRow a h → FewInRow b h
+  few-words few = few-counts a b h counts-words few
+
+  pub set-words : (part : ℕ) → part < parts → rowCount a h part ≤ 8 → rowSet b h part ≡ rowSet a h part
+  set-words part l few = set-same {h = h} {part = part} {a = a} {b = b} (record { same = λ p x y. same p (omega arith) }) few
+
+  pub nothing-words : NothingInParts a h → NothingInParts b h
+  nothing-words n =
+      record {
+        clocks = λ part j l m k. same (partWords * part + 1 + j) (omega arith) ∙ n .clocks part j l (omega (arith, counts-words part l)) k;
+        numbers = λ part j l m k. same (partWords * part + 9 + j) (omega arith) ∙ n .numbers part j l (omega (arith, counts-words part l)) k;
+      }

@@ -1,11 +1,11 @@
 -- Whether a row is within its limits: its obligations, and the leads that precedes lines have, are within theirs. Assumes nothing.
 use mathlib.Core.Bool.{Bool, true, false, cond, not, _&&_, _||_}
-use mathlib.Core.List.{List, map}
+use mathlib.Core.List.{List}
 use mathlib.Core.Path.{_≡_, refl, sym, ap, ap₂, _∙_}
 use Prim.Native.Nat.{ℕ, zero, suc, _+_, _<_, _≤_}
 use native.Mathlib.Omega.{arith}
 use lib.Dec.{leb}
-use lib.ListN.{length, getD, List·getD-eq-default}
+use lib.ListN.{length, getD, take, List·getD-eq-default}
 use lib.Seq.{take-all}
 use borrow.Author.Tests.{le-leb, lt-leb, le-ltb, lt-ltb}
 use Rattle.records.specs.Lists.{listed}
@@ -16,27 +16,22 @@ use Rattle.tesl.specs.Lists.{all, below, table}
 use Rattle.theory.specs.Step.{nextLeads}
 use Rattle.work.specs.View.{inUse}
 use Rattle.work.proofs.Below.{below-ext, below-front, below-either}
-use Rattle.work.proofs.Listing.{listed-at, map-listed, all-listed}
+use Rattle.work.proofs.Listing.{listed-at, all-listed}
 use Rattle.work.proofs.Carried.{sheetLine, next-places, used-by}
 use Rattle.judge.specs.declared.held.Status.{Status}
 use Rattle.judge.specs.declared.held.Status.the-variants.{Exhausted, Live}
 use Rattle.judge.specs.declared.plan.Plan.{Plan}
-use Rattle.judge.specs.View.{obligationOf, owedOf, viewOf}
-use Rattle.judge.specs.Limits.{obligationWithin, remainderWithin, heldWithin}
+use Rattle.judge.specs.View.{owedOf, viewOf}
+use Rattle.judge.specs.Limits.{storedWithin, leastDue, mostDue, leastWanted, mostWanted, setWithin, remainderWithin, heldWithin}
 use Rattle.judge.specs.Plan.{Planned}
-use Rattle.judge.specs.Rows.{rowCount, rowObligation, rowOwed, rowLead, rowLeads}
-use Rattle.judge.specs.Progress.{asStruct, rowRemainder}
-use Rattle.judge.specs.RowsLimits.{owedFits, leadFits, RowWithin, EachRowWithin, RowsWithin}
+use Rattle.judge.specs.Rows.{rowCount, rowObligation, rowSet, rowLead, rowLeads}
+use Rattle.judge.specs.Progress.{rowRemainder}
+use Rattle.judge.specs.RowsLimits.{placeFits, leadFits, RowWithin, EachRowWithin, RowsWithin}
+use Rattle.judge.proofs.limits.Laws.{by-sets}
 
 all-table : {A : Type 0} (p : A → Bool) (n : ℕ) (f : ℕ → A) → all p (table n f) ≡ below n (λ k. p (f k))
 all-table p zero f = refl
 all-table p (suc n) f = ap (λ (b : Bool). p (f 0) && b) (all-table p n (λ k. f (suc k))) ∙ sym (below-front (λ k. p (f k)) n)
-
--- what a row owes, as a struct's
-struct-owed : (rows : List ℕ) (i : ℕ) → owedOf (rowRemainder rows i) ≡ rowOwed rows i
-struct-owed rows i =
-    ap (map obligationOf) (take-all (rowCount rows i) _ (omega (arith, length-listed (λ j. asStruct (rowObligation rows i j)) (rowCount rows i))))
-    ∙ map-listed (λ j. asStruct (rowObligation rows i j)) obligationOf (rowCount rows i)
 
 module _ {p : Plan} (m : ℕ) (rows : List ℕ) (i : ℕ) where
   module _ (v : SheetValue) (lines : List ℕ) (planned : Planned v p lines) where
@@ -69,28 +64,38 @@ module _ {p : Plan} (m : ℕ) (rows : List ℕ) (i : ℕ) where
         ∙ below-either lead (length (v .lines)) (p .leaders) past-lines past-leaders
         ∙ below-ext (p .leaders) lead (leadFits (p .precede) m rows i) by-flag
 
-    owed-fit : all (obligationWithin (v .clocks)) (owedOf (rowRemainder rows i)) ≡ below (rowCount rows i) (owedFits (p .clocks) rows i)
-    owed-fit =
-        ap (all (obligationWithin (v .clocks))) (struct-owed rows i)
-        ∙ all-listed (rowObligation rows i) (obligationWithin (v .clocks)) (rowCount rows i)
-        ∙ ap (λ (c : ℕ). below (rowCount rows i) (owedFits c rows i)) (sym (planned .as-many))
+    -- the row by its sets and its leads
+    whole-set : (part : ℕ) → take (rowCount rows i part) (rowSet rows i part) ≡ rowSet rows i part
+    whole-set part = take-all (rowCount rows i part) (rowSet rows i part) (omega (arith, length-listed (rowObligation rows i part) (rowCount rows i part)))
 
-  -- more than eight are not read
-  pub row-many : 8 < rowCount rows i → RowWithin p m rows i false
-  unfolding remainderWithin
-  row-many h v lines planned = rw (lt-leb (rowCount rows i) 8 h)
+    fits : remainderWithin v m (rowRemainder rows i)
+        ≡ (setWithin (p .clocks) leastDue mostDue (rowCount rows i 0) (rowSet rows i 0)
+        && (setWithin (p .clocks) leastWanted mostWanted (rowCount rows i 1) (rowSet rows i 1) && below (p .leaders) (leadFits (p .precede) m rows i)))
+    fits =
+        by-sets (p .clocks) v (sym (planned .as-many)) m (rowRemainder rows i)
+        ∙ λ k. setWithin (p .clocks) leastDue mostDue (rowCount rows i 0) (whole-set 0 k) && (setWithin (p .clocks) leastWanted mostWanted (rowCount rows i 1) (whole-set 1 k) && leads-fit k)
 
-  module _ {b : Bool} (few : rowCount rows i ≤ 8) (owed : b ≡ below (rowCount rows i) (owedFits (p .clocks) rows i)) where
+  module _ {b : Bool} (owed : b ≡ setWithin (p .clocks) leastDue mostDue (rowCount rows i 0) (rowSet rows i 0)) where
     pub row-owed : b ≡ false → RowWithin p m rows i false
-    unfolding remainderWithin
-    row-owed e v lines planned =
-        sym (ap₂ (λ (s t : Bool). s && (t && all (λ (n : ℕ). leb n m) (viewOf v (rowRemainder rows i) .leads))) (le-leb (rowCount rows i) 8 few) (owed-fit v lines planned ∙ sym owed ∙ e))
+    row-owed e v lines planned = sym (fits v lines planned ∙ rw (sym owed, e))
 
-    pub row-leads : {r : Bool} → b ≡ true → r ≡ below (p .leaders) (leadFits (p .precede) m rows i) → RowWithin p m rows i r
-    unfolding remainderWithin
-    row-leads e f v lines planned =
-        f ∙ sym (leads-fit v lines planned)
-        ∙ sym (ap₂ (λ (s t : Bool). s && (t && all (λ (n : ℕ). leb n m) (viewOf v (rowRemainder rows i) .leads))) (le-leb (rowCount rows i) 8 few) (owed-fit v lines planned ∙ sym owed ∙ e))
+    module _ (e : b ≡ true) {d : Bool} (counted : d ≡ setWithin (p .clocks) leastWanted mostWanted (rowCount rows i 1) (rowSet rows i 1)) where
+      pub row-counted : d ≡ false → RowWithin p m rows i false
+      row-counted f v lines planned = sym (fits v lines planned ∙ rw (sym owed, e, sym counted, f))
+
+      pub row-leads : {r : Bool} → d ≡ true → r ≡ below (p .leaders) (leadFits (p .precede) m rows i) → RowWithin p m rows i r
+      row-leads f g v lines planned = g ∙ sym (fits v lines planned ∙ rw (sym owed, e, sym counted, f))
+
+-- ---- a set of a row
+module _ (c least most : ℕ) (rows : List ℕ) (i part : ℕ) where
+  -- more than eight are not read
+  pub set-many : 8 < rowCount rows i part → false ≡ setWithin c least most (rowCount rows i part) (rowSet rows i part)
+  unfolding setWithin
+  set-many h = sym (rw (lt-leb (rowCount rows i part) 8 h))
+
+  pub set-few : {b : Bool} → rowCount rows i part ≤ 8 → b ≡ below (rowCount rows i part) (placeFits c least most rows i part) → b ≡ setWithin c least most (rowCount rows i part) (rowSet rows i part)
+  unfolding setWithin
+  set-few h e = e ∙ sym (all-listed (rowObligation rows i part) (storedWithin c least most) (rowCount rows i part)) ∙ sym (rw (le-leb (rowCount rows i part) 8 h))
 
 -- ---- those held
 module _ {p : Plan} (m : ℕ) (rows : List ℕ) (from : ℕ) where

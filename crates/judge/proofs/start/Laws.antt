@@ -3,12 +3,12 @@ use mathlib.Core.Bool.{Bool, true, false, and-false}
 use mathlib.Core.List.{List, [], _∷_, map}
 use mathlib.Core.Option.{some}
 use mathlib.Core.Path.{_≡_, refl, sym, ap, _∙_}
-use Prim.Native.Nat.{ℕ, zero, suc, _+_, _≤_}
+use Prim.Native.Nat.{ℕ, zero, suc, _+_, _*_, _≤_, _<_}
 use native.Mathlib.Omega.{arith}
 use lib.Dec.{eqb}
 use lib.ListN.{take, replicate, length-replicate}
 use Rattle.records.specs.declared.line.Line.{Line}
-use Rattle.records.specs.declared.line.Line.the-variants.{Sporadic, Relation, Implies, Excludes, Delayed, Weakly, Strictly, Kills}
+use Rattle.records.specs.declared.line.Line.the-variants.{Sporadic, Relation, Implies, Excludes, Delayed, Weakly, Strictly, Kills, Counted}
 use Rattle.records.specs.Lists.{listedFrom}
 use Rattle.records.specs.Sheet.{SheetValue}
 use Rattle.tesl.specs.Lists.{any, flatMap, table}
@@ -17,11 +17,10 @@ use Rattle.tesl.specs.Remainder.{leadOf, stops, remainder}
 use Rattle.theory.specs.Step.{nextLeads}
 use Rattle.theory.proofs.Lists.{table-ext}
 use Rattle.work.specs.View.{inUse, usedPart}
-use Rattle.work.specs.Owed.{owing}
-use Rattle.work.specs.Work.{addedAll}
+use Rattle.work.specs.Owed.{owing, addedAll}
 use Rattle.judge.specs.Word.{flagOf}
-use Rattle.judge.specs.Rows.{leadsPart, stoppedPart, headRows, rowCount, rowOwed, rowLead, rowLeads, rowStop, rowStopped, rowOf, provided, Row, BegunRow}
-use Rattle.judge.specs.Start.{BlankRow, BegunRows}
+use Rattle.judge.specs.Rows.{parts, partWords, leadsPart, stoppedPart, headRows, rowCount, rowOwed, rowCountdowns, rowLead, rowLeads, rowStop, rowStopped, rowOf, provided, Row}
+use Rattle.judge.specs.Start.{BlankRow, StartedRow, BegunRows}
 use Rattle.judge.proofs.rows.Placing.{blank-at, listed-is}
 use Rattle.judge.proofs.advance.Row.{same-remainder}
 
@@ -36,6 +35,7 @@ no-lead (Implies A B) = refl
 no-lead (Excludes A B) = refl
 no-lead (Delayed A B D d) = refl
 no-lead (Kills A B) = refl
+no-lead (Counted A B D n) = refl
 
 no-leads : (ls : List Line) (n : ℕ) → nextLeads inUse ls (replicate n 0) ≡ map (leadOf []) ls
 no-leads [] n = refl
@@ -44,6 +44,7 @@ no-leads (l ∷ ls) (suc n) = rw (no-lead l, no-leads ls n)
 
 no-stop : (k : ℕ) (l : Line) → stops [] k l ≡ false
 no-stop k (Kills A B) = and-false (eqb B k)
+no-stop k (Counted A B D n) = refl
 no-stop k (Sporadic A B t) = refl
 no-stop k (Relation A B p q) = refl
 no-stop k (Implies A B) = refl
@@ -72,17 +73,17 @@ provided-some true e = cc
 provided-some false e = let z : _≡_ {A = ℕ} 0 1 = cc in absurd (omega arith)
 
 module _ {a : List ℕ} (z : BlankRow a headRows) where
-  blank-count : rowCount a headRows ≡ 0
-  blank-count = z .blank 0 (omega arith)
+  blank-count : (part : ℕ) → part < parts → rowCount a headRows part ≡ 0
+  blank-count part h = z .blank (partWords * part) (omega arith)
 
-  pub blank-row : Row a headRows
-  blank-row = record { size = z .size; row = omega arith; few = omega (arith, blank-count) }
+  pub blank-row : Row a headRows 0
+  blank-row = record { size = z .size; row = omega arith; inside = omega arith; few = omega (arith, blank-count 0 (omega arith)) }
 
   blank-owes : rowOwed a headRows ≡ []
   unfolding listedFrom
-  blank-owes = rw blank-count
+  blank-owes = rw (blank-count 0 (omega arith))
 
-  module _ (v : SheetValue) {r : Bool} {b : List ℕ} (w : BegunRow headRows (flatMap owedAtStart (v .lines)) r a b) where
+  module _ (v : SheetValue) {r : Bool} {b : List ℕ} (w : StartedRow headRows (flatMap owedAtStart (v .lines)) r a b) where
     leads : rowLeads b headRows ≡ replicate 16 0
     leads = listed-is 0 (rowLead b headRows) 16 (replicate 16 0) (length-replicate {A = ℕ} 16 0)
         (λ k h. w .stays .same headRows (leadsPart + k) (omega arith) (λ e x y. omega arith) ∙ z .blank (leadsPart + k) (omega arith) ∙ sym (blank-at {A = ℕ} 0 16 k))
@@ -91,17 +92,31 @@ module _ {a : List ℕ} (z : BlankRow a headRows) where
     stopped = listed-is false (rowStop b headRows) 8 (replicate 8 false) (length-replicate 8 false)
         (λ k h. ap flagOf (w .stays .same headRows (stoppedPart + k) (omega arith) (λ e x y. omega arith) ∙ z .blank (stoppedPart + k) (omega arith)) ∙ sym (blank-at false 8 k))
 
-    first : v .clocks ≤ 8 → (os : List Obligation) → addedAll (flatMap owedAtStart (v .lines)) [] ≡ some os → usedPart v (rowOf b headRows) ≡ owing os (remainder v [])
+    -- no countdown is begun
+    count-stays : rowCount b headRows 1 ≡ 0
+    count-stays = w .stays .same headRows partWords (omega arith) (λ e x y. omega arith) ∙ blank-count 1 (omega arith)
+
+    no-countdown : rowCountdowns b headRows ≡ []
+    unfolding listedFrom
+    no-countdown = rw count-stays
+
+    first : v .clocks ≤ 8 → (os : List Obligation) → addedAll (flatMap owedAtStart (v .lines)) [] ≡ some os → usedPart v (rowOf b headRows) ≡ owing (record { owed = os; countdowns = [] }) (remainder v [])
     unfolding remainder
     first h os e =
         same-remainder (provided-some r (w .owed ∙ ap (addedAll (flatMap owedAtStart (v .lines))) blank-owes ∙ e))
+        no-countdown
         (ap (nextLeads inUse (v .lines)) leads ∙ no-leads (v .lines) 16)
         (ap (take (v .clocks)) stopped ∙ none-stopped v h)
+
+    by-part : (part : ℕ) → part ≤ 1 → rowCount b headRows part ≤ 8
+    by-part zero h = w .few
+    by-part (suc zero) h = omega (arith, count-stays)
+    by-part (suc (suc part)) h = absurd (omega arith)
 
     pub begun-rows : BegunRows v a b
     unfolding listedFrom
     begun-rows = record {
       stays = w .stays;
-      small = (omega arith, λ k h. let e : k ≡ 0 = omega arith in rw e (w .few));
+      small = (omega arith, λ k h part l. let e : k ≡ 0 = omega arith in rw e (by-part part (omega arith)));
       first = λ h os e. ap (λ x. x ∷ []) (first h os e);
     }

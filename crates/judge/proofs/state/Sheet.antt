@@ -35,7 +35,7 @@ module _ (s : Sheet) (k : ℕ) {r : LineWords} where
       record {
         words = w .words ∙ rw (lt-ltb k (s .count) h);
         line = λ l. w .line;
-        kind = λ l. rw (le-leb 16 (r .kind) (w .least)) (le-leb (r .kind) 23 (w .most));
+        kind = λ l. rw (le-leb 16 (r .kind) (w .least)) (le-leb (r .kind) 24 (w .most));
       }
 
   pub none-words : s .count ≤ k → r ≡ noWords → SlotWords s k r

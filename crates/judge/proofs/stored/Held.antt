@@ -22,25 +22,26 @@ use Rattle.judge.specs.declared.plan.Plan.{Plan}
 use Rattle.judge.specs.declared.remainder.Remainder as arrays
 use Rattle.judge.specs.declared.held.Status.{Status}
 use Rattle.judge.specs.declared.held.Status.the-variants.{Exhausted, Live}
-use Rattle.judge.specs.View.{remainderOf, blankObligation, blankRemainder, viewOf, sizedIn}
+use Rattle.judge.specs.View.{remainderOf, blankObligation, blankRemainder, viewOf, fewOwed, sizedIn}
 use Rattle.judge.specs.Unused.{NothingUnused}
 use Rattle.judge.specs.Plan.{Planned}
-use Rattle.judge.specs.Rows.{words, rowCount, rowOf, rowsOf, FewOwed, HeadStays}
+use Rattle.judge.specs.Rows.{words, rowOf, rowsOf, FewInRow, FewOwed, HeadStays}
 use Rattle.judge.specs.Apply.{FewOwedIn}
 use Rattle.judge.specs.Stored.{PutRemainder, ToRows, StoredHeld, CopiedRows, FromRows}
 use Rattle.judge.proofs.Places.{as-is, all-at}
 use Rattle.judge.proofs.rows.Placing.{blank-at, each-place, first-listed}
+use Rattle.judge.proofs.rows.Laws.{few-words}
 use Rattle.judge.proofs.apply.Laws.{row-stays}
 
 -- what past the end of an array of remainders reads
 abbrev pub pastEnd : arrays.Remainder
-pastEnd = record { owed = 0; obligations = []; leads = []; stopped = [] }
+pastEnd = record { owed = 0; obligations = []; counting = 0; countdowns = []; leads = []; stopped = [] }
 
 -- ---- stored
 
 -- row k of the first side reads as remainder k does
 pub record Reads (rs : List arrays.Remainder) (rows : List ℕ) (k : ℕ) : Type 0 where
-  pub few : rowCount rows (6 + k) ≤ 8
+  pub few : FewInRow rows (6 + k)
   pub row : rowOf rows (6 + k) ≡ remainderOf (getD rs k pastEnd)
 
 -- the first k are stored
@@ -54,15 +55,15 @@ module _ (rs : List arrays.Remainder) {was : List ℕ} where
   rows-start h = record { size = h; head = λ g p l m. refl; places = λ j l. absurd (omega arith) }
 
   module _ {rows : List ℕ} {k : ℕ} (w : PuttingRows rs was rows k) where
-    pub rows-more : {after : List ℕ} → PutRemainder (6 + k) (getD rs k pastEnd) rows after → getD rs k pastEnd .owed ≤ 8 → PuttingRows rs was after (k + 1)
-    rows-more {after} p few =
+    pub rows-more : {after : List ℕ} → PutRemainder (6 + k) (getD rs k pastEnd) rows after → PuttingRows rs was after (k + 1)
+    rows-more {after} p =
         record {
           size = p .stays .size ∙ w .size;
           head = λ g q l m. p .stays .same g q m (λ e x y. omega arith) ∙ w .head g q l m;
           places = λ j l. ⊎-elim
-              (λ (e : j ≡ k). rw e (record { few = rw (p .count) few; row = p .row }))
+              (λ (e : j ≡ k). rw e (record { few = p .few; row = p .row }))
               (λ (g : j < k). let q = w .places j g in
-              record { few = rw (p .stays .same (6 + j) 0 (omega arith) (λ e x y. omega arith)) (q .few); row = row-stays (p .stays) (6 + j) (q .few) (λ e. omega arith) ∙ q .row })
+              record { few = few-words rows after (6 + j) (λ x m. p .stays .same (6 + j) x (omega arith) (λ e u y. omega arith)) (q .few); row = row-stays (p .stays) (6 + j) (q .few) (λ e. omega arith) ∙ q .row })
               (eq-or-lt-of-le (omega arith));
         }
 
@@ -75,15 +76,14 @@ module _ (rs : List arrays.Remainder) {was : List ℕ} where
           rows = λ v. sym (first-listed (viewOf v) (λ j. usedPart v (rowOf rows (6 + j))) pastEnd rs n h (λ j l. ap (usedPart v) (sym (w .places j (omega arith) .row))));
         }
 
--- remainder k owes at most eight
-pub owes-few : (rs : List arrays.Remainder) (n k : ℕ) → k < n → n ≤ length rs → T (all (λ (r : arrays.Remainder). leb (r .owed) 8) (take n rs)) → getD rs k pastEnd .owed ≤ 8
-owes-few rs n k h l t =
-    leb→le _ 8 (all-at (λ (r : arrays.Remainder). r) rs n k pastEnd h l (λ (r : arrays.Remainder). leb (r .owed) 8) (rw as-is t))
+-- remainder k has at most eight in each set
+pub owes-few : (rs : List arrays.Remainder) (n k : ℕ) → k < n → n ≤ length rs → T (all fewOwed (take n rs)) → T (fewOwed (getD rs k pastEnd))
+owes-few rs n k h l t = all-at (λ (r : arrays.Remainder). r) rs n k pastEnd h l fewOwed (rw as-is t)
 
-pub room-for : {count : Status} {n : ℕ} (rs : List arrays.Remainder) → count ≡ Live n → T (sizedIn count rs) → (n ≤ 32) × T (all (λ (r : arrays.Remainder). leb (r .owed) 8) (take n rs))
+pub room-for : {count : Status} {n : ℕ} (rs : List arrays.Remainder) → count ≡ Live n → T (sizedIn count rs) → (n ≤ 32) × T (all fewOwed (take n rs))
 room-for {n = n} rs e t =
     let s : T (sizedIn (Live n) rs) = rw e at t in
-    let few = all (λ (r : arrays.Remainder). leb (r .owed) 8) (take n rs) in
+    let few = all fewOwed (take n rs) in
     (leb→le n 32 (and-l (leb n 32) few s), and-r (leb n 32) few s)
 
 module _ {count : Status} (rs : List arrays.Remainder) {a : List ℕ} where
@@ -99,6 +99,7 @@ pub blank-unused : (v : SheetValue) → NothingUnused v blankRemainder
 blank-unused v =
     record {
       obligations = λ j h. blank-at blankObligation 8 j;
+      countdowns = λ j h. blank-at blankObligation 8 j;
       leads = λ k. rw (blank-at {A = ℕ} 0 16 k) (sym (used-by (getD (v .lines) k blankLine) 0 ∙ same (isPrecedes (getD (v .lines) k blankLine))));
       stopped = λ k h. blank-at false 8 k;
     }
@@ -108,10 +109,10 @@ blank-unused v =
     same false = refl
 
 module _ {p : Plan} {from n : ℕ} (rs : List arrays.Remainder) {rows : List ℕ} (w : CopiedRows p from n rs rows) where
-  copied-few : n ≤ 32 → T (all (λ (r : arrays.Remainder). leb (r .owed) 8) (take n rs))
+  copied-few : n ≤ 32 → T (all fewOwed (take n rs))
   copied-few h =
       rw (sym (as-is (take n rs)), first-listed (λ (r : arrays.Remainder). r) (λ k. getD rs k blankRemainder) blankRemainder rs n (omega (arith, w .size)) (λ k l. refl))
-      (all-of (λ k. getD rs k blankRemainder) (λ (r : arrays.Remainder). leb (r .owed) 8) n (λ k l. le→leb _ 8 (w .first k l .few)))
+      (all-of (λ k. getD rs k blankRemainder) fewOwed n (λ k l. w .first k l .few))
 
   module _ {v : SheetValue} {lines : List ℕ} (planned : Planned v p lines) where
     copied-view : n ≤ 32 → T (all smallLeads (rowsOf v rows from n)) → map (viewOf v) (take n rs) ≡ rowsOf v rows from n

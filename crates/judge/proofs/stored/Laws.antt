@@ -1,13 +1,14 @@
 -- A remainder stored and read back part by part: what it owes, its leads, its stopped clocks. Assumes nothing.
 use mathlib.Core.Bool.{Bool, true, false, cond, _&&_}
-use mathlib.Core.List.{List, []}
+use mathlib.Core.List.{List, [], map}
 use mathlib.Core.Path.{_≡_, refl, sym, ap, _∙_}
-use Prim.Native.Nat.{ℕ, _<_, _≤_}
+use Prim.Native.Nat.{ℕ, zero, suc, _<_, _≤_}
 use native.Mathlib.Omega.{arith}
-use lib.Dec.{T, ltb}
+use lib.Dec.{T, leb, ltb, leb→le, le→leb}
 use lib.ListN.{length, getD, take}
 use lib.Seq.{ext-getD, getD-take, length-take-le}
 use borrow.Author.Tests.{ltb-true, ltb-false}
+use Rattle.tesl.proofs.Tests.{and-l, and-r, and-i}
 use Rattle.records.specs.Lists.{listed}
 use Rattle.records.specs.Sheet.{SheetValue}
 use Rattle.records.proofs.Lists.{both, length-listed}
@@ -20,36 +21,55 @@ use Rattle.work.proofs.Listing.{listed-at, listed-same}
 use Rattle.work.proofs.Carried.{sheetLine, next-places, used-by, small-lead}
 use Rattle.judge.specs.declared.plan.Plan.{Plan}
 use Rattle.judge.specs.declared.remainder.Remainder as arrays
-use Rattle.judge.specs.View.{owedOf, viewOf}
+use Rattle.judge.specs.View.{obligationOf, countdownOf, owedOf, countdownsOf, viewOf, fewOwed}
 use Rattle.judge.specs.Unused.{NothingUnused}
 use Rattle.judge.specs.Plan.{Planned}
-use Rattle.judge.specs.Rows.{partsEnd, rowCount, rowObligation, rowOwed, rowLead, rowLeads, rowStop, rowStopped, rowOf, ObligationsAt}
+use Rattle.judge.specs.Rows.{leadsPart, partsEnd, word, rowCount, rowObligation, rowOwed, rowCountdowns, FewInRow, rowLead, rowLeads, rowStop, rowStopped, rowOf, ObligationsAt}
 use Rattle.judge.specs.Stored.{PutObligations, PutLeads, PutStopped, PutRemainder, LeadsAt, StoppedAt, RemainderAt}
-use Rattle.judge.proofs.rows.Laws.{stays-wide, stays-on, owed-stays}
+use Rattle.judge.proofs.rows.Laws.{stays-wide, stays-on, set-words, few-words}
 use Rattle.judge.proofs.advance.Row.{same-remainder}
+use Rattle.judge.proofs.advance.Built.{other-count, other-set}
 
-module _ {i : ℕ} (r : arrays.Remainder) (few : r .owed ≤ 8) {a b c d : List ℕ}
-    (owed : PutObligations i (r .owed) (owedOf r) a b) (led : PutLeads i (r .leads) b c) (stopped : PutStopped i (r .stopped) c d) where
-  count-led : rowCount c i ≡ r .owed
-  count-led = led .stays .same i 0 (omega arith) (λ e x y. omega arith) ∙ owed .count
+-- ---- stored
 
-  count-there : rowCount d i ≡ r .owed
-  count-there = stopped .stays .same i 0 (omega arith) (λ e x y. omega arith) ∙ count-led
+pub few-owed : (r : arrays.Remainder) → T (fewOwed r) → r .owed ≤ 8
+few-owed r t = leb→le (r .owed) 8 (and-l (leb (r .owed) 8) (leb (r .counting) 8) t)
 
-  owed-there : rowOwed d i ≡ owedOf r
-  owed-there =
-      owed-stays (stopped .stays) i (rw count-led few) (λ p x e y z. omega arith)
-      ∙ owed-stays (led .stays) i (rw (owed .count) few) (λ p x e y z. omega arith) ∙ owed .owed
+pub few-counting : (r : arrays.Remainder) → T (fewOwed r) → r .counting ≤ 8
+few-counting r t = leb→le (r .counting) 8 (and-r (leb (r .owed) 8) (leb (r .counting) 8) t)
 
-  leads-there : rowLeads d i ≡ r .leads
+module _ {i : ℕ} (r : arrays.Remainder) (few : T (fewOwed r)) {a b c d e : List ℕ} (owed : PutObligations i 0 (r .owed) (take (r .owed) (r .obligations)) a b)
+    (counting : PutObligations i 1 (r .counting) (take (r .counting) (r .countdowns)) b c) (led : PutLeads i (r .leads) c d) (stopped : PutStopped i (r .stopped) d e) where
+  same : (p : ℕ) → p < leadsPart → word e i p ≡ word c i p
+  same p h = stopped .stays .same i p (omega arith) (λ e x y. omega arith) ∙ led .stays .same i p (omega arith) (λ e x y. omega arith)
+
+  -- the obligations stay where the countdowns are stored
+  count-kept : rowCount c i 0 ≡ r .owed
+  count-kept = other-count 1 (counting .stays) (omega arith) 0 (omega arith) (λ e. omega arith) ∙ owed .count
+
+  few-stored : FewInRow c i
+  few-stored zero h = rw count-kept (few-owed r few)
+  few-stored (suc zero) h = rw (counting .count) (few-counting r few)
+  few-stored (suc (suc part)) h = absurd (omega arith)
+
+  few-there : FewInRow e i
+  few-there = few-words c e i same few-stored
+
+  owed-there : rowOwed e i ≡ owedOf r
+  owed-there = ap (map obligationOf) (set-words c e i same 0 (omega arith) (few-stored 0 (omega arith)) ∙ other-set 1 (counting .stays) (omega arith) 0 (omega arith) (λ e. omega arith) (rw (owed .count) (few-owed r few)) ∙ owed .set)
+
+  countdowns-there : rowCountdowns e i ≡ countdownsOf r
+  countdowns-there = ap (map countdownOf) (set-words c e i same 1 (omega arith) (few-stored 1 (omega arith)) ∙ counting .set)
+
+  leads-there : rowLeads e i ≡ r .leads
   leads-there = listed-same 16 (λ k l. stopped .stays .same i _ (omega arith) (λ e x y. omega arith)) ∙ led .leads
 
-  pub remainder-put : PutRemainder i r a d
+  pub remainder-put : PutRemainder i r a e
   remainder-put =
       record {
-        stays = stays-on (stays-wide (owed .stays) 0 partsEnd (omega arith) (omega arith)) (stays-on (stays-wide (led .stays) 0 partsEnd (omega arith) (omega arith)) (stays-wide (stopped .stays) 0 partsEnd (omega arith) (omega arith)));
-        count = count-there;
-        row = same-remainder owed-there leads-there (stopped .stopped);
+        stays = stays-on (stays-wide (owed .stays) 0 partsEnd (omega arith) (omega arith)) (stays-on (stays-wide (counting .stays) 0 partsEnd (omega arith) (omega arith)) (stays-on (stays-wide (led .stays) 0 partsEnd (omega arith) (omega arith)) (stays-wide (stopped .stays) 0 partsEnd (omega arith) (omega arith))));
+        few = few-there;
+        row = same-remainder owed-there countdowns-there leads-there (stopped .stopped);
       }
 
 -- ---- read back
@@ -61,8 +81,12 @@ take-same d n xs ys h l p =
     ext-getD d (take n xs) (take n ys) (m ∙ sym (length-take-le n ys l))
     (λ k b. let c : k < n = omega (arith, m) in getD-take n xs k d c ∙ p k c ∙ sym (getD-take n ys k d c))
 
-module _ {p : Plan} {i : ℕ} (r : arrays.Remainder) {rows : List ℕ} (count : r .owed ≡ rowCount rows i) (few : rowCount rows i ≤ 8)
-    (owed : ObligationsAt i (r .owed) (r .obligations) rows) (led : LeadsAt (p .leaders) (p .precede) i (r .leads) rows) (stopped : StoppedAt (p .clocks) i (r .stopped) rows) where
+few-read : (rows : List ℕ) (i : ℕ) → FewInRow rows i → (r : arrays.Remainder) → r .owed ≡ rowCount rows i 0 → r .counting ≡ rowCount rows i 1 → T (fewOwed r)
+few-read rows i few r e f =
+    and-i (leb (r .owed) 8) (leb (r .counting) 8) (le→leb (r .owed) 8 (omega (arith, few 0 (omega arith)))) (le→leb (r .counting) 8 (omega (arith, few 1 (omega arith))))
+
+module _ {p : Plan} {i : ℕ} (r : arrays.Remainder) {rows : List ℕ} (few : FewInRow rows i) (count : r .owed ≡ rowCount rows i 0) (owed : ObligationsAt i 0 (r .owed) (r .obligations) rows)
+    (number : r .counting ≡ rowCount rows i 1) (counting : ObligationsAt i 1 (r .counting) (r .countdowns) rows) (led : LeadsAt (p .leaders) (p .precede) i (r .leads) rows) (stopped : StoppedAt (p .clocks) i (r .stopped) rows) where
   -- of a sheet that the plan is of
   module _ {v : SheetValue} {lines : List ℕ} (planned : Planned v p lines) where
     abbrev precedes : ℕ → Bool
@@ -86,7 +110,7 @@ module _ {p : Plan} {i : ℕ} (r : arrays.Remainder) {rows : List ℕ} (count : 
         by-test false e = no-lead k e
 
     pub nothing-unused : NothingUnused v r
-    nothing-unused = record { obligations = owed .rest; leads = unused-lead; stopped = λ k h. stopped .rest k (omega (arith, planned .as-many)) }
+    nothing-unused = record { obligations = owed .rest; countdowns = counting .rest; leads = unused-lead; stopped = λ k h. stopped .rest k (omega (arith, planned .as-many)) }
 
     module _ (small : T (smallLeads (usedPart v (rowOf rows i)))) where
       lead-same : (k : ℕ) → inUse (sheetLine v k) (getD (r .leads) k 0) ≡ inUse (sheetLine v k) (getD (rowLeads rows i) k 0)
@@ -112,7 +136,10 @@ module _ {p : Plan} {i : ℕ} (r : arrays.Remainder) {rows : List ℕ} (count : 
           (λ k h. stopped .first k (omega arith) ∙ sym (listed-at (rowStop rows i) false 8 k (omega arith)))
 
       pub read-view : viewOf v r ≡ usedPart v (rowOf rows i)
-      read-view = same-remainder (owed .first ∙ ap (listed (rowObligation rows i)) count) leads-read stopped-read
+      read-view = same-remainder
+          (ap (map obligationOf) (owed .first ∙ ap (listed (rowObligation rows i 0)) count))
+          (ap (map countdownOf) (counting .first ∙ ap (listed (rowObligation rows i 1)) number))
+          leads-read stopped-read
 
   pub remainder-read : RemainderAt p i r rows
-  remainder-read = record { few = rw count few; view = λ v lines planned. read-view planned; unused = λ v lines planned. nothing-unused planned }
+  remainder-read = record { few = few-read rows i few r count number; view = λ v lines planned. read-view planned; unused = λ v lines planned. nothing-unused planned }

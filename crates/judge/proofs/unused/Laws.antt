@@ -1,6 +1,6 @@
 -- Words of a row cleared part by part: what is used is read as before, and the rest is zero. Assumes nothing.
 use mathlib.Core.Bool.{Bool, true, false, cond, _&&_}
-use mathlib.Core.List.{List}
+use mathlib.Core.List.{List, map}
 use mathlib.Core.Logic.{⊎-elim}
 use mathlib.Core.Path.{_≡_, refl, sym, ap, _∙_}
 use Prim.Native.Nat.{ℕ, _+_, _*_, _≤_, _<_}
@@ -20,11 +20,12 @@ use Rattle.work.proofs.Listing.{listed-at, listed-same}
 use Rattle.work.proofs.Carried.{sheetLine, next-places, used-by}
 use Rattle.judge.specs.declared.plan.Plan.{Plan}
 use Rattle.judge.specs.Word.{flagOf}
+use Rattle.judge.specs.View.{obligationOf, countdownOf}
 use Rattle.judge.specs.Plan.{PlanFits, Planned}
-use Rattle.judge.specs.Rows.{width, word, rowCount, rowObligation, rowOwed, rowLead, rowLeads, rowStop, rowStopped, Stays, ClearedWords}
+use Rattle.judge.specs.Rows.{parts, partWords, leadsPart, stoppedPart, width, word, rowCount, rowObligation, rowSet, rowOwed, rowCountdowns, rowLead, rowLeads, rowStop, rowStopped, FewInRow, CountsSame, Stays, ClearedWords}
 use Rattle.judge.specs.UnusedWords.{leadUsed}
-use Rattle.judge.specs.Cleared.{ClearedPart, ClearedRows, ClearedOwed, ClearedLeads, ClearedUnused}
-use Rattle.judge.proofs.rows.Laws.{stored-zero, stored-other, stays-all, stays-put, stays-wide, stays-on, obligation-same}
+use Rattle.judge.specs.Cleared.{ClearedPart, ClearedRows, ClearedOwed, ClearedSets, ClearedLeads, ClearedUnused}
+use Rattle.judge.proofs.rows.Laws.{stored-zero, stored-other, stays-all, stays-put, stays-wide, stays-on, obligation-same, place-same, set-same, part-stays, few-counts, set-words, nothing-words}
 use Rattle.judge.proofs.stored.Laws.{take-same}
 use Rattle.judge.proofs.advance.Row.{same-remainder}
 
@@ -43,34 +44,100 @@ rows-cleared first n c =
       zero = λ h q x y m. c .zero (width * h + q) (omega arith) (omega arith);
     }
 
--- ---- obligations
-module _ {i n : ℕ} {a b c d : List ℕ} (few : n ≤ 8) (x : ClearedPart i (1 + n) 9 a b) (y : ClearedPart i (9 + n) 17 b c) (z : ClearedPart i (17 + n) 25 c d) where
-  word-as-before : (q : ℕ) → q < width → (1 + n ≤ q → q < 9 → ⊥) → (9 + n ≤ q → q < 17 → ⊥) → (17 + n ≤ q → q < 25 → ⊥) → word d i q ≡ word a i q
-  word-as-before q l e f g = z .stays .same i q l (λ r. g) ∙ y .stays .same i q l (λ r. f) ∙ x .stays .same i q l (λ r. e)
+-- ---- a part
+module _ {i part n : ℕ} {a b c : List ℕ} (inside : part < parts) (few : n ≤ 8) (x : ClearedPart i (partWords * part + 1 + n) (partWords * part + 9) a b) (y : ClearedPart i (partWords * part + 9 + n) (partWords * part + partWords) b c) where
+  word-as-before : (q : ℕ) → q < width → (partWords * part + 1 + n ≤ q → q < partWords * part + 9 → ⊥) → (partWords * part + 9 + n ≤ q → q < partWords * part + partWords → ⊥) → word c i q ≡ word a i q
+  word-as-before q l e f = y .stays .same i q l (λ r. f) ∙ x .stays .same i q l (λ r. e)
 
-  pub owed-cleared : ClearedOwed i n a d
+  pub owed-cleared : ClearedOwed i part n a c
   owed-cleared =
       record {
-        stays = stays-on (stays-wide (x .stays) 1 25 (omega arith) (omega arith)) (stays-on (stays-wide (y .stays) 1 25 (omega arith) (omega arith)) (stays-wide (z .stays) 1 25 (omega arith) (omega arith)));
-        owed = λ j l. obligation-same a d i j
-            (word-as-before (1 + j) (omega arith) (λ u w. omega arith) (λ u w. omega arith) (λ u w. omega arith))
-            (word-as-before (9 + j) (omega arith) (λ u w. omega arith) (λ u w. omega arith) (λ u w. omega arith))
-            (word-as-before (17 + j) (omega arith) (λ u w. omega arith) (λ u w. omega arith) (λ u w. omega arith));
-        clocks = λ j l m. z .stays .same i (1 + j) (omega arith) (λ r u w. omega arith) ∙ y .stays .same i (1 + j) (omega arith) (λ r u w. omega arith) ∙ x .zero (1 + j) (omega arith) (omega arith);
-        on-clocks = λ j l m. z .stays .same i (9 + j) (omega arith) (λ r u w. omega arith) ∙ y .zero (9 + j) (omega arith) (omega arith);
-        dues = λ j l m. z .zero (17 + j) (omega arith) (omega arith);
+        stays = stays-on (stays-wide (x .stays) (partWords * part + 1) (partWords * part + partWords) (omega arith) (omega arith)) (stays-wide (y .stays) (partWords * part + 1) (partWords * part + partWords) (omega arith) (omega arith));
+        places = λ j l. obligation-same a c i part j
+            (word-as-before (partWords * part + 1 + j) (omega arith) (λ u w. omega arith) (λ u w. omega arith))
+            (word-as-before (partWords * part + 9 + j) (omega arith) (λ u w. omega arith) (λ u w. omega arith));
+        clocks = λ j l m. y .stays .same i (partWords * part + 1 + j) (omega arith) (λ r u w. omega arith) ∙ x .zero (partWords * part + 1 + j) (omega arith) (omega arith);
+        numbers = λ j l m. y .zero (partWords * part + 9 + j) (omega arith) (omega arith);
       }
+
+-- ---- the sets: the first `part` are cleared
+pub record Sets (i : ℕ) (was rows : List ℕ) (part : ℕ) : Type 0 where
+  pub turns : part ≤ parts
+  pub stays : Stays i 0 (partWords * part) was rows
+  pub count : CountsSame i was rows
+  pub set : (p : ℕ) → p < part → rowSet rows i p ≡ rowSet was i p
+  pub clocks : (p j : ℕ) → p < part → rowCount rows i p ≤ j → j < 8 → word rows i (partWords * p + 1 + j) ≡ 0
+  pub numbers : (p j : ℕ) → p < part → rowCount rows i p ≤ j → j < 8 → word rows i (partWords * p + 9 + j) ≡ 0
+
+module _ {i : ℕ} {was : List ℕ} where
+  pub sets-start : Sets i was was 0
+  sets-start = record {
+    turns = omega arith;
+    stays = stays-all i 0 0 was;
+    count = λ p l. refl;
+    set = λ p l. absurd (omega arith);
+    clocks = λ p j l. absurd (omega arith);
+    numbers = λ p j l. absurd (omega arith);
+  }
+
+  module _ {rows : List ℕ} {part : ℕ} (w : Sets i was rows part) where
+    pub sets-few : FewInRow was i → FewInRow rows i
+    sets-few few = few-counts was rows i (w .count) few
+
+    -- the next part
+    module _ (few : FewInRow was i) (h : part < parts) {n : ℕ} (e : n ≡ rowCount rows i part) {after : List ℕ} (o : ClearedOwed i part n rows after) where
+      -- the parts before it stay
+      before : (p q : ℕ) → p < part → partWords * p ≤ q → q < partWords * p + partWords → word after i q ≡ word rows i q
+      before p q l x y = o .stays .same i q (omega arith) (λ r u v. omega arith)
+
+      counts : CountsSame i rows after
+      counts p l = o .stays .same i (partWords * p) (omega arith) (λ r u v. omega arith)
+
+      here : rowSet after i part ≡ rowSet was i part
+      here =
+          let c = w .count part h in
+          let f = few part h in
+          ap (listed (rowObligation after i part)) (counts part h ∙ c)
+          ∙ listed-same (rowCount was i part) (λ j l. o .places j (omega arith) ∙ place-same (part-stays (w .stays) i part h (λ q x y r u v. omega arith)) j (omega arith))
+
+      pub sets-more : Sets i was after (part + 1)
+      sets-more = record {
+        turns = omega arith;
+        stays = stays-on (stays-wide (w .stays) 0 (partWords * (part + 1)) (omega arith) (omega arith)) (stays-wide (o .stays) 0 (partWords * (part + 1)) (omega arith) (omega arith));
+        count = λ p l. counts p l ∙ w .count p l;
+        set = λ p l. ⊎-elim
+            (λ (q : p ≡ part). rw q here)
+            (λ (q : p < part). set-same {h = i} {part = p} {a = rows} {b = after} (record { same = λ x u v. before p x q u v }) (sets-few few p (omega arith)) ∙ w .set p q)
+            (eq-or-lt-of-le (omega arith));
+        clocks = λ p j l m k. let c = counts p (omega arith) in ⊎-elim
+            (λ (q : p ≡ part). rw q (o .clocks j (omega (arith, counts part h, ap (rowCount after i) q)) k))
+            (λ (q : p < part). before p (partWords * p + 1 + j) q (omega arith) (omega arith) ∙ w .clocks p j q (omega arith) k)
+            (eq-or-lt-of-le (omega arith));
+        numbers = λ p j l m k. let c = counts p (omega arith) in ⊎-elim
+            (λ (q : p ≡ part). rw q (o .numbers j (omega (arith, counts part h, ap (rowCount after i) q)) k))
+            (λ (q : p < part). before p (partWords * p + 9 + j) q (omega arith) (omega arith) ∙ w .numbers p j q (omega arith) k)
+            (eq-or-lt-of-le (omega arith));
+      }
+
+    -- all of them
+    pub sets-cleared : parts ≤ part → ClearedSets i was rows
+    sets-cleared h = record {
+      stays = stays-wide (w .stays) 0 leadsPart (omega (arith, w .turns)) (omega (arith, w .turns));
+      count = w .count;
+      set = λ p l. w .set p (omega arith);
+      nothing = record { clocks = λ p j l m k. w .clocks p j (omega arith) m k; numbers = λ p j l m k. w .numbers p j (omega arith) m k };
+    }
 
 -- ---- leads: of the first k those without a flag are zero
 pub record Leads (leaders : ℕ) (precede : List Bool) (i : ℕ) (was rows : List ℕ) (k : ℕ) : Type 0 where
   pub turns : k ≤ leaders
-  pub stays : Stays i 25 41 was rows
+  pub stays : Stays i leadsPart stoppedPart was rows
   pub used : (j : ℕ) → j < leaders → getD precede j false ≡ true → rowLead rows i j ≡ rowLead was i j
   pub unused : (j : ℕ) → j < k → getD precede j false ≡ false → rowLead rows i j ≡ 0
 
 module _ {leaders : ℕ} (precede : List Bool) {i : ℕ} {was : List ℕ} (few : leaders ≤ 16) where
   pub leads-start : Leads leaders precede i was was 0
-  leads-start = record { turns = omega arith; stays = stays-all i 25 41 was; used = λ j l e. refl; unused = λ j l e. absurd (omega arith) }
+  leads-start = record { turns = omega arith; stays = stays-all i leadsPart stoppedPart was; used = λ j l e. refl; unused = λ j l e. absurd (omega arith) }
 
   module _ {rows : List ℕ} {k : ℕ} (w : Leads leaders precede i was rows k) where
     apart : {j : ℕ} → getD precede k false ≡ false → getD precede j false ≡ true → j ≡ k → ⊥
@@ -88,55 +155,53 @@ module _ {leaders : ℕ} (precede : List Bool) {i : ℕ} {was : List ℕ} (few :
               (eq-or-lt-of-le (omega arith));
         }
 
-    pub leads-more : k < leaders → getD precede k false ≡ false → Leads leaders precede i was (set rows (width * i + (25 + k)) 0) (k + 1)
+    pub leads-more : k < leaders → getD precede k false ≡ false → Leads leaders precede i was (set rows (width * i + (leadsPart + k)) 0) (k + 1)
     leads-more h e =
         record {
           turns = omega arith;
-          stays = stays-put (w .stays) (25 + k) 0 (omega arith) (omega arith) (omega arith);
-          used = λ j l f. stored-other rows i (25 + k) 0 i (25 + j) (omega arith) (omega arith) (λ r x. apart e f (omega arith)) ∙ w .used j l f;
+          stays = stays-put (w .stays) (leadsPart + k) 0 (omega arith) (omega arith) (omega arith);
+          used = λ j l f. stored-other rows i (leadsPart + k) 0 i (leadsPart + j) (omega arith) (omega arith) (λ r x. apart e f (omega arith)) ∙ w .used j l f;
           unused = λ j l f. ⊎-elim
-              (λ (g : j ≡ k). rw g (stored-zero rows (width * i + (25 + k))))
-              (λ (g : j < k). stored-other rows i (25 + k) 0 i (25 + j) (omega arith) (omega arith) (λ r x. omega arith) ∙ w .unused j g f)
+              (λ (g : j ≡ k). rw g (stored-zero rows (width * i + (leadsPart + k))))
+              (λ (g : j < k). stored-other rows i (leadsPart + k) 0 i (leadsPart + j) (omega arith) (omega arith) (λ r x. omega arith) ∙ w .unused j g f)
               (eq-or-lt-of-le (omega arith));
         }
 
-    pub leads-cleared : {out : List ℕ} → leaders ≤ k → ClearedPart i (25 + leaders) 41 rows out → ClearedLeads leaders precede i was out
+    pub leads-cleared : {out : List ℕ} → leaders ≤ k → ClearedPart i (leadsPart + leaders) stoppedPart rows out → ClearedLeads leaders precede i was out
     leads-cleared {out} h c =
         record {
-          stays = stays-on (w .stays) (stays-wide (c .stays) 25 41 (omega arith) (omega arith));
+          stays = stays-on (w .stays) (stays-wide (c .stays) leadsPart stoppedPart (omega arith) (omega arith));
           used = λ j e. let b = both (ltb j leaders) e in let m = ltb-true j leaders (b .0) in within j m ∙ w .used j m (b .1);
           unused = λ j l e. by-test j l (ltb j leaders) refl e;
         }
       where
         within : (j : ℕ) → j < leaders → rowLead out i j ≡ rowLead rows i j
-        within j m = c .stays .same i (25 + j) (omega arith) (λ r x y. omega arith)
+        within j m = c .stays .same i (leadsPart + j) (omega arith) (λ r x y. omega arith)
 
         by-test : (j : ℕ) → j < 16 → (b : Bool) → ltb j leaders ≡ b → (b && getD precede j false) ≡ false → rowLead out i j ≡ 0
         by-test j l true t e = let m = ltb-true j leaders t in within j m ∙ w .unused j (omega arith) e
-        by-test j l false t e = let m = ltb-false j leaders t in c .zero (25 + j) (omega arith) (omega arith)
+        by-test j l false t e = let m = ltb-false j leaders t in c .zero (leadsPart + j) (omega arith) (omega arith)
 
 -- ---- a row
-module _ {p : Plan} {i : ℕ} {a b c d : List ℕ} (few : rowCount a i ≤ 8) (fit : PlanFits p)
-    (o : ClearedOwed i (rowCount a i) a b) (l : ClearedLeads (p .leaders) (p .precede) i b c) (s : ClearedPart i (41 + p .clocks) width c d) where
-  same-count : rowCount d i ≡ rowCount a i
-  same-count = s .stays .same i 0 (omega arith) (λ e x y. omega arith) ∙ l .stays .same i 0 (omega arith) (λ e x y. omega arith) ∙ o .stays .same i 0 (omega arith) (λ e x y. omega arith)
-
+module _ {p : Plan} {i : ℕ} {a b c d : List ℕ} (few : FewInRow a i) (fit : PlanFits p)
+    (o : ClearedSets i a b) (l : ClearedLeads (p .leaders) (p .precede) i b c) (s : ClearedPart i (stoppedPart + p .clocks) width c d) where
   -- a word before the leads
-  same-word : (q : ℕ) → q < 25 → word d i q ≡ word b i q
+  same-word : (q : ℕ) → q < leadsPart → word d i q ≡ word b i q
   same-word q h = s .stays .same i q (omega arith) (λ e x y. omega arith) ∙ l .stays .same i q (omega arith) (λ e x y. omega arith)
 
   same-owed : rowOwed d i ≡ rowOwed a i
-  same-owed =
-      ap (listed (rowObligation d i)) same-count
-      ∙ listed-same (rowCount a i) (λ j h. obligation-same b d i j (same-word (1 + j) (omega arith)) (same-word (9 + j) (omega arith)) (same-word (17 + j) (omega arith)) ∙ o .owed j h)
+  same-owed = ap (map obligationOf) (set-words b d i same-word 0 (omega arith) (few-counts a b i (o .count) few 0 (omega arith)) ∙ o .set 0 (omega arith))
+
+  same-countdowns : rowCountdowns d i ≡ rowCountdowns a i
+  same-countdowns = ap (map countdownOf) (set-words b d i same-word 1 (omega arith) (few-counts a b i (o .count) few 1 (omega arith)) ∙ o .set 1 (omega arith))
 
   same-lead : (k : ℕ) → k < 16 → leadUsed (p .leaders) (p .precede) k ≡ true → rowLead d i k ≡ rowLead a i k
-  same-lead k h e = s .stays .same i (25 + k) (omega arith) (λ r x y. omega arith) ∙ l .used k e ∙ o .stays .same i (25 + k) (omega arith) (λ r x y. omega arith)
+  same-lead k h e = s .stays .same i (leadsPart + k) (omega arith) (λ r x y. omega arith) ∙ l .used k e ∙ o .stays .same i (leadsPart + k) (omega arith) (λ r x y. omega arith)
 
   same-stop : (k : ℕ) → k < p .clocks → rowStop d i k ≡ rowStop a i k
   same-stop k h =
       let f = fit .clocks in
-      ap flagOf (s .stays .same i (41 + k) (omega arith) (λ r x y. omega arith) ∙ l .stays .same i (41 + k) (omega arith) (λ r x y. omega arith) ∙ o .stays .same i (41 + k) (omega arith) (λ r x y. omega arith))
+      ap flagOf (s .stays .same i (stoppedPart + k) (omega arith) (λ r x y. omega arith) ∙ l .stays .same i (stoppedPart + k) (omega arith) (λ r x y. omega arith) ∙ o .stays .same i (stoppedPart + k) (omega arith) (λ r x y. omega arith))
 
   -- of a sheet that the plan is of
   module _ {v : SheetValue} {lines : List ℕ} (planned : Planned v p lines) where
@@ -163,17 +228,14 @@ module _ {p : Plan} {i : ℕ} {a b c d : List ℕ} (few : rowCount a i ≤ 8) (f
 
   pub unused-cleared : ClearedUnused p i a d
   unused-cleared =
-      let n = same-count in
       record {
-        stays = stays-on (stays-wide (o .stays) 1 width (omega arith) (omega arith)) (stays-on (stays-wide (l .stays) 1 width (omega arith) (omega arith)) (stays-wide (s .stays) 1 width (omega arith) (omega arith)));
+        stays = stays-on (stays-wide (o .stays) 0 width (omega arith) (omega arith)) (stays-on (stays-wide (l .stays) 0 width (omega arith) (omega arith)) (stays-wide (s .stays) 0 width (omega arith) (omega arith)));
         cleared = record {
-          count = same-count;
-          row = λ v lines planned. same-remainder same-owed (same-leads planned) (same-stopped planned);
+          count = λ part h. same-word (partWords * part) (omega arith) ∙ o .count part h;
+          row = λ v lines planned. same-remainder same-owed same-countdowns (same-leads planned) (same-stopped planned);
           nothing = record {
-            clocks = λ j h m. same-word (1 + j) (omega arith) ∙ o .clocks j (omega arith) m;
-            on-clocks = λ j h m. same-word (9 + j) (omega arith) ∙ o .on-clocks j (omega arith) m;
-            dues = λ j h m. same-word (17 + j) (omega arith) ∙ o .dues j (omega arith) m;
-            leads = λ k h e. s .stays .same i (25 + k) (omega arith) (λ r x y. omega arith) ∙ l .unused k h e;
+            sets = nothing-words b d i same-word (o .nothing);
+            leads = λ k h e. s .stays .same i (leadsPart + k) (omega arith) (λ r x y. omega arith) ∙ l .unused k h e;
             rest = s .zero;
           };
         };

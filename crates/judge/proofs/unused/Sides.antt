@@ -4,7 +4,7 @@ use mathlib.Core.List.{List}
 use mathlib.Core.Logic.{⊎-elim}
 use mathlib.Core.Option.{some}
 use mathlib.Core.Path.{_≡_, refl, ap, _∙_}
-use Prim.Native.Nat.{ℕ, _+_, _-_, _≤_, _<_}
+use Prim.Native.Nat.{ℕ, _+_, _*_, _-_, _≤_, _<_}
 use native.Mathlib.Nat.{eq-or-lt-of-le}
 use native.Mathlib.Omega.{arith}
 use lib.Dec.{ltb}
@@ -16,12 +16,12 @@ use Rattle.judge.specs.declared.plan.Plan.{Plan}
 use Rattle.judge.specs.declared.held.Status.{Status}
 use Rattle.judge.specs.declared.held.Status.the-variants.{Exhausted, Live}
 use Rattle.judge.specs.View.{liveCount}
-use Rattle.judge.specs.Rows.{width, height, word, rowCount, rowOf, FewOwed, RowsStay}
+use Rattle.judge.specs.Rows.{partWords, leadsPart, width, height, word, rowOf, FewInRow, FewOwed, CountsSame, RowsStay}
 use Rattle.judge.specs.Apply.{Side, foundIn, FewOwedIn, builtRows}
 use Rattle.judge.specs.Fill.{workedRows}
 use Rattle.judge.specs.UnusedWords.{NothingInRow, NothingBeside}
 use Rattle.judge.specs.Cleared.{ClearedRows, ClearedRow, ClearedUnused, ClearedEach, ClearedBeside, ClearedFound, Tidied}
-use Rattle.judge.proofs.rows.Laws.{rows-stay-all, rows-stay-one, rows-stay-among, rows-stay-wide, rows-stay-on}
+use Rattle.judge.proofs.rows.Laws.{few-counts, counts-words, few-words, nothing-words, rows-stay-all, rows-stay-one, rows-stay-among, rows-stay-wide, rows-stay-on}
 use Rattle.judge.proofs.apply.Laws.{row-same}
 
 -- row h is one of n rows from `first` on, or none of them
@@ -38,12 +38,9 @@ among-rows {X} h first n among apart = by-tests (ltb h first) refl (ltb h (first
 -- whose words are the same
 pub nothing-same : {p : Plan} (a b : List ℕ) (i : ℕ) → ((q : ℕ) → q < width → word b i q ≡ word a i q) → NothingInRow p a i → NothingInRow p b i
 nothing-same a b i same n =
-    let e = same 0 (omega arith) in
     record {
-      clocks = λ j l m. same (1 + j) (omega arith) ∙ n .clocks j (omega arith) m;
-      on-clocks = λ j l m. same (9 + j) (omega arith) ∙ n .on-clocks j (omega arith) m;
-      dues = λ j l m. same (17 + j) (omega arith) ∙ n .dues j (omega arith) m;
-      leads = λ k l f. same (25 + k) (omega arith) ∙ n .leads k l f;
+      sets = nothing-words a b i (λ q l. same q (omega arith)) (n .sets);
+      leads = λ k l f. same (leadsPart + k) (omega arith) ∙ n .leads k l f;
       rest = λ q l m. same q m ∙ n .rest q l m;
     }
 
@@ -51,24 +48,24 @@ nothing-same a b i same n =
 pub nothing-zero : (p : Plan) (rows : List ℕ) (i : ℕ) → ((q : ℕ) → q < width → word rows i q ≡ 0) → NothingInRow p rows i
 nothing-zero p rows i zero =
     record {
-      clocks = λ j l m. zero (1 + j) (omega arith);
-      on-clocks = λ j l m. zero (9 + j) (omega arith);
-      dues = λ j l m. zero (17 + j) (omega arith);
-      leads = λ k l f. zero (25 + k) (omega arith);
+      sets = record {
+        clocks = λ part j l m k. zero (partWords * part + 1 + j) (omega arith);
+        numbers = λ part j l m k. zero (partWords * part + 9 + j) (omega arith);
+      };
+      leads = λ k l f. zero (leadsPart + k) (omega arith);
       rest = λ q l m. zero q m;
     }
 
 -- cleared after, or before, other rows
 module _ {p : Plan} {i : ℕ} where
-  cleared-on : (a b : List ℕ) {c : List ℕ} → rowCount a i ≤ 8 → ((q : ℕ) → q < width → word b i q ≡ word a i q) → ClearedRow p i b c → ClearedRow p i a c
-  cleared-on a b few same w = record { count = w .count ∙ same 0 (omega arith); row = λ v lines planned. w .row v lines planned ∙ ap (usedPart v) (row-same a b i few same); nothing = w .nothing }
+  cleared-on : (a b : List ℕ) {c : List ℕ} → FewInRow a i → ((q : ℕ) → q < width → word b i q ≡ word a i q) → ClearedRow p i b c → ClearedRow p i a c
+  cleared-on a b few same w = record { count = λ part l. w .count part l ∙ counts-words a b i (λ q m. same q (omega arith)) part l; row = λ v lines planned. w .row v lines planned ∙ ap (usedPart v) (row-same a b i few same); nothing = w .nothing }
 
-  cleared-stays : (b c : List ℕ) {a : List ℕ} → rowCount a i ≤ 8 → ((q : ℕ) → q < width → word c i q ≡ word b i q) → ClearedRow p i a b → ClearedRow p i a c
-  cleared-stays b c few same w =
-      let e = w .count in
+  cleared-stays : (b c : List ℕ) {a : List ℕ} → FewInRow a i → ((q : ℕ) → q < width → word c i q ≡ word b i q) → ClearedRow p i a b → ClearedRow p i a c
+  cleared-stays b c {a} few same w =
       record {
-        count = same 0 (omega arith) ∙ w .count;
-        row = λ v lines planned. ap (usedPart v) (row-same b c i (omega arith) same) ∙ w .row v lines planned;
+        count = λ part l. counts-words b c i (λ q m. same q (omega arith)) part l ∙ w .count part l;
+        row = λ v lines planned. ap (usedPart v) (row-same b c i (few-counts a b i (w .count) few) same) ∙ w .row v lines planned;
         nothing = nothing-same b c i same (w .nothing);
       }
 
@@ -87,8 +84,8 @@ module _ {p : Plan} {from n : ℕ} {was : List ℕ} where
     next-word : (q : ℕ) → q < width → word rows (from + k) q ≡ word was (from + k) q
     next-word q l = w .stays .same (from + k) q l (λ x y. omega arith)
 
-    pub next-few : rowCount rows (from + k) ≤ 8
-    next-few = rw (next-word 0 (omega arith)) (small k h)
+    pub next-few : FewInRow rows (from + k)
+    next-few = few-words was rows (from + k) (λ q l. next-word q (omega arith)) (small k h)
 
     pub clearing-more : {after : List ℕ} → ClearedUnused p (from + k) rows after → Clearing p from n was after (k + 1)
     clearing-more {after} c =
@@ -116,9 +113,9 @@ module _ (a b : List ℕ) (to : ℕ) where
   found-by v Exhausted same = refl
   found-by v (Live n) same = ap some (listed-same n same)
 
-  small-by : (count : Status) → ((k : ℕ) → k < liveCount count → rowCount b (to + k) ≡ rowCount a (to + k)) → FewOwedIn count a to → FewOwedIn count b to
+  small-by : (count : Status) → ((k : ℕ) → k < liveCount count → CountsSame (to + k) a b) → FewOwedIn count a to → FewOwedIn count b to
   small-by Exhausted same s = tt
-  small-by (Live n) same s = (s .0, λ k l. rw (same k l) (s .1 k l))
+  small-by (Live n) same s = (s .0, λ k l. few-counts a b (to + k) (same k l) (s .1 k l))
 
 pub few-each : (count : Status) (rows : List ℕ) (to : ℕ) → FewOwedIn count rows to → FewOwed rows to (liveCount count)
 few-each Exhausted rows to s k l = absurd (omega arith)
@@ -130,7 +127,7 @@ few-live (Live n) rows to s = s .0
 
 module _ (a b : List ℕ) (to : ℕ) (count : Status) (same : SameRows a b to (liveCount count)) (s : FewOwedIn count a to) where
   pub small-same : FewOwedIn count b to
-  small-same = small-by a b to count (λ k l. same k 0 l (omega arith)) s
+  small-same = small-by a b to count (λ k l. counts-words a b (to + k) (λ q m. same k q l (omega arith))) s
 
   pub found-same : (v : SheetValue) → foundIn v count b to ≡ foundIn v count a to
   found-same v = found-by a b to v count (λ k l. ap (usedPart v) (row-same a b (to + k) (few-each count a to s k l) (λ q m. same k q l m)))
@@ -141,7 +138,7 @@ module _ (to n : ℕ) {a b : List ℕ} (c : ClearedRows (to + n) 1 a b) where
   first-same k q l m = c .stays .same (to + k) q m (λ x y. omega arith)
 
   pub small-first : FewOwed a to n → FewOwed b to n
-  small-first small k l = rw (first-same k 0 l (omega arith)) (small k l)
+  small-first small k l = few-words a b (to + k) (λ q m. first-same k q l (omega arith)) (small k l)
 
 module _ {p : Plan} {to : ℕ} {count : Status} {a b : List ℕ} where
   pub found-exhausted : count ≡ Exhausted → ClearedRows to 33 a b → ClearedFound p to count a b

@@ -8,7 +8,7 @@ use lib.ListN.{length}
 use lib.Dec.{leb}
 use borrow.Author.Tests.{leb-true}
 use Rattle.records.specs.declared.line.Line.{Line}
-use Rattle.records.specs.declared.line.Line.the-variants.{Sporadic, Relation, Implies, Excludes, Delayed, Weakly, Strictly, Kills}
+use Rattle.records.specs.declared.line.Line.the-variants.{Sporadic, Relation, Implies, Excludes, Delayed, Weakly, Strictly, Kills, Counted}
 use Rattle.records.specs.Lists.{listedFrom}
 use Rattle.records.specs.Word.{at, wordAt, tagOf}
 use Rattle.records.specs.Line.{isLine, lengthOf, lineOf, kindOf, bodyOf}
@@ -27,10 +27,11 @@ line-back (Delayed a b d by) h = rw (word-back by)
 line-back (Weakly a b) h = refl
 line-back (Strictly a b) h = refl
 line-back (Kills a b) h = refl
+line-back (Counted a b d n) h = refl
 
--- what holds of the eight kinds holds of each kind of a line
-module _ (P : ℕ → Type 0) (p16 : P 16) (p17 : P 17) (p18 : P 18) (p19 : P 19) (p20 : P 20) (p21 : P 21) (p22 : P 22) (p23 : P 23) where
-  from-16 : (n : ℕ) → n < 8 → P (16 + n)
+-- what holds of the nine kinds holds of each kind of a line
+module _ (P : ℕ → Type 0) (p16 : P 16) (p17 : P 17) (p18 : P 18) (p19 : P 19) (p20 : P 20) (p21 : P 21) (p22 : P 22) (p23 : P 23) (p24 : P 24) where
+  from-16 : (n : ℕ) → n < 9 → P (16 + n)
   from-16 zero h = p16
   from-16 (suc zero) h = p17
   from-16 (suc (suc zero)) h = p18
@@ -39,19 +40,20 @@ module _ (P : ℕ → Type 0) (p16 : P 16) (p17 : P 17) (p18 : P 18) (p19 : P 19
   from-16 (suc (suc (suc (suc (suc zero))))) h = p21
   from-16 (suc (suc (suc (suc (suc (suc zero)))))) h = p22
   from-16 (suc (suc (suc (suc (suc (suc (suc zero))))))) h = p23
-  from-16 (suc (suc (suc (suc (suc (suc (suc (suc n)))))))) h = absurd (omega arith)
+  from-16 (suc (suc (suc (suc (suc (suc (suc (suc zero)))))))) h = p24
+  from-16 (suc (suc (suc (suc (suc (suc (suc (suc (suc n))))))))) h = absurd (omega arith)
 
   pub by-kind : (kind : ℕ) → isLine kind ≡ true → P kind
   by-kind kind h =
       let r = both (leb 16 kind) h in
       let lo = leb-true 16 kind (r .0) in
-      let hi = leb-true kind 23 (r .1) in
+      let hi = leb-true kind 24 (r .1) in
       let e : 16 + (kind - 16) ≡ kind = omega arith in
       rw e at (from-16 (kind - 16) (omega arith))
 
 pub kind-back : (kind : ℕ) (body : List ℕ) → isLine kind ≡ true → kindOf (lineOf kind body) ≡ kind
 unfolding lineOf
-kind-back kind body = by-kind (λ (k : ℕ). kindOf (lineOf k body) ≡ k) refl refl refl refl refl refl refl refl kind
+kind-back kind body = by-kind (λ (k : ℕ). kindOf (lineOf k body) ≡ k) refl refl refl refl refl refl refl refl refl kind
 
 module _ (body : List ℕ) (h : IsBytes body) where
   pub body-back : (kind : ℕ) → isLine kind ≡ true → length body ≡ lengthOf kind → bodyOf (lineOf kind body) ≡ body
@@ -70,6 +72,7 @@ module _ (body : List ℕ) (h : IsBytes body) where
       (all-bytes body 2)
       (all-bytes body 2)
       (all-bytes body 2)
+      (all-bytes body 4)
 
   pub line-value : (kind : ℕ) → isLine kind ≡ true → IsLineValue (lineOf kind body)
   unfolding lineOf
@@ -85,3 +88,4 @@ module _ (body : List ℕ) (h : IsBytes body) where
       (b 0, b 1)
       (b 0, b 1)
       (b 0, b 1)
+      (b 0, b 1, b 2, b 3)

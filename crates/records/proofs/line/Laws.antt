@@ -1,5 +1,5 @@
 -- Laws of specs/Line.antt, one for each way through the code. Assumes nothing.
-use mathlib.Core.Path.{_≡_, sym, ap, _∙_}
+use mathlib.Core.Path.{_≡_, refl, sym, ap, _∙_}
 use mathlib.Core.Bool.{Bool, true, false, not, _&&_}
 use mathlib.Core.List.{List, _++_}
 use Prim.Native.Nat.{ℕ, _+_, _-_, _<_, _≤_}
@@ -9,6 +9,7 @@ use lib.Seq.{take-append-le, take-at}
 use lib.Dec.{leb}
 use borrow.Author.Tests.{lt-ltb, le-ltb, le-leb, lt-leb, eq-eqb, ne-eqb, not-true, not-false}
 use Rattle.records.specs.declared.line.Line.{Line}
+use Rattle.records.specs.declared.line.Line.the-variants.{Sporadic, Relation, Implies, Excludes, Delayed, Weakly, Strictly, Kills, Counted}
 use Rattle.records.specs.declared.line.Shape.{Shape}
 use Rattle.records.specs.declared.line.LineRead.{LineRead}
 use Rattle.records.specs.declared.line.LineRead.the-variants.{Read, Refused}
@@ -18,7 +19,7 @@ use Rattle.records.specs.Lists.{filled}
 use Rattle.records.specs.Word.{wordBytes}
 use Rattle.records.specs.Store.{puts}
 use Rattle.records.specs.Record.{whole}
-use Rattle.records.specs.Line.{isLine, isSporadic, allBelow, lengthOf, clocksOf, lineChecks, valueLineChecks, lineOf, kindOf, bodyOf, lineBytes}
+use Rattle.records.specs.Line.{isLine, isSporadic, allBelow, noCount, lengthOf, clocksOf, lineChecks, valueLineChecks, lineOf, kindOf, bodyOf, lineBytes}
 use Rattle.records.specs.Inner.{shapeOf, lineRead, answered}
 use Rattle.records.proofs.line.Table.{shaped, clocks-within}
 use Rattle.records.proofs.Store.{part-cons, part-end, puts-both}
@@ -48,8 +49,8 @@ module _ (kind : ℕ) (body : List ℕ) (s : Shape) (e : s ≡ shapeOf kind) (l 
   pub size : length body ≡ lengthOf kind
   size = l ∙ ap (λ (r : Shape). r .length) e
 
-  pub room : s .clocks ≤ length body
-  room = let f = ap (λ (r : Shape). r .clocks) e in omega (arith, clocks-within kind, size)
+  pub room : {n : ℕ} → n ≡ clocksOf kind → n ≤ length body
+  room m = omega (arith, m, clocks-within kind, size)
 
 -- the answers of `read_line`, in the shapes that its places hold
 module _ (last c lines spent kind : ℕ) (body : List ℕ) where
@@ -76,44 +77,70 @@ module _ (last c lines spent kind : ℕ) (body : List ℕ) where
             let t : length body ≡ lengthOf kind → ⊥ = λ f. n (f ∙ sym (ap (λ (r : Shape). r .length) e)) in
             rw (lt-leb 16 lines h, known kind s e k, le-leb kind last g, ne-eqb (length body) (lengthOf kind) t)
 
-        module _ (l : length body ≡ s .length) (b : Bool) (f : b ≡ allBelow c (take (s .clocks) body)) where
+        module _ (l : length body ≡ s .length) (many : ℕ) (m : many ≡ clocksOf kind) (b : Bool) (f : b ≡ allBelow c (take many body)) where
           below : b ≡ allBelow c (take (clocksOf kind) body)
-          below = f ∙ ap (λ (r : Shape). allBelow c (take (r .clocks) body)) e
+          below = f ∙ ap (λ (n : ℕ). allBelow c (take n body)) m
 
           pub read-7 : not b ≡ true → Refused 7 ≡ due
           read-7 n = rw (lt-leb 16 lines h, known kind s e k, le-leb kind last g, eq-eqb (length body) (lengthOf kind) (size kind body s e l), sym below ∙ not-true b n)
 
-          module _ (i : not b ≡ false) (n : Bool) (p : n ≡ (isSporadic kind && leb 8 spent)) where
-            pub read-9 : n ≡ true → Refused 9 ≡ due
-            read-9 t = rw (lt-leb 16 lines h, known kind s e k, le-leb kind last g, eq-eqb (length body) (lengthOf kind) (size kind body s e l), sym below ∙ not-false b i, sym p ∙ t)
+          module _ (i : not b ≡ false) (u : Bool) (v : u ≡ noCount kind body) where
+            pub read-18 : u ≡ true → Refused 18 ≡ due
+            read-18 t = rw (lt-leb 16 lines h, known kind s e k, le-leb kind last g, eq-eqb (length body) (lengthOf kind) (size kind body s e l), sym below ∙ not-false b i, sym v ∙ t)
 
-            pub read-line : n ≡ false → (x : Line) → x ≡ lineOf kind body → Read x ≡ due
-            read-line t x q = rw (lt-leb 16 lines h, known kind s e k, le-leb kind last g, eq-eqb (length body) (lengthOf kind) (size kind body s e l), sym below ∙ not-false b i, sym p ∙ t, q)
+            module _ (z : u ≡ false) (n : Bool) (p : n ≡ (isSporadic kind && leb 8 spent)) where
+              pub read-9 : n ≡ true → Refused 9 ≡ due
+              read-9 t = rw (lt-leb 16 lines h, known kind s e k, le-leb kind last g, eq-eqb (length body) (lengthOf kind) (size kind body s e l), sym below ∙ not-false b i, sym v ∙ z, sym p ∙ t)
+
+              pub read-line : n ≡ false → (x : Line) → x ≡ lineOf kind body → Read x ≡ due
+              read-line t x q = rw (lt-leb 16 lines h, known kind s e k, le-leb kind last g, eq-eqb (length body) (lengthOf kind) (size kind body s e l), sym below ∙ not-false b i, sym v ∙ z, sym p ∙ t, q)
+
+-- a line's count is the same in six bytes
+pub no-count-filled : (l : Line) → noCount (kindOf l) (filled 6 0 (bodyOf l)) ≡ noCount (kindOf l) (bodyOf l)
+no-count-filled (Sporadic a b t) = refl
+no-count-filled (Relation a b p q) = refl
+no-count-filled (Implies a b) = refl
+no-count-filled (Excludes a b) = refl
+no-count-filled (Delayed a b d by) = refl
+no-count-filled (Weakly a b) = refl
+no-count-filled (Strictly a b) = refl
+no-count-filled (Kills a b) = refl
+no-count-filled (Counted a b d n) = refl
 
 -- the answers of `check_line`
-module _ (c spent : ℕ) (l : Line) (k : ℕ) (s : Shape) (body : List ℕ) (p : k ≡ kindOf l) (e : s ≡ shapeOf k) (f : body ≡ filled 6 0 (bodyOf l)) where
-  clocks : s .clocks ≡ clocksOf (kindOf l)
-  clocks = ap (λ (r : Shape). r .clocks) e ∙ ap clocksOf p
+module _ (c spent : ℕ) (l : Line) (k : ℕ) (body : List ℕ) (many : ℕ) (p : k ≡ kindOf l) (f : body ≡ filled 6 0 (bodyOf l)) (m : many ≡ clocksOf k) where
+  clocks : many ≡ clocksOf (kindOf l)
+  clocks = m ∙ ap clocksOf p
 
-  pub check-room : s .clocks ≤ length body
+  pub check-room : many ≤ length body
   check-room = rw (f, length-append) (omega (arith, clocks, clocks-within (kindOf l), shaped l .size))
 
-  module _ (b : Bool) (g : b ≡ allBelow c (take (s .clocks) body)) where
+  pub check-long : lengthOf k ≤ length body
+  check-long = let z = ap lengthOf p in rw (f, length-append) (omega (arith, z, shaped l .size))
+
+  module _ (b : Bool) (g : b ≡ allBelow c (take many body)) where
     all : b ≡ allBelow c (take (clocksOf (kindOf l)) (bodyOf l))
     all = g ∙ rw (clocks, f, take-append-le (clocksOf (kindOf l)) (bodyOf l) _ (omega (arith, clocks-within (kindOf l), shaped l .size)))
 
     pub check-7 : not b ≡ true → answer.Refused 7 ≡ answered (decide (valueLineChecks c spent (kindOf l) (bodyOf l)) l)
     check-7 n = rw (sym all ∙ not-true b n)
 
-    module _ (h : not b ≡ false) (n : Bool) (q : n ≡ (isSporadic k && leb 8 spent)) where
-      ninth : n ≡ (isSporadic (kindOf l) && leb 8 spent)
-      ninth = q ∙ ap (λ (x : ℕ). isSporadic x && leb 8 spent) p
+    module _ (h : not b ≡ false) (u : Bool) (v : u ≡ noCount k body) where
+      uncounted : u ≡ noCount (kindOf l) (bodyOf l)
+      uncounted = v ∙ rw (p, f) (no-count-filled l)
 
-      pub check-9 : n ≡ true → answer.Refused 9 ≡ answered (decide (valueLineChecks c spent (kindOf l) (bodyOf l)) l)
-      check-9 t = rw (sym all ∙ not-false b h, sym ninth ∙ t)
+      pub check-18 : u ≡ true → answer.Refused 18 ≡ answered (decide (valueLineChecks c spent (kindOf l) (bodyOf l)) l)
+      check-18 t = rw (sym all ∙ not-false b h, sym uncounted ∙ t)
 
-      pub check-done : n ≡ false → answer.Done ≡ answered (decide (valueLineChecks c spent (kindOf l) (bodyOf l)) l)
-      check-done t = rw (sym all ∙ not-false b h, sym ninth ∙ t)
+      module _ (z : u ≡ false) (n : Bool) (q : n ≡ (isSporadic k && leb 8 spent)) where
+        ninth : n ≡ (isSporadic (kindOf l) && leb 8 spent)
+        ninth = q ∙ ap (λ (x : ℕ). isSporadic x && leb 8 spent) p
+
+        pub check-9 : n ≡ true → answer.Refused 9 ≡ answered (decide (valueLineChecks c spent (kindOf l) (bodyOf l)) l)
+        check-9 t = rw (sym all ∙ not-false b h, sym uncounted ∙ z, sym ninth ∙ t)
+
+        pub check-done : n ≡ false → answer.Done ≡ answered (decide (valueLineChecks c spent (kindOf l) (bodyOf l)) l)
+        check-done t = rw (sym all ∙ not-false b h, sym uncounted ∙ z, sym ninth ∙ t)
 
 -- a line's head and body, one behind the other
 pub line-stored : (l : Line) (b b₁ b₂ : List ℕ) (at n : ℕ) {k : ℕ} {body : List ℕ} → k ≡ kindOf l → n ≡ length (bodyOf l) → body ≡ filled 6 0 (bodyOf l)

@@ -1,4 +1,4 @@
--- The first 65,704 bytes of a sheet decide what it is read as: 5 of the clocks, 10 of each of 16 lines, and the longest record; a refusal has a number up to 17. Assumes nothing.
+-- The first 65,704 bytes of a sheet decide what it is read as: 5 of the clocks, 10 of each of 16 lines, and the longest record; a refusal has a number up to 18. Assumes nothing.
 use mathlib.Core.Path.{_≡_, sym, ap, _∙_}
 use mathlib.Core.List.{List, [], _∷_, _++_, map}
 use Prim.Native.Nat.{ℕ, _+_, _-_, _≤_}
@@ -88,7 +88,7 @@ in-turn P checks each before [] = tt
 in-turn P checks each before (p ∷ ps) = all-append P (checks before p) _ (each before p) (in-turn P checks each (before ++ (p ∷ [])) ps)
 
 abbrev Low : Check → Type 0
-Low c = c .number ≤ 17
+Low c = c .number ≤ 18
 
 clocks-low : (p : Piece) → All Low (clocksChecks p)
 clocks-low torn = (omega arith, tt)
@@ -96,7 +96,7 @@ clocks-low (whole kind body) = (omega arith, (omega arith, (omega arith, tt)))
 
 line-low : (last c n spent : ℕ) (p : Piece) → All Low (lineChecks last c n spent p)
 line-low last c n spent torn = (omega arith, tt)
-line-low last c n spent (whole kind body) = (omega arith, (omega arith, (omega arith, (omega arith, (omega arith, tt)))))
+line-low last c n spent (whole kind body) = (omega arith, (omega arith, (omega arith, (omega arith, (omega arith, (omega arith, tt))))))
 
 sheet-low : (order : Order) (last : ℕ) (ps : List Piece) → All Low (sheetChecks order last ps)
 sheet-low order last [] = (omega arith, tt)
@@ -104,6 +104,6 @@ sheet-low order last (p ∷ ps) =
     all-append Low (clocksChecks p) (linesChecks order last (clocksIn p) [] ps) (clocks-low p)
     (in-turn Low _ (λ before q. all-append Low (lineChecks last (clocksIn p) (length before) (sporadics (map kindIn before)) q) (orderChecks order (map keyIn before) (keyIn q)) (line-low last (clocksIn p) (length before) (sporadics (map kindIn before)) q) (omega arith, tt)) [] ps)
 
-pub read-number : (order : Order) (last : ℕ) (b : List ℕ) {n : ℕ} → readBy order last b ≡ refused n → n ≤ 17
+pub read-number : (order : Order) (last : ℕ) (b : List ℕ) {n : ℕ} → readBy order last b ≡ refused n → n ≤ 18
 unfolding readBy
-read-number order last b e = refused-number (λ (n : ℕ). n ≤ 17) (sheetChecks order last (pieces b)) (sheetIn (pieces b)) (sheet-low order last (pieces b)) e
+read-number order last b e = refused-number (λ (n : ℕ). n ≤ 18) (sheetChecks order last (pieces b)) (sheetIn (pieces b)) (sheet-low order last (pieces b)) e

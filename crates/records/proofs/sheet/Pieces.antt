@@ -101,7 +101,7 @@ lines-read order last c before (whole kind body ∷ ps) l d h =
     let k = t .0 in
     let n = eqb-true (length body) (lengthOf kind) (not-false (eqb (length body) (lengthOf kind)) (h .1 .1 .0)) in
     let grown : length (before ++ (whole kind body ∷ [])) ≡ length before + 1 = length-append before (whole kind body ∷ []) in
-    let r = lines-read order last c (before ++ (whole kind body ∷ [])) ps (omega arith) (d .1) (h .1 .1 .1 .1 .1 .1) in
+    let r = lines-read order last c (before ++ (whole kind body ∷ [])) ps (omega arith) (d .1) (h .1 .1 .1 .1 .1 .1 .1) in
     record {
       same = rw (kind-back kind body k, body-back body (d .0) kind k n, r .same);
       values = (line-value body (d .0) kind k, r .values);

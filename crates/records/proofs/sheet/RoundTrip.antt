@@ -58,10 +58,10 @@ module _ (order : Order) (last : ℕ) (b : List ℕ) where
   pub accepted-exactly : IsBytes b → ((v : SheetValue) × (readBy order last b ≡ taken v)) ↔ ((v : SheetValue) × Writes order last b v)
   accepted-exactly h = (λ r. (r .0, read-writes h (r .1)), λ w. (w .0, writes-read (w .1)))
 
--- every line is of a kind up to 23
-pub kinds-23 : (ls : List Line) → KindsTo 23 ls
-kinds-23 [] = tt
-kinds-23 (l ∷ ls) = (leb-true (kindOf l) 23 (both (leb 16 (kindOf l)) (shaped l .line) .1), kinds-23 ls)
+-- every line is of a kind up to 24
+pub kinds-24 : (ls : List Line) → KindsTo 24 ls
+kinds-24 [] = tt
+kinds-24 (l ∷ ls) = (leb-true (kindOf l) 24 (both (leb 16 (kindOf l)) (shaped l .line) .1), kinds-24 ls)
 
 -- the struct of a value has that value
 pub sheetOf-value : (v : SheetValue) → sheetValue (sheetOf v) ≡ v
@@ -80,7 +80,7 @@ module _ (b buffer : List ℕ) (l : length b ≤ length buffer) where
     where
       by-outcome : (o : Outcome SheetValue) → readSheet b ≡ o → sheetRead o .answer ≡ answer.Done
           → writeSheet (sheetValue (sheetRead o .sheet)) buffer ≡ wrote (written.Bytes (length b)) (b ++ drop (length b) buffer)
-      by-outcome (taken v) f e = rw sheetOf-value (value-written (read-writes Rising 23 b h f))
+      by-outcome (taken v) f e = rw sheetOf-value (value-written (read-writes Rising 24 b h f))
       by-outcome (refused n) f e = let z : _≡_ {A = ℕ} 0 1 = cc in absurd (omega arith)
 
 -- written, then read: the same value, up to unused places
@@ -96,7 +96,7 @@ written-read s buffer {n} h e =
     let v : SheetValue = sheetValue s in
     let w = wrote-all (sheetValueChecks Rising v) (sheetBytes v) buffer e in
     let r : readSheet (take n (writeSheet v buffer .buffer)) ≡ taken v =
-    writes-read Rising 23 _ (record { value = h; kinds = kinds-23 (v .lines); checks = passed-taken (sheetValueChecks Rising v) v (w .passed); bytes = sym (w .bytes-there) }) in
+    writes-read Rising 24 _ (record { value = h; kinds = kinds-24 (v .lines); checks = passed-taken (sheetValueChecks Rising v) v (w .passed); bytes = sym (w .bytes-there) }) in
     record { outcome = r; answer = rw r; same = rw r (sheetOf-value v) }
 
 -- what is written does not depend on unused places

@@ -58,8 +58,8 @@ module _ (b : List ℕ) (x : SheetRead) (e : x ≡ sheetRead (readUnordered b)) 
     read : readUnordered b ≡ taken (sheetValue (x .sheet))
     read = sheet-done (readUnordered b) x e a
 
-    was : Writes Any 23 b (sheetValue (x .sheet))
-    was = read-writes Any 23 b is read
+    was : Writes Any 24 b (sheetValue (x .sheet))
+    was = read-writes Any 24 b is read
 
     passed : Passed (sheetValueChecks Any (sheetValue (x .sheet)))
     passed = taken-passed (sheetValueChecks Any (sheetValue (x .sheet))) (was .checks) .0

@@ -21,8 +21,8 @@ use Rattle.records.proofs.Lists.{Passed, taken-passed, passed-taken, de
 use Rattle.records.proofs.Rising.{total, all-in, in-all, chain-total, one-chain}
 use Rattle.records.proofs.line.Table.{shaped}
 use Rattle.records.proofs.order.Laws.{above-itself, above-on}
-use Rattle.records.proofs.sheet.Passed.{Below, sporadic-total, lines-passed, lines-rise, lines-pass}
-use Rattle.records.proofs.sheet.RoundTrip.{kinds-23, read-writes, writes-read}
+use Rattle.records.proofs.sheet.Passed.{Below, HasCount, sporadic-total, lines-passed, lines-counted, lines-rise, lines-pass}
+use Rattle.records.proofs.sheet.RoundTrip.{kinds-24, read-writes, writes-read}
 
 -- ---- the order of lines is strict
 abbrev pub Under : Line → Line → Type 0
@@ -64,8 +64,9 @@ module _ (v w : SheetValue) (s : Sorted v w) where
       let r = lines-passed Any (v .clocks) [] (v .lines) (omega arith) (h .1 .1) in
       let k = chain-total Under under-none under-on (λ (l : Line). sporadicOf (kindOf l)) (w .lines) (v .lines) (s .rises) (s .lines .back) in
       let below = in-all (Below (v .clocks)) (w .lines) (λ l m. all-in (Below (v .clocks)) (v .lines) (r .0) l (s .lines .back l m)) in
+      let counts = in-all HasCount (w .lines) (λ l m. all-in HasCount (v .lines) (lines-counted Any (v .clocks) [] (v .lines) (h .1 .1)) l (s .lines .back l m)) in
       let size = le-ltb 16 (length (w .lines)) (omega (arith, fewer, ltb-false 16 (length (v .lines)) (h .1 .0))) in
-      rw c (h .0, (size, lines-pass (v .clocks) [] (w .lines) below (omega (arith, r .1, k, sporadic-total (w .lines), sporadic-total (v .lines))) (s .rises)))
+      rw c (h .0, (size, lines-pass (v .clocks) [] (w .lines) below counts (omega (arith, r .1, k, sporadic-total (w .lines), sporadic-total (v .lines))) (s .rises)))
 
   -- nothing but the buffer's length can refuse it
   pub sorted-fitted : Passed (sheetValueChecks Any v) → (buffer : List ℕ) → writeSheet w buffer ≡ fitted buffer (sheetBytes w)
@@ -74,9 +75,9 @@ module _ (v w : SheetValue) (s : Sorted v w) where
 
   pub sorted-back : IsSheet v → Passed (sheetValueChecks Any v) → readSheet (sheetBytes w) ≡ taken w
   sorted-back is h =
-      writes-read Rising 23 (sheetBytes w) (record {
+      writes-read Rising 24 (sheetBytes w) (record {
         value = sorted-value is;
-        kinds = kinds-23 (w .lines);
+        kinds = kinds-24 (w .lines);
         checks = passed-taken (sheetValueChecks Rising w) w (sorted-passed h);
         bytes = refl;
       })
@@ -104,13 +105,13 @@ same-form v w c same x y s t =
 -- ---- what was read
 pub sorted-form : (b : List ℕ) → IsBytes b → (v w : SheetValue) → readUnordered b ≡ taken v → Sorted v w → SortedForm b v w
 sorted-form b h v w e s =
-    let r = read-writes Any 23 b h e in
+    let r = read-writes Any 24 b h e in
     let p = taken-passed (sheetValueChecks Any v) (r .checks) .0 in
     record {
       written = sorted-fitted v w s p;
       back = sorted-back v w s (r .value) p;
       kept = λ k.
-          let q = read-writes Rising 23 b h k in
+          let q = read-writes Rising 24 b h k in
           let rises = lines-rise (v .clocks) [] (v .lines) tt (taken-passed (sheetValueChecks Rising v) (q .checks) .0 .1 .1) in
           ap sheetBytes (one-form w v (s .clocks) (s .rises) rises (other-lines (s .lines))) ∙ r .bytes;
     }

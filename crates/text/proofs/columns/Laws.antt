@@ -219,4 +219,4 @@ module _ (sheet log : List ℕ) {x : SheetRead} (r : x ≡ sheetRead (readSheet 
         by-read (refused k) f = let z : Refused k ≡ Done = sym (ap (λ (o : Outcome SheetValue). sheetRead o .answer) f) ∙ sym (ap (λ (y : SheetRead). y .answer) r) ∙ q in let k : _≡_ {A = ℕ} 0 1 = cc in absurd (omega arith)
         by-read (taken s) f =
             let c : x .sheet .clocks ≡ s .clocks = ap (λ (y : SheetRead). y .sheet .clocks) r ∙ ap (λ (o : Outcome SheetValue). sheetRead o .sheet .clocks) f in
-            omega (arith, c, read-limits Rising 23 sheet bytes f .clocks-most)
+            omega (arith, c, read-limits Rising 24 sheet bytes f .clocks-most)

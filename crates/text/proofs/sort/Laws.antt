@@ -26,7 +26,7 @@ bytes-refused e = let z : _≡_ {A = ℕ} 0 1 = cc in absurd (omega arith)
 module _ (sheet : List ℕ) (is : IsBytes sheet) where
   -- the sorted form has room
   fits : (v w : SheetValue) → readUnordered sheet ≡ taken v → Sorted v w → length (sheetBytes w) ≤ 165
-  fits v w e s = sorted-size v w s (taken-passed (sheetValueChecks Any v) (read-writes Any 23 sheet is e .checks) .0)
+  fits v w e s = sorted-size v w s (taken-passed (sheetValueChecks Any v) (read-writes Any 24 sheet is e .checks) .0)
 
   module _ (before : List ℕ) (room : 165 ≤ length before) (r : Written) (after : List ℕ) (s : SortsBytes sheet before r after) where
     -- what was taken was written whole
@@ -54,7 +54,7 @@ module _ (sheet : List ℕ) (is : IsBytes sheet) where
     -- refused: the buffer as it was, a number of at most two digits, and its line is what is printed
     pub record Refuses (n : ℕ) : Type 0 where
       pub same : after ≡ before
-      pub small : n ≤ 17
+      pub small : n ≤ 18
       pub text : SortText sheet (refusalLine n)
 
     pub sort-refused : {n : ℕ} → r ≡ written.Refused n → Refuses n
@@ -68,7 +68,7 @@ module _ (sheet : List ℕ) (is : IsBytes sheet) where
             let q : k ≡ n = cc in
             record {
               same = ap (λ (w : Wrote). w .buffer) h;
-              small = rw q at (read-number Any 23 sheet f);
+              small = rw q at (read-number Any 24 sheet f);
               text = record { refuses = λ m g. ap refusalLine (sym q ∙ refused-same (sym f ∙ g)); sorts = λ v g. refused-taken (sym f ∙ g) };
             }
 

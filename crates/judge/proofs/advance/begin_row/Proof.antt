@@ -1,39 +1,46 @@
 -- `begin_row` meets its contract. The invariant: all that was begun is added once what stands from place j on is added to what the row owes. Assumes nothing.
-use mathlib.Core.List.{List}
+use mathlib.Core.List.{List, _∷_}
 use mathlib.Core.Path.{_≡_, refl, _∙_}
-use Prim.Native.Nat.{ℕ, _-_, _≤_}
+use Prim.Native.Nat.{ℕ, _+_, _-_, _<_, _≤_}
 use native.Mathlib.Omega.{arith}
-use lib.ListN.{drop}
+use lib.ListN.{length, getD, take, drop}
 use borrow.Author.Needs.{needs}
-use Rattle.tesl.specs.Fits.{Obligation}
-use Rattle.work.specs.Work.{addedAll}
-use Rattle.judge.specs.View.{obligationOf, firstOf, blankObligation}
-use Rattle.judge.specs.Rows.{leadsPart, rowCount, rowOwed, Stays}
+use Rattle.theory.specs.Adding.{allAddedTo}
+use Rattle.judge.specs.declared.obligation.Obligation as code
+use Rattle.judge.specs.View.{sameStored, blankObligation}
+use Rattle.judge.specs.Rows.{rowCount, rowSet, PartStays}
 use Rattle.judge.proofs.Places as places
 use Rattle.judge.proofs.advance.Adding.{rest-end, rest-over, rest-more}
 use Rattle.judge.proofs.rows.Laws.{stays-all, stays-on}
 use Rattle.judge.proofs.advance.begin_row.Statement.{statement}
 use Rattle.judge.proofs.advance.begin_row.Tie as tie
 
-record Beginning (i n : ℕ) (os : List Obligation) (was rows : List ℕ) (j : ℕ) : Type 0 where
-  turns : j ≤ n
-  few : rowCount rows i ≤ 8
-  added : addedAll os (rowOwed was i) ≡ addedAll (drop j os) (rowOwed rows i)
-  stays : Stays i 0 leadsPart was rows
+record Beginning (i part : ℕ) (whole os : List code.Obligation) (was rows : List ℕ) : Type 0 where
+  few : rowCount rows i part ≤ 8
+  added : allAddedTo sameStored 8 whole (rowSet was i part) ≡ allAddedTo sameStored 8 os (rowSet rows i part)
+  stays : PartStays i part was rows
 
 abbrev Inv-loop : tie.InvT-loop
-Inv-loop was i n begun j₀ rows j = Beginning i n (firstOf n begun) was rows j
+Inv-loop was i part first n begun j₀ rows j = Beginning i part (drop first (take n begun)) (drop j (take n begun)) was rows
 
 abbrev μ-loop : tie.MeasureT-loop
-μ-loop was i n begun j₀ rows j = n - j
+μ-loop was i part first n begun j₀ rows j = n - j
 
 loop-holds : tie.Need-loop-holds Inv-loop μ-loop
-loop-holds c = record { turns = omega arith; few = c .pre .0 .few; added = refl; stays = stays-all _ _ _ _ }
+loop-holds c = record { few = c .pre .0 .few; added = refl; stays = stays-all _ _ _ _ }
+
+-- those that were begun, from this turn's on
+abbrev begun : tie.At-loop Inv-loop μ-loop → List code.Obligation
+begun at = at .before .args .t6
+
+next : (at : tie.At-loop Inv-loop μ-loop) → at .loop .j < at .before .args .n → at .before .args .n ≤ length (begun at)
+    → drop (at .loop .j) (take (at .before .args .n) (begun at)) ≡ getD (begun at) (at .loop .j) blankObligation ∷ drop (at .loop .j + 1) (take (at .before .args .n) (begun at))
+next at h l = rw places.as-is at (places.rest-cons (λ (o : code.Obligation). o) (begun at) (at .before .args .n) (at .loop .j) blankObligation h l)
 
 add-row-requires : tie.Need-add-row-requires Inv-loop μ-loop
 add-row-requires c κs =
     let at = c .before .before .before in
-    record { size = at .loop .inv .stays .size ∙ at .before .pre .0 .size; row = at .before .pre .0 .row; few = at .loop .inv .few }
+    record { size = at .loop .inv .stays .size ∙ at .before .pre .0 .size; row = at .before .pre .0 .row; inside = at .before .pre .0 .inside; few = at .loop .inv .few }
 
 returns : tie.Need-returns Inv-loop μ-loop
 returns c =
@@ -42,7 +49,7 @@ returns c =
     let w = at .loop .inv in
     record {
       stays = stays-on (w .stays) (r .stays);
-      owed = rest-over _ _ _ (w .added) (places.rest-cons obligationOf (at .before .args .t4) (at .before .args .n) (at .loop .j) blankObligation (omega arith) (omega arith)) r (c .if1 .taken);
+      set = rest-over _ _ _ (w .added) (next at (omega arith) (omega arith)) (c .before .add-row .result) (rowSet (c .before .add-row .last .0) (at .before .args .i) (at .before .args .part)) (r .set) (c .if1 .taken);
       few = r .few;
     }
 
@@ -52,9 +59,8 @@ loop-again c =
     let at = c .before .before .before .before .before in
     let w = at .loop .inv in
     record {
-      turns = omega arith;
       few = r .few;
-      added = rest-more _ _ _ (w .added) (places.rest-cons obligationOf (at .before .args .t4) (at .before .args .n) (at .loop .j) blankObligation (omega arith) (omega arith)) r (c .if1 .left);
+      added = rest-more _ _ _ (w .added) (next at (omega arith) (omega arith)) (c .before .add-row .result) (rowSet (c .before .add-row .last .0) (at .before .args .i) (at .before .args .part)) (r .set) (c .if1 .left);
       stays = stays-on (w .stays) (r .stays);
     }
 
@@ -62,7 +68,7 @@ returns-2 : tie.Need-returns-2 Inv-loop μ-loop
 returns-2 c =
     let at = c .before in
     let w = at .loop .inv in
-    record { stays = w .stays; owed = rest-end _ (at .before .args .i) (at .loop .rows) (w .added) (places.rest-end obligationOf (at .before .args .t4) (at .before .args .n) (at .loop .j) (omega arith)); few = w .few }
+    record { stays = w .stays; set = rest-end _ _ _ (w .added) (rw places.as-is at (places.rest-end (λ (o : code.Obligation). o) (begun at) (at .before .args .n) (at .loop .j) (omega arith))); few = w .few }
 
 pub begin-row-spec : {M : Type 1} → statement M
 begin-row-spec =

@@ -26,14 +26,14 @@ returns c v =
     let r = c .before in
     let at = r .before .before in
     let a = at .before .args in
-    sym (row-clear v (a .rows .now) (a .from) (a .n) (at .loop .i) (omega arith) (sym (r .row-count .ensures) ∙ c .if1 .taken))
+    sym (row-clear v (a .rows .now) (a .from) (a .n) (at .loop .i) (omega arith) (sym (r .is-clear-row .ensures) ∙ c .if1 .taken))
 
 loop-again : tie.Need-loop-again Inv-loop μ-loop
 loop-again c =
     let r = c .before in
     let at = r .before .before in
     let a = at .before .args in
-    (omega arith, λ v. row-owes v (a .rows .now) (a .from) (at .loop .i) (at .loop .inv .1 v) (λ e. c .if1 .left (r .row-count .ensures ∙ e)))
+    (omega arith, λ v. row-owes v (a .rows .now) (a .from) (at .loop .i) (at .loop .inv .1 v) (sym (r .is-clear-row .ensures) ∙ c .if1 .left))
 
 returns-2 : tie.Need-returns-2 Inv-loop μ-loop
 returns-2 c v =

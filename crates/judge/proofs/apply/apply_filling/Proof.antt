@@ -25,6 +25,7 @@ use Rattle.judge.specs.declared.plan.Plan.{Plan}
 use Rattle.judge.specs.Rows.{rowOf, rowsOf, FewOwed, RowsStay}
 use Rattle.judge.specs.Filling.{filledInstant, begunIn, nextOf, GatheredFor}
 use Rattle.judge.proofs.rows.Laws.{rows-stay-all, rows-stay-one, rows-stay-wide, rows-stay-on}
+use Rattle.judge.proofs.rows.Laws.{few-words}
 use Rattle.judge.proofs.apply.Laws.{row-stays, held-few, held-row, applied-start, applied-end, applied-fails, applied-over, applied-there, applied-full, applied-more}
 use Rattle.judge.proofs.apply.apply_filling.Statement.{statement}
 use Rattle.judge.proofs.apply.apply_filling.Tie as tie
@@ -73,6 +74,7 @@ advance-row-requires c κs =
       between = record { size = w .stays .size ∙ x .size; row = omega (arith, x .held, x .sides .one); into = omega (arith, w .fewer, x .sides .other); apart = x .sides .apart k (at .loop .live) (omega (arith, x .held)) (omega (arith, w .fewer)) };
       few = held-few (x .sides) (w .stays) (omega (arith, w .fewer)) k (omega (arith, x .held)) (x .small k h);
       plan = x .plan;
+      ordered = x .ordered;
       begun = x .begun;
     }
 
@@ -85,7 +87,7 @@ module _ (c : tie.After-advance-row Inv-loop μ-loop) where
   last = c .advance-row .last .0
 
   small : FewOwed last (start at .args .to) (at .loop .live)
-  small j l = rw (c .advance-row .ensures .stays .same (start at .args .to + j) 0 (omega arith) (λ e x y. omega arith)) (at .loop .inv .small j l)
+  small j l = few-words (at .loop .rows) last (start at .args .to + j) (λ p m. c .advance-row .ensures .stays .same (start at .args .to + j) p (omega arith) (λ e x y. omega arith)) (at .loop .inv .small j l)
 
   stays : RowsStay (start at .args .to) (at .loop .live + 1) (start at .args .rows .now) last
   stays = rows-stay-on (at .loop .inv .stays) (rows-stay-one (c .advance-row .ensures .stays) (start at .args .to) (at .loop .live + 1) (omega arith) (omega arith))

@@ -87,7 +87,7 @@ apply-filling-requires c κs =
     let at = g .before .before .before in
     let w = at .loop .inv in
     let p = at .before .pre in
-    record { size = w .stays .size ∙ p .size; sides = p .side; held = p .held; fewer = w .fewer; small = λ j h. held-few (p .side) (w .stays) (omega (arith, w .fewer)) j (omega (arith, p .held)) (p .small j h); smallFound = w .small; plan = p .plan; begun = g .gather .ensures .few }
+    record { size = w .stays .size ∙ p .size; sides = p .side; held = p .held; fewer = w .fewer; small = λ j h. held-few (p .side) (w .stays) (omega (arith, w .fewer)) j (omega (arith, p .held)) (p .small j h); smallFound = w .small; plan = p .plan; ordered = g .gather .ensures .ordered; begun = g .gather .ensures .few }
 
 returns : tie.Need-returns Inv-loop μ-loop
 returns c =

@@ -1,51 +1,38 @@
--- `begin_delays` meets its contract. The invariant: what is begun so far, with what the lines from j on begin, is what all lines begin, each once. Assumes nothing.
-use mathlib.Core.List.{List}
-use mathlib.Core.Path.{_≡_, ap, _∙_}
-use Prim.Native.Nat.{ℕ, _≤_, _-_}
+-- `begin_delays` meets its contract. The invariant: what is begun so far of the delay lines, or all of it and what is begun so far of the counted lines. Assumes nothing.
+use mathlib.Core.Path.{sym, ap, _∙_}
+use Prim.Native.Nat.{_+_, _-_, _≤_}
 use native.Mathlib.Omega.{arith}
-use lib.ListN.{length, length-set, length-replicate}
+use lib.ListN.{replicate, length-replicate}
 use borrow.Author.Needs.{needs}
-use Rattle.tesl.specs.Lists.{flatMap}
-use Rattle.tesl.specs.Run.{Filled}
-use Rattle.tesl.specs.Fits.{owedFrom}
-use Rattle.tesl.specs.Remainder.{sameObligation}
-use Rattle.theory.specs.Adding.{insertAll, onceEach}
-use Rattle.work.specs.View.{filledOf}
-use Rattle.judge.specs.declared.obligation.Obligation as code
-use Rattle.judge.specs.View.{obligationOf, firstOf, blankObligation}
-use Rattle.judge.specs.Plan.{planLines, delaysFrom}
-use Rattle.judge.proofs.Places.{first-set}
-use Rattle.judge.proofs.delays.Laws.{begunFrom, begun-start, delayIn, gathering-end, gathering-nothing, gathering-again, gathering-more}
+use Rattle.judge.specs.View.{newObligation, blankObligation}
+use Rattle.judge.proofs.delays.Parts.{row-inside, Gathering, gathering-start, gathering-none, gathering-there, gathering-new, gathered-both}
 use Rattle.judge.proofs.delays.begin_delays.Statement.{statement}
 use Rattle.judge.proofs.delays.begin_delays.Tie as tie
 
-record GatheringBegun (f : Filled) (lines : List ℕ) (n : ℕ) (begun : List code.Obligation) (count j : ℕ) : Type 0 where
-  turns : j ≤ n
-  fewer : count ≤ j
-  size : length begun ≡ 16
-  gathered : onceEach sameObligation (flatMap (owedFrom f) (planLines lines delaysFrom n)) ≡ insertAll sameObligation (firstOf count begun) (begunFrom (owedFrom f) (delayIn lines) n j)
-
 abbrev Inv-loop : tie.InvT-loop
-Inv-loop lines n ticks tags begun₀ count₀ j₀ begun count j = GatheringBegun (filledOf ticks tags) lines n begun count j
+Inv-loop lines delays counted ticks tags begun₀ first₀ count₀ j₀ all begun first count j = (j ≤ delays + counted) × Gathering ticks tags lines delays counted begun first count j
 
 abbrev μ-loop : tie.MeasureT-loop
-μ-loop lines n ticks tags begun₀ count₀ j₀ begun count j = n - j
+μ-loop lines delays counted ticks tags begun₀ first₀ count₀ j₀ all begun first count j = delays + counted - j
 
 loop-holds : tie.Need-loop-holds Inv-loop μ-loop
-loop-holds c = record { turns = omega arith; fewer = omega arith; size = length-replicate 16 blankObligation; gathered = ap (onceEach sameObligation) (begun-start _ (delayIn (c .args .lines .now)) (c .args .n)) }
+loop-holds c = (omega arith, gathering-start _ _ _ _ _ (replicate 16 blankObligation) (length-replicate 16 blankObligation))
+
+line-there : tie.Need-plan-line-requires Inv-loop μ-loop
+line-there c κs = row-inside (omega arith) (c .line-row .ensures)
+
+-- the turn of a line
+abbrev at : tie.After-begins Inv-loop μ-loop → tie.At-loop Inv-loop μ-loop
+at b = b .before .before .before .before .before
+
+few-begun : tie.Need-is-begun-requires Inv-loop μ-loop
+few-begun c κs = omega (arith, at (c .before .before .before) .loop .inv .1 .fewer)
 
 loop-again : tie.Need-loop-again Inv-loop μ-loop
 loop-again c =
     let b = c .before .before in
-    let l = b .before .plan-line in
-    let at = b .before .before .before in
-    let w = at .loop .inv in
-    record {
-      turns = omega arith;
-      fewer = omega arith;
-      size = w .size;
-      gathered = gathering-nothing _ _ _ (at .loop .j) _ (w .gathered) (omega arith) (l .result) (l .ensures) (b .begins .result) (b .begins .ensures) (c .enum-told .given .1);
-    }
+    let p = b .before in
+    (omega arith, gathering-none _ _ _ _ _ (at b .loop .inv .1) (omega arith) (p .before .before .first-in-part .ensures) (p .before .line-row .ensures) (p .plan-line .ensures) (b .begins .ensures .owed) (sym (ap newObligation (c .enum-told .given .1)) ∙ b .begins .ensures .stored))
 
 loop-again-2 : tie.Need-loop-again-2 Inv-loop μ-loop
 loop-again-2 c =
@@ -53,15 +40,8 @@ loop-again-2 c =
     let k = c .before .before .before in
     let o = k .o .given in
     let b = k .before .before in
-    let l = b .before .plan-line in
-    let at = b .before .before .before in
-    let w = at .loop .inv in
-    record {
-      turns = omega arith;
-      fewer = omega arith;
-      size = w .size;
-      gathered = gathering-again _ _ _ (at .loop .j) _ (w .gathered) (omega arith) (l .result) (l .ensures) (b .begins .result) (b .begins .ensures) (o .0 .0) (o .1) (t .result) (t .ensures) (c .if1 .taken);
-    }
+    let p = b .before in
+    (omega arith, gathering-there _ _ _ _ _ (at b .loop .inv .1) (omega arith) (p .before .before .first-in-part .ensures) (p .before .line-row .ensures) (p .plan-line .ensures) (b .begins .ensures .owed) (o .0 .0) (sym (ap newObligation (o .1)) ∙ b .begins .ensures .stored) (t .result) (t .ensures) (c .if1 .taken))
 
 loop-again-3 : tie.Need-loop-again-3 Inv-loop μ-loop
 loop-again-3 c =
@@ -69,22 +49,16 @@ loop-again-3 c =
     let k = c .before .before .before in
     let o = k .o .given in
     let b = k .before .before in
-    let l = b .before .plan-line in
-    let at = b .before .before .before in
-    let w = at .loop .inv in
-    let n = at .loop .count in
-    record {
-      turns = omega arith;
-      fewer = omega arith;
-      size = length-set (at .loop .begun) n (o .0 .0) ∙ w .size;
-      gathered = gathering-more _ _ _ (at .loop .j) _ (w .gathered) (omega arith) (l .result) (l .ensures) (b .begins .result) (b .begins .ensures) (o .0 .0) (o .1) (t .result) (t .ensures) (c .if1 .left) _ (first-set obligationOf (at .loop .begun) n (o .0 .0) (omega (arith, w .size)));
-    }
+    let p = b .before in
+    (omega arith, gathering-new _ _ _ _ _ (at b .loop .inv .1) (omega arith) (p .before .before .first-in-part .ensures) (p .before .line-row .ensures) (p .plan-line .ensures) (b .begins .ensures .owed) (o .0 .0) (sym (ap newObligation (o .1)) ∙ b .begins .ensures .stored) (t .result) (t .ensures) (omega (arith, at b .loop .inv .1 .fewer)) (c .if1 .left))
 
 returns : tie.Need-returns Inv-loop μ-loop
-returns c = let at = c .before in (omega arith, gathering-end _ _ _ (at .loop .j) _ (at .loop .inv .gathered) (omega arith))
+returns c =
+    let at = c .before .before in
+    gathered-both _ _ _ _ _ (at .loop .inv .1) (omega arith) (at .before .pre) (c .owed-of .ensures)
 
 pub begin-delays-spec : {M : Type 1} → statement M
 begin-delays-spec =
-    tie.close (tie.spec Inv-loop μ-loop loop-holds (λ c. search needs) (λ c κs. search needs) (λ c. search needs) (λ c κs. search needs)
-    (λ c. search needs) (λ c. search needs) loop-again (λ c. search needs) (λ c κs. search needs) (λ c. search needs) loop-again-2
-    (λ c. search needs) (λ c. search needs) (λ c. search needs) (λ c. search needs) loop-again-3 returns)
+    tie.close (tie.spec Inv-loop μ-loop (λ c. search needs) loop-holds (λ c κs. search needs) (λ c κs. search needs) line-there (λ c. search needs) (λ c κs. search needs)
+    (λ c. search needs) (λ c. search needs) loop-again (λ c. search needs) few-begun (λ c. search needs) loop-again-2
+    (λ c. search needs) (λ c. search needs) (λ c. search needs) (λ c. search needs) loop-again-3 (λ c κs. search needs) returns)

@@ -3,14 +3,19 @@ use mathlib.Core.Path.{refl, ap, _∙_}
 use mathlib.Core.Bool.{false}
 use lib.ListN.{replicate}
 use borrow.Author.Needs.{needs}
-use Rattle.tesl.specs.Lists.{flatMap}
 use Rattle.tesl.specs.Fits.{owedFrom}
-use Rattle.tesl.specs.Remainder.{sameObligation}
+use Rattle.tesl.specs.Remainder.{sameObligation, sameCountdown}
 use Rattle.theory.specs.Adding.{onceEach}
+use Rattle.theory.specs.Step.{startedBy}
 use Rattle.work.specs.View.{filledOf}
 use Rattle.work.specs.Lines.{allStopped}
 use Rattle.work.specs.Carried.{needOf, gainOf, lossOf}
-use Rattle.work.proofs.Parts.{delays-enough}
+use Rattle.work.specs.Parts.{isDelay, isCounted}
+use Rattle.work.proofs.Parts.{delays-enough, counted-enough}
+use Rattle.judge.specs.View.{obligationOf, countdownOf}
+use Rattle.judge.specs.Plan.{delaysFrom, countedRows, planLine}
+use Rattle.judge.proofs.obligation.Laws.{same-read, same-counted}
+use Rattle.judge.proofs.filling.Laws.{part-begins, reads-counted}
 use Rattle.judge.proofs.filling.gather.Statement.{statement}
 use Rattle.judge.proofs.filling.gather.Tie as tie
 
@@ -20,15 +25,21 @@ returns c =
     let l = e .before in
     let s = l .before in
     let a = s .before .args in
+    let b = e .begin-delays .ensures in
+    let f = filledOf (a .ticks) (a .tags) in
     record {
       ticked = refl;
       tagged = refl;
-      few = e .begin-delays .ensures .0;
+      ordered = b .ordered;
+      few = b .few;
       asked = λ v planned. record {
         as-many = planned .as-many;
         few-clocks = planned .few-clocks;
         leading = planned .leading;
-        begins = e .begin-delays .ensures .1 ∙ ap (λ ls. onceEach sameObligation (flatMap (owedFrom (filledOf (a .ticks) (a .tags))) ls)) (planned .delays) ∙ ap (onceEach sameObligation) (delays-enough (filledOf (a .ticks) (a .tags)) (v .lines));
+        begins = λ i. record {
+          owed = (part-begins obligationOf sameObligation same-read (owedFrom f) isDelay (a .ticks) (a .tags) (a .lines .now) delaysFrom (a .plan .delays) (v .lines) (b .obligations) (planned .delays) (b .reads) ∙ ap (onceEach sameObligation) (delays-enough f (v .lines))) i;
+          countdowns = (part-begins countdownOf sameCountdown same-counted (startedBy f) isCounted (a .ticks) (a .tags) (a .lines .now) countedRows (a .plan .counted) (v .lines) (b .countdowns) (planned .counted) (λ j h. reads-counted (a .ticks) (a .tags) (planLine (a .lines .now) _)) ∙ ap (onceEach sameCountdown) (counted-enough f (v .lines))) i;
+        };
         ends = s .all-stops .ensures ∙ ap (λ ls. allStopped (a .ticks) ls (replicate 8 false)) (planned .rules);
         needed = λ k h. l .lead-changes .ensures .needed k h ∙ ap (needOf (a .ticks)) (planned .all k h);
         gained = λ k h. l .lead-changes .ensures .gained k h ∙ ap (gainOf (a .ticks)) (planned .all k h);

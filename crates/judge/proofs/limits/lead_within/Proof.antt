@@ -22,6 +22,7 @@ lead-within-spec =
     (λ c. search needs)
     (λ c. search needs)
     (λ c. search needs)
+    (λ c. search needs)
     returns
     returns-2
     (λ c. rw (c .enum-told3 .given .1) (zero-within (c .before .before .args .instants)))
@@ -29,4 +30,5 @@ lead-within-spec =
     (λ c. rw (c .enum-told5 .given .1) (zero-within (c .before .before .args .instants)))
     (λ c. rw (c .enum-told6 .given .1) (zero-within (c .before .before .args .instants)))
     (λ c. rw (c .enum-told7 .given .1) (zero-within (c .before .before .args .instants)))
-    (λ c. rw (c .enum-told8 .given .1) (zero-within (c .before .before .args .instants))))
+    (λ c. rw (c .enum-told8 .given .1) (zero-within (c .before .before .args .instants)))
+    (λ c. rw (c .enum-told9 .given .1) (zero-within (c .before .before .args .instants))))

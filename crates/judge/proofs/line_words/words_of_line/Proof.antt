@@ -38,6 +38,9 @@ returns-7 c = rw (c .before .before .l7 .given .1) (words-of (search needs) (c .
 returns-8 : tie.Need-returns-8
 returns-8 c = rw (c .before .before .l8 .given .1) (words-of (search needs) (c .words-by8 .ensures))
 
+returns-9 : tie.Need-returns-9
+returns-9 c = rw (c .before .before .l9 .given .1) (words-of (search needs) (c .words-by9 .ensures))
+
 pub words-of-line-spec : {M : Type 1} → statement M
 words-of-line-spec =
     tie.close (tie.spec
@@ -46,4 +49,5 @@ words-of-line-spec =
     (λ c. search needs) (λ c κs. search needs) (λ c. search needs) (λ c κs. search needs)
     (λ c. search needs) (λ c κs. search needs)
     (λ c. search needs) (λ c κs. search needs) (λ c. search needs) (λ c κs. search needs) (λ c. search needs) (λ c κs. search needs)
-    returns returns-2 returns-3 returns-4 returns-5 returns-6 returns-7 returns-8)
+    (λ c. search needs) (λ c. search needs) (λ c κs. search needs)
+    returns returns-2 returns-3 returns-4 returns-5 returns-6 returns-7 returns-8 returns-9)

@@ -21,9 +21,12 @@ returns-5 c = rw (c .before .before .l5 .given .1, c .flag-both5 .ensures)
 returns-6 : tie.Need-returns-6
 returns-6 c = rw (c .before .before .l6 .given .1, c .stop .ensures)
 
+returns-7 : tie.Need-returns-7
+returns-7 c = rw (c .before .before .l7 .given .1, c .stop2 .ensures)
+
 pub flag-line-spec : {M : Type 1} → statement M
 flag-line-spec =
     tie.close (tie.spec (λ c. search needs) (λ c κs. search needs) (λ c. search needs) (λ c κs. search needs) (λ c. search needs)
     (λ c κs. search needs) (λ c. search needs) (λ c κs. search needs) (λ c. search needs) (λ c κs. search needs) (λ c. search needs)
-    (λ c κs. search needs) (λ c. search needs) (λ c. search needs) returns returns-2 returns-3 returns-4 returns-5 returns-6 (λ c. search needs)
+    (λ c κs. search needs) (λ c. search needs) (λ c κs. search needs) (λ c. search needs) (λ c. search needs) returns returns-2 returns-3 returns-4 returns-5 returns-6 returns-7 (λ c. search needs)
     (λ c. search needs))

@@ -1,24 +1,25 @@
 -- `obligations_at` meets its contract. The invariant: the first j places hold the row's first j obligations, the others are blank. Assumes nothing.
 use mathlib.Core.List.{List}
-use mathlib.Core.Path.{_≡_}
+use mathlib.Core.Path.{_≡_, sym, _∙_}
 use Prim.Native.Nat.{ℕ, _≤_, _-_}
 use native.Mathlib.Omega.{arith}
 use borrow.Author.Needs.{needs}
 use Rattle.judge.specs.declared.obligation.Obligation as code
-use Rattle.judge.specs.View.{obligationOf, blankObligation}
+use Rattle.judge.specs.View.{blankObligation}
 use Rattle.judge.specs.Rows.{rowObligation}
+use Rattle.judge.proofs.Places.{as-is}
 use Rattle.judge.proofs.rows.Placing.{Placing, placing-start, placing-more, first-listed}
 use Rattle.judge.proofs.rows.obligations_at.Statement.{statement}
 use Rattle.judge.proofs.rows.obligations_at.Tie as tie
 
-abbrev Same : List ℕ → ℕ → ℕ → code.Obligation → Type 0
-Same rows i j o = obligationOf o ≡ rowObligation rows i j
+abbrev Same : List ℕ → ℕ → ℕ → ℕ → code.Obligation → Type 0
+Same rows i part j o = o ≡ rowObligation rows i part j
 
 abbrev Inv-loop : tie.InvT-loop
-Inv-loop rows i n all₀ j₀ all j = (j ≤ n) × Placing (Same rows i) blankObligation 8 all j
+Inv-loop rows i part n all₀ j₀ all j = (j ≤ n) × Placing (Same rows i part) blankObligation 8 all j
 
 abbrev μ-loop : tie.MeasureT-loop
-μ-loop rows i n all₀ j₀ all j = n - j
+μ-loop rows i part n all₀ j₀ all j = n - j
 
 loop-again : tie.Need-loop-again Inv-loop μ-loop
 loop-again c =
@@ -30,7 +31,7 @@ returns c =
     let at = c .before in
     let w = at .loop .inv .1 in
     record {
-      first = first-listed _ _ blankObligation _ (at .before .args .n) (omega (arith, w .size)) (λ j h. w .places j (omega arith));
+      first = sym (as-is _) ∙ first-listed (λ (o : code.Obligation). o) _ blankObligation _ (at .before .args .n) (omega (arith, w .size)) (λ j h. w .places j (omega arith));
       rest = λ j h. w .rest j (omega arith);
     }
 

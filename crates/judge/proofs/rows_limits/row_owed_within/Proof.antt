@@ -6,22 +6,22 @@ use native.Mathlib.Omega.{arith}
 use borrow.Author.Needs.{needs}
 use Rattle.tesl.specs.Lists.{below}
 use Rattle.work.proofs.Below.{below-next, below-miss}
-use Rattle.judge.specs.Limits.{obligationWithin}
-use Rattle.judge.specs.RowsLimits.{owedFits}
+use Rattle.judge.specs.Limits.{storedWithin}
+use Rattle.judge.specs.RowsLimits.{placeFits}
 use Rattle.judge.proofs.rows_limits.row_owed_within.Statement.{statement}
 use Rattle.judge.proofs.rows_limits.row_owed_within.Tie as tie
 
 abbrev Inv-loop : tie.InvT-loop
-Inv-loop rows i n clocks j₀ j = (j ≤ n) × (below j (owedFits clocks rows i) ≡ true)
+Inv-loop rows i part n clocks least most j₀ j = (j ≤ n) × (below j (placeFits clocks least most rows i part) ≡ true)
 
 abbrev μ-loop : tie.MeasureT-loop
-μ-loop rows i n clocks j₀ j = n - j
+μ-loop rows i part n clocks least most j₀ j = n - j
 
 abbrev fits : tie.Start Inv-loop μ-loop → ℕ → Bool
-fits s j = owedFits (s .args .clocks) (s .args .rows .now) (s .args .i) j
+fits s j = let a = s .args in placeFits (a .clocks) (a .least) (a .most) (a .rows .now) (a .i) (a .part) j
 
 tested : (c : tie.After-obligation-within Inv-loop μ-loop) → let at = c .before .before .before in fits (at .before) (at .loop .j) ≡ c .obligation-within .result
-tested c = sym (c .obligation-within .ensures ∙ ap (obligationWithin _) (c .before .obligation-at .ensures))
+tested c = sym (c .obligation-within .ensures ∙ ap (storedWithin _ _ _) (c .before .obligation-at .ensures))
 
 loop-again : tie.Need-loop-again Inv-loop μ-loop
 loop-again c =

@@ -1,7 +1,7 @@
 -- `owed_at_start` meets its contract: each kind by its arm. Assumes nothing.
 use mathlib.Core.Path.{_≡_}
-use mir.Facts.{toZ-ofZ}
-use mir.Syntax.{w16, w32}
+use lib.IntN.{+ℤ-idr}
+use mir.Syntax.{w16}
 use mir.Val.{toZ, ofZ}
 use borrow.Author.Needs.{needs}
 use Rattle.judge.proofs.start.owed_at_start.Statement.{statement}
@@ -11,26 +11,10 @@ returns : tie.Need-returns
 returns c =
     let l = c .before .before .l .given in
     let t : toZ w16 (ofZ w16 (l .0 .1 .1 .0)) ≡ l .0 .1 .1 .0 = search needs in
-    rw (l .1, toZ-ofZ {w = w32} (record { sfits = c .as-due .ok }), c .as-due .ensures, t)
+    rw (l .1, c .due-number .ensures, t, +ℤ-idr (l .0 .1 .1 .0))
 
 pub owed-at-start-spec : {M : Type 1} → statement M
 owed-at-start-spec =
-    tie.close
-    (tie.spec
-    (λ c. search needs)
-    (λ c κs. search needs)
-    (λ c. search needs)
-    (λ c. search needs)
-    (λ c. search needs)
-    (λ c. search needs)
-    (λ c. search needs)
-    (λ c. search needs)
-    (λ c. search needs)
-    returns
-    (λ c. search needs)
-    (λ c. search needs)
-    (λ c. search needs)
-    (λ c. search needs)
-    (λ c. search needs)
-    (λ c. search needs)
-    (λ c. search needs))
+    tie.close (tie.spec (λ c. search needs) (λ c κs. search needs) (λ c. search needs) (λ c. search needs) (λ c. search needs) (λ c. search needs)
+    (λ c. search needs) (λ c. search needs) (λ c. search needs) (λ c. search needs) returns
+    (λ c. search needs) (λ c. search needs) (λ c. search needs) (λ c. search needs) (λ c. search needs) (λ c. search needs) (λ c. search needs) (λ c. search needs))

@@ -28,7 +28,7 @@ loop-again : tie.Need-loop-again Inv-loop μ-loop
 loop-again c =
     let at = c .before .before .before .before in
     let s = at .before in
-    (omega arith, rows-more (s .args .t3) (at .loop .inv .1) (c .put-remainder .ensures) (owes-few (s .args .t3) (s .args .n) (at .loop .k) (omega arith) (omega (arith, many s)) (s .pre .few)))
+    (omega arith, rows-more (s .args .t3) (at .loop .inv .1) (c .put-remainder .ensures))
 
 returns : tie.Need-returns Inv-loop μ-loop
 returns c =

@@ -16,8 +16,8 @@ loop-holds c = search needs
 lift-panel-requires : tie.Need-lift-panel-requires Inv-loop μ-loop
 lift-panel-requires c κs = search needs
 
-count-if-requires : tie.Need-count-if-requires Inv-loop μ-loop
-count-if-requires c κs = search needs
+with-owing-requires : tie.Need-with-owing-requires Inv-loop μ-loop
+with-owing-requires c κs = search needs
 
 panel-due-requires : tie.Need-panel-due-requires Inv-loop μ-loop
 panel-due-requires c κs = search needs
@@ -45,7 +45,7 @@ shown-spec =
     μ-loop
     loop-holds
     lift-panel-requires
-    count-if-requires
+    with-owing-requires
     panel-due-requires
     held-requires
     add-clock

@@ -37,9 +37,12 @@ returns-7 c = rw (c .before .l7 .given .1) (search needs)
 returns-8 : tie.Need-returns-8
 returns-8 c = rw (c .before .l8 .given .1) (search needs)
 
+returns-9 : tie.Need-returns-9
+returns-9 c = rw (c .before .l9 .given .1) (search needs)
+
 pub body-of-spec : {M : Type 1} → statement M
 body-of-spec =
     tie.close (tie.spec (λ c. search needs) (λ c κs. search needs) (λ c κs. search needs) (λ c κs. search needs) (λ c. search needs)
     (λ c κs. search needs) (λ c κs. search needs) (λ c κs. search needs) (λ c κs. search needs) (λ c κs. search needs) (λ c κs. search needs)
     (λ c. search needs) (λ c. search needs) (λ c. search needs) (λ c κs. search needs) (λ c κs. search needs) (λ c. search needs) (λ c. search needs)
-    (λ c. search needs) returns returns-2 returns-3 returns-4 returns-5 returns-6 returns-7 returns-8)
+    (λ c. search needs) (λ c. search needs) returns returns-2 returns-3 returns-4 returns-5 returns-6 returns-7 returns-8 returns-9)

@@ -36,6 +36,14 @@ word-at-requires-4 : tie.Need-word-at-requires-4
 unfolding lengthOf
 word-at-requires-4 c κs = let e = c .before .before .before .before .before .pre .1 ∙ ap lengthOf (c .before .match .keys5) in omega arith
 
+shared-slice-read-t19 : tie.Need-shared-slice-read-t19
+unfolding lengthOf
+shared-slice-read-t19 c = let e = c .before .before .before .before .before .pre .1 ∙ ap lengthOf (c .before .match .keys8) in omega arith
+
+shared-slice-read-t21 : tie.Need-shared-slice-read-t21
+unfolding lengthOf
+shared-slice-read-t21 c = let e = c .before .before .before .before .before .before .pre .1 ∙ ap lengthOf (c .before .before .match .keys8) in omega arith
+
 returns : tie.Need-returns
 unfolding lineOf
 returns c = rw (c .before .before .match .keys1, back (c .tag-of .ok) (c .tag-of .ensures ∙ ap tagOf (c .before .word-at .ensures)))
@@ -69,12 +77,16 @@ returns-7 c = rw (c .match .keys7)
 
 returns-8 : tie.Need-returns-8
 unfolding lineOf
-returns-8 c =
+returns-8 c = rw (c .before .before .match .keys8)
+
+returns-9 : tie.Need-returns-9
+unfolding lineOf
+returns-9 c =
     let m = c .match .rest in
-    simp (ne-eqb _ _ (m .0 .0 .0 .0 .0 .0 .1), ne-eqb _ _ (m .0 .0 .0 .0 .0 .1), ne-eqb _ _ (m .0 .0 .0 .0 .1), ne-eqb _ _ (m .0 .0 .0 .1), ne-eqb _ _ (m .0 .0 .1), ne-eqb _ _ (m .0 .1), ne-eqb _ _ (m .1))
+    simp (ne-eqb _ _ (m .0 .0 .0 .0 .0 .0 .0 .1), ne-eqb _ _ (m .0 .0 .0 .0 .0 .0 .1), ne-eqb _ _ (m .0 .0 .0 .0 .0 .1), ne-eqb _ _ (m .0 .0 .0 .0 .1), ne-eqb _ _ (m .0 .0 .0 .1), ne-eqb _ _ (m .0 .0 .1), ne-eqb _ _ (m .0 .1), ne-eqb _ _ (m .1))
 
 pub line-of-spec : {M : Type 1} → statement M
 line-of-spec =
     tie.close (tie.spec shared-slice-read-a shared-slice-read-b word-at-requires (λ c κs. search needs) word-at-requires-2 (λ c κs. search needs)
-    word-at-requires-3 (λ c κs. search needs) shared-slice-read-t16 word-at-requires-4 returns returns-2 returns-3 returns-4 returns-5 returns-6
-    returns-7 returns-8)
+    word-at-requires-3 (λ c κs. search needs) shared-slice-read-t16 word-at-requires-4 shared-slice-read-t19 shared-slice-read-t21 returns returns-2
+    returns-3 returns-4 returns-5 returns-6 returns-7 returns-8 returns-9)

@@ -7,10 +7,10 @@ use Rattle.records.proofs.sheet.check_lines.Statement.{statement}
 use Rattle.records.proofs.sheet.check_lines.Tie as tie
 
 abbrev Inv-loop : tie.InvT-loop
-Inv-loop s order n spent₀ i₀ spent i = (i ≤ n) × (spent ≤ i) × Checking order s i spent
+Inv-loop order s n spent₀ i₀ spent i = (i ≤ n) × (spent ≤ i) × Checking order s i spent
 
 abbrev μ-loop : tie.MeasureT-loop
-μ-loop s order n spent₀ i₀ spent i = n - i
+μ-loop order s n spent₀ i₀ spent i = n - i
 
 loop-holds : tie.Need-loop-holds Inv-loop μ-loop
 loop-holds c = (omega arith, omega arith, check-start _ _)
@@ -29,5 +29,5 @@ returns-2 c = search (needs, check-end) depth 8
 
 pub check-lines-spec : {M : Type 1} → statement M
 check-lines-spec =
-    tie.close (tie.spec Inv-loop μ-loop loop-holds (λ c κs. search needs) (λ c κs. search needs) (λ c. search needs) returns (λ c. search needs)
+    tie.close (tie.spec Inv-loop μ-loop loop-holds (λ c. search needs) (λ c. search needs) (λ c κs. search needs) (λ c. search needs) returns (λ c. search needs)
     (λ c κs. search needs) (λ c κs. search needs) add-spent (λ c. search needs) (λ c. search needs) loop-again returns-2)
