@@ -14,8 +14,8 @@ use Rattle.tesl.specs.Fits.{eqZ, Obligation, meets, owedFrom, notLate, Countdow
 use Rattle.tesl.specs.Remainder.{Remainder, sameObligation, sameCountdown, sameSets, sameRemainder, owes, counts, overfull, isClear}
 use lib.Signed.{leZ}
 use Rattle.theory.specs.Sets.{SameSet}
-use Rattle.theory.specs.Step.{next, stepOk, nextOwed, misses, noneMissed, begunCountdowns, nextCountdowns}
-use Rattle.tesl.proofs.Tests.{and-l, and-r, and-i, or-l, or-r, or-e}
+use Rattle.theory.specs.Step.{next, stepOk, nextOwed, misses, begunCountdowns, nextCountdowns}
+use Rattle.tesl.proofs.Tests.{and-l, and-r, and-i}
 use Rattle.theory.proofs.Lists.{any-append, any-filter, any-flatMap, all-as-any}
 use Rattle.theory.proofs.Sets.{Equivalence, any-set, sets-same, same-sets, distinct-length}
 use Rattle.tesl.proofs.FormulaOwed.{eqZ→eq}

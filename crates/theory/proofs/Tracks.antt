@@ -6,7 +6,7 @@ use Prim.Native.Nat.{ℕ, suc, _≤_}
 use native.Mathlib.Omega.{arith}
 use lib.Dec.{T}
 use lib.IntN.{ℤ}
-use lib.ListN.{length, length-append}
+use lib.ListN.{length-append}
 use Rattle.records.specs.Sheet.{SheetValue}
 use Rattle.records.specs.Types.{IsInstant}
 use Rattle.tesl.specs.Run.{Instant, tagsOf}

@@ -17,7 +17,7 @@ use Rattle.tesl.specs.Lists.{any, flatMap}
 use Rattle.tesl.specs.Run.{Filled, ticksAt, tagAt}
 use Rattle.tesl.specs.Fits.{Obligation, meets, owedAtStart, owedFrom, unmetBy, unmetLater, unmet, ticksIn, Countdown, countedFrom, leftOf, leftBy, countdowns}
 use Rattle.tesl.specs.Formula.{instant, ticksBelow, noInstant}
-use Rattle.theory.specs.Unmet.{Unmet, sporadic, delayed, NoneUnmet, Counting, counted, NoneOwed}
+use Rattle.theory.specs.Unmet.{Unmet, sporadic, delayed, Counting, counted, NoneOwed}
 use Rattle.tesl.proofs.Tests.{T→≡}
 use Rattle.tesl.proofs.FormulaLists.{count-append}
 use Rattle.tesl.proofs.FormulaOwed.{ticks-below, MetFrom, met-from}

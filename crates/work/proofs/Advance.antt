@@ -2,19 +2,19 @@
 use mathlib.Core.Bool.{Bool, true, false, not, cond, _&&_}
 use mathlib.Core.List.{List, [], _∷_, _++_}
 use mathlib.Core.Option.{Option, none, some}
-use mathlib.Core.Path.{_≡_, refl, sym, ap, _∙_, subst}
+use mathlib.Core.Path.{_≡_, refl, sym, ap, subst}
 use Prim.Native.Nat.{ℕ, suc, _-_, _≤_, _<_}
 use native.Mathlib.Omega.{arith}
-use lib.Dec.{T, T-not, not-T, ltb, eqb, ltb→lt, lt→ltb}
-use lib.ListN.{length, length-append}
+use lib.Dec.{T, T-not, not-T, ltb, ltb→lt, lt→ltb}
+use lib.ListN.{length}
 use Rattle.records.specs.Sheet.{SheetValue}
-use Rattle.tesl.specs.Lists.{any, filter, flatMap}
+use Rattle.tesl.specs.Lists.{any, filter}
 use Rattle.tesl.specs.Run.{Filled}
-use Rattle.tesl.specs.Fits.{ticksIn, Obligation, meets, owedFrom, notLate, Countdown, leftOf, leftBy}
+use Rattle.tesl.specs.Fits.{ticksIn, Obligation, meets, notLate, Countdown, leftOf, leftBy}
 use Rattle.tesl.specs.Remainder.{Remainder, sameObligation, sameCountdown, sameRemainder, owes, counts, overfull}
 use Rattle.tesl.proofs.Tests.{and-l, and-r, and-i, or-l, or-r, or-e}
 use Rattle.theory.specs.Sets.{apart}
-use Rattle.theory.specs.Step.{overlap, linesOk, noneMissed, begunCountdowns, nextCountdowns, next}
+use Rattle.theory.specs.Step.{overlap, linesOk, noneMissed, next}
 use Rattle.theory.proofs.Lists.{any-flatMap, any-imp}
 use Rattle.theory.proofs.Sets.{filter-once, number-most, number-more}
 use Rattle.theory.proofs.Adding.{Tidied, Beyond, Adding, room, full, earlier, added-all}

@@ -1,7 +1,7 @@
 -- Equality of remainders by counts, where neither has an obligation or a countdown twice. Assumes nothing.
 use mathlib.Core.Bool.{Bool, true, false, _&&_, Bool·beq, and-true, and-false}
 use mathlib.Core.List.{List, [], _∷_}
-use mathlib.Core.Path.{_≡_, refl, ap, _∙_}
+use mathlib.Core.Path.{_≡_, refl, _∙_}
 use lib.Dec.{T, eqb}
 use Rattle.records.specs.Types.{All}
 use Rattle.tesl.specs.Lists.{any, sameList}

@@ -38,7 +38,6 @@ use Rattle.work.specs.View.{heldList}
 use Rattle.work.specs.Owed.{owing, addedAll}
 use Rattle.judge.specs.declared.answer.Answer as code
 use Rattle.judge.specs.declared.answer.Reply.the-variants as reply
-use Rattle.judge.specs.declared.remainder.Remainder as arrays
 use Rattle.judge.specs.declared.held.Status.the-variants.{Live}
 use Rattle.judge.specs.declared.plan.Plan.{Plan}
 use Rattle.judge.specs.declared.monitor.Monitor.{Monitor}

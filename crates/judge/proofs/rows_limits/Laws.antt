@@ -21,7 +21,6 @@ use Rattle.work.proofs.Carried.{sheetLine, next-places, used-by}
 use Rattle.judge.specs.declared.held.Status.{Status}
 use Rattle.judge.specs.declared.held.Status.the-variants.{Exhausted, Live}
 use Rattle.judge.specs.declared.plan.Plan.{Plan}
-use Rattle.judge.specs.View.{owedOf, viewOf}
 use Rattle.judge.specs.Limits.{storedWithin, leastDue, mostDue, leastWanted, mostWanted, setWithin, remainderWithin, heldWithin}
 use Rattle.judge.specs.Plan.{Planned}
 use Rattle.judge.specs.Rows.{rowCount, rowObligation, rowSet, rowLead, rowLeads}

@@ -1,6 +1,6 @@
 -- `ticks_in` meets its contract: the loop has found none so far, or stops at the one that it found. Assumes nothing.
 use mathlib.Core.Bool.{Bool, false}
-use mathlib.Core.Path.{_≡_, refl, sym}
+use mathlib.Core.Path.{_≡_, sym}
 use Prim.Native.Nat.{ℕ, _-_, _≤_}
 use native.Mathlib.Omega.{arith}
 use lib.Dec.{eqb}

@@ -1,13 +1,13 @@
 -- `advance_row` meets its contract: question by question, then part by part. Assumes nothing.
 use mathlib.Core.Bool.{true}
 use mathlib.Core.Path.{_≡_, _∙_}
-use Prim.Native.Nat.{ℕ, _≤_}
+use Prim.Native.Nat.{ℕ}
 use native.Mathlib.Omega.{arith}
 use lib.ListN.{length}
 use borrow.Author.Needs.{needs}
 use borrow.Author.Tests.{not-false}
 use Rattle.judge.specs.declared.advance.Next.the-variants.{Fails, Over, Onto}
-use Rattle.judge.specs.Rows.{words, rowCount}
+use Rattle.judge.specs.Rows.{words}
 use Rattle.judge.proofs.rows.Laws.{stays-all}
 use Rattle.judge.proofs.advance.Row.{row-short, row-barred, row-late, row-missed, row-over, row-full, row-onto}
 use Rattle.judge.proofs.advance.Built.{count-stays, late-stays, missed-stays, read-after, left-count, left-kept, over-stays, begun-count, begun-kept, full-stays, counted-kept, built-stays, built-few, built-owed, built-countdowns, built-leads, built-stopped}

@@ -1,5 +1,5 @@
 -- `left_counting` meets its contract: the ticks wanted, then its on-clock, then the last tick. Assumes nothing.
-use mathlib.Core.Path.{sym, _∙_}
+use mathlib.Core.Path.{sym}
 use borrow.Author.Needs.{needs}
 use borrow.Author.Tests.{not-true, not-false, eq-eqb, ne-eqb}
 use Rattle.judge.proofs.left.left_counting.Statement.{statement}

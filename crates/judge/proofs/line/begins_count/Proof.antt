@@ -1,5 +1,4 @@
 -- `begins_count` meets its contract: the tick first, then the count. Assumes nothing.
-use borrow.Author.Needs.{needs}
 use borrow.Author.Tests.{not-true, not-false, eq-eqb, ne-eqb}
 use Rattle.judge.proofs.line.begins_count.Statement.{statement}
 use Rattle.judge.proofs.line.begins_count.Tie as tie
