@@ -3,7 +3,7 @@
 //! monitors that go through the same.
 use crate::random::{damage_bytes, damage_head, hex, input, Input, Room, Seen};
 use crate::state::{self, Words, FORMAT, SIDES, WIDTH, WORDS};
-use crate::state::{COUNTDOWNS, FREE, NUMBERS, OWED, PAIRS};
+use crate::state::{COUNTDOWNS, FREE, OWED, PLACES};
 use crate::xorshift::Xorshift;
 use crate::{library, plain};
 
@@ -71,11 +71,10 @@ fn damage_word(r: &mut Xorshift, words: &mut Words) {
         0 => r.next() as u32,
         1 => words[at] ^ 1 << r.below(32),
         2 => r.pick(&[
-            131070,
-            131071,
             32767,
             65535,
             65536,
+            131070,
             FORMAT,
             FORMAT - 1,
             0x8000_0000,
@@ -92,10 +91,10 @@ fn damage_number(r: &mut Xorshift, words: &mut Words) {
     words[2 * WIDTH + r.below(lines) as usize] = r.pick(&[0, 1, 255, 256, 257, 65536]);
 }
 
-/// Numbers of an obligation and of a countdown: the last due of all is 98,302,
-/// and 1 to 255 are wanted.
-const DUES: [u32; 6] = [0, 32768, 131070, 131071, 1 << 31, u32::MAX];
-const WANTED: [u32; 6] = [0, 1, 255, 256, 257, 1 << 31];
+/// Numbers of an obligation, whose dues are those of all 16 bits, and of a
+/// countdown: 1 to 255 are wanted.
+const DUES: [u32; 4] = [0, 32767, 32768, 65535];
+const WANTED: [u32; 6] = [0, 1, 255, 256, 257, 65535];
 
 /// In the obligations or the countdowns of a row, mostly one that is held:
 /// their count, a ninth with it; a clock or an on-clock that is too high; a
@@ -104,9 +103,9 @@ fn damage_owing(r: &mut Xorshift, part: &mut [u32], numbers: &[u32]) {
     let j = r.below(part[0].clamp(1, 8) as u64) as usize;
     match r.below(4) {
         0 => part[0] = r.pick(&[0, 1, 7, 8, 9]),
-        1 => part[PAIRS + j] = r.below(9) as u32 + 256 * r.below(9) as u32,
-        2 => part[PAIRS + j] ^= r.pick(&[8, 8 << 8, 1 << 16]),
-        _ => part[NUMBERS + j] = r.pick(numbers),
+        1 => part[PLACES + j] ^= r.below(9) as u32 + 256 * r.below(9) as u32,
+        2 => part[PLACES + j] ^= r.pick(&[8, 8 << 8, 1 << 16]),
+        _ => part[PLACES + j] = part[PLACES + j] & 0xffff | r.pick(numbers) << 16,
     }
 }
 

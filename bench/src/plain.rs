@@ -10,6 +10,8 @@ const MAX_INSTANTS: u32 = 4000;
 const MAX_LIVE: usize = 32;
 const MAX_OWED: usize = 8;
 const MAX_COUNTDOWNS: usize = 8;
+/// A delay that would be due past the greatest tag begins no obligation.
+const MOST_TAG: i32 = i16::MAX as i32;
 
 const HEAD: usize = 4;
 const ENTRY: usize = 3;
@@ -482,10 +484,11 @@ fn fill(sheet: &Sheet, ticks: u8, tags: &[i16; MAX_CLOCKS], f: &mut Filling) {
     }
     f.begun.count = 0;
     for l in sheet.delays.all() {
-        if ticks & l.from != 0 {
+        let due = tags[l.on as usize] as i32 + l.by;
+        if ticks & l.from != 0 && due <= MOST_TAG {
             let o = Obligation {
                 clock: l.clock,
-                due: tags[l.on as usize] as i32 + l.by,
+                due,
                 on: l.on,
             };
             if !f.begun.all().contains(&o) {

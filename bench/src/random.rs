@@ -172,6 +172,28 @@ fn disorder(r: &mut Xorshift, lines: &mut Vec<Line>) {
     }
 }
 
+/// How far from 0 the tags of a log are, and with them the dues of its sporadic
+/// lines: a log in eight is near an end of the scale, mostly the upper one,
+/// where delays are due at it and past it.
+fn distance(r: &mut Xorshift) -> i16 {
+    match r.below(32) {
+        0 => -32766,
+        1 => 32757,
+        2 | 3 => 32764,
+        _ => 0,
+    }
+}
+
+/// Sporadic lines with their dues so much farther from 0.
+fn shift_dues(lines: &mut Vec<Line>, far: i16) {
+    for l in lines.iter_mut().filter(|l| l[2] == 16) {
+        let due = i16::from_le_bytes([l[6], l[7]]).saturating_add(far);
+        l[6..8].copy_from_slice(&due.to_le_bytes());
+    }
+    sort_lines(lines);
+    lines.dedup();
+}
+
 /// Tags that stay or rise, seldom fall; obeyed, relations decide theirs.
 fn next_tags(r: &mut Xorshift, tags: &mut [i16], lines: &[Line], obey: bool) {
     let together = r.once_in(2);
@@ -218,7 +240,8 @@ fn is_holding(result: u64) -> bool {
 }
 
 /// Mostly few clocks, small tags and few unseen ticks, so that dues are met or
-/// missed; some near the limits, some with eight clocks unseen, some long.
+/// missed; some near the limits or the ends of the scale, some with eight clocks
+/// unseen, some long.
 pub fn input(r: &mut Xorshift) -> Input {
     if r.once_in(1000) {
         return long_input(r);
@@ -239,6 +262,10 @@ pub fn input(r: &mut Xorshift) -> Input {
     } else {
         lines(r, clocks)
     };
+    let far = distance(r);
+    if far != 0 {
+        shift_dues(&mut lines, far);
+    }
     if r.once_in(12) {
         disorder(r, &mut lines);
     }
@@ -263,7 +290,7 @@ pub fn input(r: &mut Xorshift) -> Input {
     let obey = !r.once_in(4);
     let sheet = v.sheet();
     let mut log = Vec::new();
-    let mut tags: Vec<i16> = (0..clocks).map(|_| tag(r)).collect();
+    let mut tags: Vec<i16> = (0..clocks).map(|_| tag(r).saturating_add(far)).collect();
     for _ in 0..count {
         let mut chosen = Vec::new();
         let mut chosen_tags = Vec::new();

@@ -10,7 +10,7 @@ pub const WORDS: usize = 4608;
 pub type Words = [u32; WORDS];
 
 /// The format and its version, word 0.
-pub const FORMAT: u32 = 0x4c46_0002;
+pub const FORMAT: u32 = 0x4c46_0003;
 
 /// Words of a row, and the first rows of the two sides.
 pub const WIDTH: usize = 64;
@@ -18,18 +18,17 @@ pub const SIDES: [usize; 2] = [6, 39];
 
 /// Where the parts of a remainder begin in its row, and its free words.
 pub const OWED: usize = 0;
-pub const COUNTDOWNS: usize = 17;
-const LEADS: usize = 34;
-const STOPPED: usize = 50;
-pub const FREE: usize = 58;
+pub const COUNTDOWNS: usize = 9;
+const LEADS: usize = 18;
+const STOPPED: usize = 34;
+pub const FREE: usize = 42;
 
-/// In the parts of obligations and of countdowns: the count, then both clocks
-/// of each in a word, then a number of each.
-pub const PAIRS: usize = 1;
-pub const NUMBERS: usize = 9;
+/// In the parts of obligations and of countdowns, behind the count: a word of
+/// each, its clock and its on-clock a byte each, then its number.
+pub const PLACES: usize = 1;
 
 /// The number of an obligation is its due and this.
-const DUE_ZERO: i64 = 32768;
+const DUE_ZERO: i32 = 32768;
 
 /// A monitor within its limits.
 pub struct Monitor {
@@ -92,15 +91,15 @@ fn line(w: &Words, k: usize, clocks: usize) -> Option<Vec<u8>> {
 
 /// What a part of a row lists, each with its clock, on-clock and number, if
 /// there are at most eight and their clocks are below the count.
-fn listed(part: &[u32], clocks: usize) -> Option<Vec<(u8, u8, u32)>> {
+fn listed(part: &[u32], clocks: usize) -> Option<Vec<(u8, u8, u16)>> {
     let count = part[0] as usize;
     if count > 8 {
         return None;
     }
     let all: Vec<_> = (0..count)
         .map(|j| {
-            let pair = part[PAIRS + j];
-            (pair as u8, (pair >> 8) as u8, part[NUMBERS + j])
+            let word = part[PLACES + j];
+            (word as u8, (word >> 8) as u8, (word >> 16) as u16)
         })
         .collect();
     let below = |k: u8| (k as usize) < clocks;
@@ -113,11 +112,7 @@ fn listed(part: &[u32], clocks: usize) -> Option<Vec<(u8, u8, u32)>> {
 fn remainder(row: &[u32], clocks: usize, leads: &[usize], instants: u32) -> Option<Held> {
     let mut owed = Vec::new();
     for (clock, on, number) in listed(&row[OWED..], clocks)? {
-        let due = number as i64 - DUE_ZERO;
-        if due > 98302 {
-            return None;
-        }
-        owed.push((clock, due as i32, on));
+        owed.push((clock, number as i32 - DUE_ZERO, on));
     }
     owed.sort();
     let mut countdowns = Vec::new();
@@ -203,8 +198,7 @@ pub fn is_tidy(w: &Words) -> bool {
         for part in [OWED, COUNTDOWNS] {
             let count = row[part] as usize;
             row[part] = 0;
-            row[part + PAIRS..][..count].fill(0);
-            row[part + NUMBERS..][..count].fill(0);
+            row[part + PLACES..][..count].fill(0);
         }
         for k in (0..lines).filter(|k| [21, 22].contains(&w[WIDTH + k])) {
             row[LEADS + k] = 0;

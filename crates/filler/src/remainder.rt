@@ -86,6 +86,19 @@ fn with_unmet(n: usize, f: Filled, o: Obligation, from: usize, owed: Owed) -> Ow
     with_obligation(owed, o)
 }
 
+// The greatest tag.
+const MOST_TAG: i64 = 32767;
+
+// With what a tick of a delay line begins, unless its due would exceed the greatest tag.
+fn with_begun(n: usize, f: Filled, o: Obligation, from: usize, owed: Owed) -> Owed
+    requires { ⌜ n ≤ 16 ⌝ }
+{
+    if MOST_TAG < o.due {
+        return owed;
+    }
+    with_unmet(n, f, o, from, owed)
+}
+
 // With what the ticks of A of a delay line begin and no later instant meets.
 fn with_delayed(n: usize, f: Filled, a: u8, b: u8, d: u8, by: u16, owed: Owed) -> Owed
     requires { ⌜ n ≤ 16 ⌝ }
@@ -97,7 +110,7 @@ fn with_delayed(n: usize, f: Filled, a: u8, b: u8, d: u8, by: u16, owed: Owed) -
         let at = i;
         i += 1;
         if clock.ticks[at] {
-            all = with_unmet(n, f, begun_at(f, b, d, by, at), i, all);
+            all = with_begun(n, f, begun_at(f, b, d, by, at), i, all);
         }
     }
     all

@@ -6,10 +6,12 @@ use Prim.Native.Nat.{ℕ}
 use Rattle.records.specs.Outcome.{Outcome, taken, refused}
 use Rattle.records.specs.Sheet.{SheetValue}
 use Rattle.tesl.specs.Run.{Instant}
+use Rattle.tesl.specs.Fits.{mostTag}
 use Rattle.tesl.specs.Answer.{Answer, mostLive, answer}
 use Rattle.tesl.specs.Machine.{accepts, Session, Reader}
 use Rattle.theory.specs.Session.{Opening, refuses, opens, Observing, FollowsMachine, SameSession, EachAnswer}
 use Rattle.theory.specs.Session as machine
+use Rattle.theory.specs.Limits.{OnScale}
 use Rattle.theory.specs.Said.{Said}
 use Rattle.theory.specs.Seen.{SeenJudged}
 use Rattle.theory.proofs.Machine.{same-session, each-answer}
@@ -68,7 +70,7 @@ demand3 read sheet calls answered last ran = same-session read (Opens read) Obse
 
 module _ {M : Type 0} {read : Reader} {F : SheetValue → List Instant → M → Type 0} {sheet : List ℕ} {calls : List (List ℕ)} {answered : Session} {last : Option M}
     (session : SameSession read F sheet calls answered last) where
-  every-answer : (P : SheetValue → List Instant → Answer → Type 0) → ((s : SheetValue) (run : List Instant) → P s run (answer s run)) → EachAnswer P read sheet calls answered
+  every-answer : (P : SheetValue → List Instant → Answer → Type 0) → ((s : SheetValue) (run : List Instant) → OnScale mostTag run → P s run (answer s run)) → EachAnswer P read sheet calls answered
   every-answer P holds = subst (EachAnswer P read sheet calls) (sym (session .same)) (each-answer P holds read sheet calls)
 
   pub each-said : EachAnswer (Said mostLive) read sheet calls answered

@@ -30,8 +30,7 @@ pub record ClearedRows (first n : ℕ) (a b : List ℕ) : Type 0 where
 pub record ClearedOwed (i part n : ℕ) (a b : List ℕ) : Type 0 where
   pub stays : Stays i (partWords * part + 1) (partWords * part + partWords) a b
   pub places : (j : ℕ) → j < n → rowObligation b i part j ≡ rowObligation a i part j
-  pub clocks : (j : ℕ) → n ≤ j → j < 8 → word b i (partWords * part + 1 + j) ≡ 0
-  pub numbers : (j : ℕ) → n ≤ j → j < 8 → word b i (partWords * part + 9 + j) ≡ 0
+  pub rest : (j : ℕ) → n ≤ j → j < 8 → word b i (partWords * part + 1 + j) ≡ 0
 
 -- so each set of row i, and the words behind the sets
 pub record ClearedSets (i : ℕ) (a b : List ℕ) : Type 0 where

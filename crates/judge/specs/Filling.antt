@@ -1,17 +1,18 @@
 -- What depends on a filling alone, and what a row becomes by it.
 use mathlib.Core.List.{List, [], _∷_, map}
-use mathlib.Core.Bool.{Bool, true, false, cond}
+use mathlib.Core.Bool.{Bool, true, false, cond, _&&_}
 use mathlib.Core.Path.{_≡_}
 use Prim.Native.Nat.{ℕ, _+_, _≤_, _<_}
 use lib.Dec.{T, eqb}
 use lib.IntN.{ℤ, pos, _+ℤ_}
 use lib.ListN.{getD, replicate, drop, take}
+use lib.Signed.{leZ}
 use Rattle.records.specs.declared.line.Line.{Line}
 use Rattle.records.specs.Line.{blankLine, ofDelayed, ofCounted}
 use Rattle.records.specs.Sheet.{SheetValue}
 use Rattle.tesl.specs.Lists.{filter, flatMap}
 use Rattle.tesl.specs.Run.{Filled, tagIn}
-use Rattle.tesl.specs.Fits.{owedFrom}
+use Rattle.tesl.specs.Fits.{mostTag, owedFrom}
 use Rattle.theory.specs.Adding.{onceEach}
 use Rattle.work.specs.Advanced.{Advanced, fails, over, onto}
 use Rattle.work.specs.View.{filledOf, usedPart}
@@ -44,38 +45,39 @@ begunIn f = record { owed = firstOf (f .owed) (f .begun); countdowns = map count
 abbrev pub countStored : Bool → ℕ → ℕ → ℕ → List code.Obligation
 countStored ticks B D n = cond ticks (cond (eqb n 0) [] (record { clock = D; on = B; number = n } ∷ [])) []
 
-abbrev pub storedBy : List Bool → List ℤ → Line → List code.Obligation
-storedBy ticks tags l =
+-- of any line; of a delay line unless its due would exceed the end of the scale, `most`
+abbrev pub storedBy : ℤ → List Bool → List ℤ → Line → List code.Obligation
+storedBy most ticks tags l =
     ofDelayed (ofCounted [] (λ A B D n. countStored (tickIn ticks A) B D n) l)
-    (λ A B D d. cond (tickIn ticks A) (record { clock = D; on = B; number = dueNumber (tagIn tags B +ℤ pos d) } ∷ []) []) l
+    (λ A B D d. cond (tickIn ticks A && leZ (tagIn tags B +ℤ pos d) most) (record { clock = D; on = B; number = dueNumber (tagIn tags B +ℤ pos d) } ∷ []) []) l
 
 -- what a delay line begins, as it is owed
-abbrev pub ReadsOwed : List Bool → List ℤ → Line → Type 0
-ReadsOwed ticks tags l = isDelay l ≡ true → map obligationOf (storedBy ticks tags l) ≡ owedFrom (filledOf ticks tags) l
+abbrev pub ReadsOwed : ℤ → List Bool → List ℤ → Line → Type 0
+ReadsOwed most ticks tags l = isDelay l ≡ true → map obligationOf (storedBy most ticks tags l) ≡ owedFrom most (filledOf ticks tags) l
 
 -- what one line begins
-pub record LineBegins (ticks : List Bool) (tags : List ℤ) (l : Line) (os : List code.Obligation) : Type 0 where
-  pub stored : os ≡ storedBy ticks tags l
-  pub owed : ReadsOwed ticks tags l
+pub record LineBegins (most : ℤ) (ticks : List Bool) (tags : List ℤ) (l : Line) (os : List code.Obligation) : Type 0 where
+  pub stored : os ≡ storedBy most ticks tags l
+  pub owed : ReadsOwed most ticks tags l
 
 -- what n lines of the plan from row `from` on begin, each once
-abbrev pub storedOnce : List Bool → List ℤ → List ℕ → ℕ → ℕ → List code.Obligation
-storedOnce ticks tags lines from n = onceEach sameStored (flatMap (storedBy ticks tags) (planLines lines from n))
+abbrev pub storedOnce : ℤ → List Bool → List ℤ → List ℕ → ℕ → ℕ → List code.Obligation
+storedOnce most ticks tags lines from n = onceEach sameStored (flatMap (storedBy most ticks tags) (planLines lines from n))
 
 -- what the delay lines begin, and behind it what the counted lines do
-pub record LinesBegin (lines : List ℕ) (delays counted : ℕ) (ticks : List Bool) (tags : List ℤ) (owed count : ℕ) (begun : List code.Obligation) : Type 0 where
+pub record LinesBegin (most : ℤ) (lines : List ℕ) (delays counted : ℕ) (ticks : List Bool) (tags : List ℤ) (owed count : ℕ) (begun : List code.Obligation) : Type 0 where
   pub ordered : owed ≤ count
   pub few : count ≤ 16
-  pub obligations : take owed begun ≡ storedOnce ticks tags lines delaysFrom delays
-  pub countdowns : drop owed (take count begun) ≡ storedOnce ticks tags lines countedRows counted
-  pub reads : (j : ℕ) → j < delays → ReadsOwed ticks tags (planLine lines (delaysFrom + j))
+  pub obligations : take owed begun ≡ storedOnce most ticks tags lines delaysFrom delays
+  pub countdowns : drop owed (take count begun) ≡ storedOnce most ticks tags lines countedRows counted
+  pub reads : (j : ℕ) → j < delays → ReadsOwed most ticks tags (planLine lines (delaysFrom + j))
 
 -- ---- what was gathered of a filling is what the sheet's lines make of it
 pub record GatheredFor (v : SheetValue) (p : Plan) (f : Filling) : Type 0 where
   pub as-many : p .clocks ≡ v .clocks
   pub few-clocks : v .clocks ≤ 8
   pub leading : Leading v (p .leaders) (p .precede)
-  pub begins : begunIn f ≡ eachOnce (begunBy (v .lines) (filledInstant f))
+  pub begins : begunIn f ≡ eachOnce (begunBy mostTag (v .lines) (filledInstant f))
   pub ends : f .stops ≡ allStopped (f .ticks) (filter isRule (v .lines)) (replicate 8 false)
   pub needed : (k : ℕ) → k < p .leaders → getD (f .needs) k 0 ≡ needOf (f .ticks) (getD (v .lines) k blankLine)
   pub gained : (k : ℕ) → k < p .leaders → getD (f .gains) k 0 ≡ gainOf (f .ticks) (getD (v .lines) k blankLine)

@@ -4,7 +4,7 @@ use mathlib.Core.List.{List}
 use mathlib.Core.Path.{_≡_}
 use Prim.Native.Nat.{ℕ}
 use lib.Dec.{leb, ltb}
-use lib.IntN.{pos, negsuc}
+use lib.IntN.{ℤ, negsuc}
 use lib.ListN.{take}
 use lib.Signed.{leZ}
 use Rattle.records.specs.declared.order.Order.the-variants.{Any}
@@ -12,12 +12,13 @@ use Rattle.records.specs.Outcome.{Outcome, taken, refused, decide}
 use Rattle.records.specs.Sheet.{SheetValue, sheetValue, sheetValueChecks}
 use Rattle.records.specs.Types.{IsSheet}
 use Rattle.tesl.specs.Lists.{all}
-use Rattle.tesl.specs.Fits.{Obligation, Countdown}
+use Rattle.tesl.specs.Fits.{mostTag, Obligation, Countdown}
 use Rattle.judge.specs.declared.obligation.Obligation as code
 use Rattle.judge.specs.declared.remainder.Remainder as arrays
 use Rattle.judge.specs.declared.held.Status.{Status}
 use Rattle.judge.specs.declared.held.Status.the-variants.{Exhausted, Live}
 use Rattle.judge.specs.declared.monitor.Monitor.{Monitor}
+use Rattle.judge.specs.Word.{dueNumber}
 use Rattle.judge.specs.View.{owedOf, countdownsOf, viewOf}
 
 abbrev pub isTaken : {A : Type 0} → Outcome A → Bool
@@ -28,9 +29,9 @@ isTaken (refused n) = false
 unfoldable pub sheetWithin : SheetValue → Bool
 sheetWithin v = isTaken (decide (sheetValueChecks Any v) v)
 
--- clocks below C, dues −32,768 to 98,302
-unfoldable pub obligationWithin : ℕ → Obligation → Bool
-obligationWithin c o = (ltb (o .clock) c && ltb (o .on) c) && (leZ (negsuc 32767) (o .due) && leZ (o .due) (pos 98302))
+-- clocks below C, dues −32,768 to the end of the scale, `most`
+unfoldable pub obligationWithin : ℤ → ℕ → Obligation → Bool
+obligationWithin most c o = (ltb (o .clock) c && ltb (o .on) c) && (leZ (negsuc 32767) (o .due) && leZ (o .due) most)
 
 -- clocks below C, 1 to 255 ticks wanted
 unfoldable pub countdownWithin : ℕ → Countdown → Bool
@@ -40,11 +41,11 @@ countdownWithin c x = (ltb (x .clock) c && ltb (x .on) c) && (leb 1 (x .wanted) 
 unfoldable pub storedWithin : ℕ → ℕ → ℕ → code.Obligation → Bool
 storedWithin c least most o = (ltb (o .clock) c && ltb (o .on) c) && (leb least (o .number) && leb (o .number) most)
 
-abbrev pub leastDue : ℕ
-leastDue = 0
+unfoldable pub leastDue : ℕ
+leastDue = dueNumber (negsuc 32767)
 
-abbrev pub mostDue : ℕ
-mostDue = 131070
+unfoldable pub mostDue : ℕ
+mostDue = dueNumber mostTag
 
 abbrev pub leastWanted : ℕ
 leastWanted = 1
@@ -59,7 +60,7 @@ setWithin c least most n os = leb n 8 && all (storedWithin c least most) os
 -- obligations 0 to 8, countdowns 0 to 8; ticks minus ticks 0 to the instants held, of the precedes lines
 unfoldable pub remainderWithin : SheetValue → ℕ → arrays.Remainder → Bool
 remainderWithin v instants r =
-    leb (r .owed) 8 && all (obligationWithin (v .clocks)) (owedOf r)
+    leb (r .owed) 8 && all (obligationWithin mostTag (v .clocks)) (owedOf r)
     && (leb (r .counting) 8 && all (countdownWithin (v .clocks)) (countdownsOf r) && all (λ (n : ℕ). leb n instants) (viewOf v r .leads))
 
 -- live 0 to 32; none is held once exhausted

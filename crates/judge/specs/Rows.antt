@@ -1,4 +1,4 @@
--- Remainders in one array of words, a row of 64 each. A row: its two sets, obligations and countdowns, a part of 17 words each: 0 its count, 1 to 8 their clocks and on-clocks, 9 to 16 their numbers; 34 to 49 the leads; 50 to 57 the stopped clocks; the others are free. A power of two, so that a row is found by a shift.
+-- Remainders in one array of words, a row of 64 each. A row: its two sets, obligations and countdowns, a part of 9 words each: 0 its count, 1 to 8 its places, a clock, an on-clock and a number to a word; 18 to 33 the leads; 34 to 41 the stopped clocks; the others are free. A power of two, so that a row is found by a shift.
 use mathlib.Core.Bool.{Bool, cond}
 use mathlib.Core.List.{List, [], _∷_, map}
 use mathlib.Core.Option.{Option, none, some}
@@ -34,17 +34,17 @@ abbrev pub parts : ℕ
 parts = 2
 
 abbrev pub partWords : ℕ
-partWords = 17
+partWords = 9
 
 -- where a row's leads begin, its stopped clocks, and the free words behind them
 abbrev pub leadsPart : ℕ
-leadsPart = 34
+leadsPart = 18
 
 abbrev pub stoppedPart : ℕ
-stoppedPart = 50
+stoppedPart = 34
 
 abbrev pub partsEnd : ℕ
-partsEnd = 58
+partsEnd = 42
 
 -- rows of the head; the first side begins after them, and the second here; both first rows together
 abbrev pub headRows : ℕ
@@ -66,12 +66,12 @@ word rows i p = getD rows (width * i + p) 0
 abbrev pub rowCount : List ℕ → ℕ → ℕ → ℕ
 rowCount rows i part = word rows i (partWords * part)
 
--- what two words are read as: the clock and the on-clock together, and the number
-abbrev pub storedIn : ℕ → ℕ → code.Obligation
-storedIn clocks number = record { clock = clocks % 256; on = clocks / 256 % 256; number = number }
+-- what a word is read as: the clock, the on-clock and the number in its upper half
+abbrev pub storedIn : ℕ → code.Obligation
+storedIn w = record { clock = w % 256; on = w / 256 % 256; number = w / 65536 }
 
 abbrev pub rowObligation : List ℕ → ℕ → ℕ → ℕ → code.Obligation
-rowObligation rows i part j = storedIn (word rows i (partWords * part + 1 + j)) (word rows i (partWords * part + 9 + j))
+rowObligation rows i part j = storedIn (word rows i (partWords * part + 1 + j))
 
 abbrev pub rowSet : List ℕ → ℕ → ℕ → List code.Obligation
 rowSet rows i part = listed (rowObligation rows i part) (rowCount rows i part)
@@ -131,9 +131,8 @@ rowsClocks rows from n = flatMap (λ k. rowClocks rows (from + k)) (listed (λ k
 
 -- the words of row i before its leads that no set uses are zero
 pub record NothingInParts (rows : List ℕ) (i : ℕ) : Type 0 where
-  -- clocks and numbers past a set's count
-  pub clocks : (part j : ℕ) → part < parts → rowCount rows i part ≤ j → j < 8 → word rows i (partWords * part + 1 + j) ≡ 0
-  pub numbers : (part j : ℕ) → part < parts → rowCount rows i part ≤ j → j < 8 → word rows i (partWords * part + 9 + j) ≡ 0
+  -- places past a set's count
+  pub places : (part j : ℕ) → part < parts → rowCount rows i part ≤ j → j < 8 → word rows i (partWords * part + 1 + j) ≡ 0
 
 -- x, if there is one
 abbrev pub provided : {A : Type 0} → Bool → A → Option A

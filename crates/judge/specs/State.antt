@@ -26,9 +26,9 @@ use Rattle.judge.specs.View.{liveCount}
 use Rattle.judge.specs.Rows.{headRows, secondSide, width, words, word, Stays}
 use Rattle.judge.specs.Progress.{rowsMonitor}
 
--- what word 0 of row 0 is in a state: the format and its version, 0x4C460002
+-- what word 0 of row 0 is in a state: the format and its version, 0x4C460003
 abbrev pub format : ℕ
-format = 1279655938
+format = 1279655939
 
 -- ---- the sheet
 

@@ -11,6 +11,7 @@ ghost use mathlib.Core.Path.{_≡_};
 ghost use Prim.Native.Nat.{_+_, _-_, _≤_, _<_};
 ghost use lib.ListN.{drop, take};
 ghost use Rattle.tesl.specs.Lists.{any};
+ghost use Rattle.judge.specs.Word.{dueOf};
 ghost use Rattle.judge.specs.View.{sameStored};
 ghost use Rattle.judge.specs.Plan.{delaysFrom, countedRows};
 ghost use Rattle.judge.specs.Filling.{LinesBegin};
@@ -68,16 +69,17 @@ fn owed_of(counted: usize, first: usize, count: usize) -> usize
     first
 }
 
-// What all those lines begin, at most one to a line. An obligation and a countdown with the same numbers are two things: what is new is looked for in its own part.
+// What all those lines begin, at most one to a line; `most` is the number of the end of the scale. An obligation and a countdown with the same numbers are two things: what is new is looked for in its own part.
 pub(crate) fn begin_delays(
     lines: &[u32; NUMBERS],
     delays: usize,
     counted: usize,
     ticks: [bool; 8],
     tags: [i16; 8],
+    most: u16,
 ) -> NewObligations
     requires { ⌜ delays + counted ≤ 16 ⌝ }
-    ensures { λ r. ⌜ LinesBegin (now (lines .entry)) delays counted ticks tags (r .owed) (r .count) (r .begun) ⌝ }
+    ensures { λ r. ⌜ LinesBegin (dueOf most) (now (lines .entry)) delays counted ticks tags (r .owed) (r .count) (r .begun) ⌝ }
 {
     let none = Obligation {
         clock: 0,
@@ -93,7 +95,7 @@ pub(crate) fn begin_delays(
         first = first_in_part(j, delays, first, count);
         let l = plan_line(lines, line_row(j, delays));
         j += 1;
-        match begins(l, ticks, tags) {
+        match begins(l, ticks, tags, most) {
             NewObligation::Nothing => {
                 continue;
             }

@@ -1,6 +1,7 @@
 // What depends on a filling alone, gathered once for all rows.
 use crate::delays::begin_delays;
 use crate::leads::lead_changes;
+use crate::limits::MOST_DUE;
 use crate::obligation::Obligation;
 use crate::plan::NUMBERS;
 use crate::plan::Plan;
@@ -37,7 +38,7 @@ pub(crate) fn gather(
     let counted = plan.counted;
     let stops = all_stops(lines, rules, ticks);
     let changes = lead_changes(lines, leaders, ticks);
-    let begins = begin_delays(lines, delays, counted, ticks, tags);
+    let begins = begin_delays(lines, delays, counted, ticks, tags, MOST_DUE);
     let needs = changes.needs;
     let gains = changes.gains;
     let losses = changes.losses;

@@ -19,18 +19,18 @@ ghost use Rattle.theory.specs.Step.{nextLeads};
 ghost use Rattle.work.specs.View.{inUse};
 ghost use Rattle.judge.specs.Limits.{storedWithin, setWithin, remainderWithin, heldWithin, Limited};
 
-// The numbers of dues: from the least tag to the greatest and the longest delay after it, 98,302, counted from the least tag.
-pub(crate) const LEAST_DUE: u32 = 0;
+// The numbers of dues, counted from the least tag: from it to the end of the scale, 32,767.
+pub(crate) const LEAST_DUE: u16 = 0;
 
-pub(crate) const MOST_DUE: u32 = 131070;
+pub(crate) const MOST_DUE: u16 = 65535;
 
 // Ticks still wanted.
-pub(crate) const LEAST_WANTED: u32 = 1;
+pub(crate) const LEAST_WANTED: u16 = 1;
 
-pub(crate) const MOST_WANTED: u32 = 255;
+pub(crate) const MOST_WANTED: u16 = 255;
 
 // Its clocks below `clocks`, and its number within bounds.
-pub(crate) fn obligation_within(clocks: u8, least: u32, most: u32, o: Obligation) -> bool
+pub(crate) fn obligation_within(clocks: u8, least: u16, most: u16, o: Obligation) -> bool
     ensures { λ r. ⌜ r ≡ storedWithin clocks least most o ⌝ }
 {
     if o.clock < clocks {
@@ -51,8 +51,8 @@ pub(crate) fn obligation_within(clocks: u8, least: u32, most: u32, o: Obligation
 // Each of the first n.
 fn obligations_within(
     clocks: u8,
-    least: u32,
-    most: u32,
+    least: u16,
+    most: u16,
     n: usize,
     obligations: [Obligation; 8],
 ) -> bool
@@ -108,7 +108,7 @@ fn leads_within(s: Sheet, leads: [u16; 16], instants: usize) -> bool
 }
 
 // At most eight, each within bounds.
-fn set_within(clocks: u8, least: u32, most: u32, n: usize, obligations: [Obligation; 8]) -> bool
+fn set_within(clocks: u8, least: u16, most: u16, n: usize, obligations: [Obligation; 8]) -> bool
     ensures { λ b. ⌜ b ≡ setWithin clocks least most n (take n obligations) ⌝ }
 {
     if number::MAX_OWED < n {

@@ -10,6 +10,7 @@ ghost use mathlib.Core.Path.{_≡_};
 ghost use lib.IntN.{_+ℤ_, _*ℤ_};
 ghost use Rattle.tesl.specs.Fits.{eqZ};
 ghost use Rattle.work.specs.Questions.{tagsHold, stoppedAfter};
+ghost use Rattle.judge.specs.Word.{dueOf};
 ghost use Rattle.judge.specs.View.{newObligation};
 ghost use Rattle.judge.specs.Filling.{countStored, LineBegins};
 
@@ -73,7 +74,7 @@ fn begins_count(ticks: bool, b: u8, d: u8, n: u8) -> NewObligation
     if !ticks {
         return NewObligation::Nothing;
     }
-    let number = n as u32;
+    let number = n as u16;
     if number == 0 {
         return NewObligation::Nothing;
     }
@@ -84,18 +85,24 @@ fn begins_count(ticks: bool, b: u8, d: u8, n: u8) -> NewObligation
     })
 }
 
-// The obligation or countdown that a line begins at an instant.
-pub(crate) fn begins(l: Line, ticks: [bool; 8], tags: [i16; 8]) -> NewObligation
-    ensures { λ r. ⌜ LineBegins ticks tags l (newObligation r) ⌝ }
+// The obligation or countdown that a line begins at an instant; `most` is the number of the end of the scale.
+pub(crate) fn begins(l: Line, ticks: [bool; 8], tags: [i16; 8], most: u16) -> NewObligation
+    ensures { λ r. ⌜ LineBegins (dueOf most) ticks tags l (newObligation r) ⌝ }
 {
     match l {
         Line::Delayed { a, b, d, by } => {
             if ticks_at(ticks, a) {
-                NewObligation::Owed(Obligation {
-                    clock: d,
-                    on: b,
-                    number: due_number(tag_at(tags, b), by),
-                })
+                let number = due_number(tag_at(tags, b), by);
+                if number <= (most as u32) {
+                    let number = number as u16;
+                    NewObligation::Owed(Obligation {
+                        clock: d,
+                        on: b,
+                        number,
+                    })
+                } else {
+                    NewObligation::Nothing
+                }
             } else {
                 NewObligation::Nothing
             }

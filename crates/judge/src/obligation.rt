@@ -18,7 +18,7 @@ pub struct Obligation {
     // the clock that it is on
     pub on: u8,
     // in the set of obligations the due, counted from the least tag; in the set of countdowns the ticks of the on-clock still wanted
-    pub number: u32,
+    pub number: u16,
 }
 
 // The tags below 0: the least is −32,768.
@@ -30,6 +30,13 @@ pub(crate) fn due_number(tag: i16, delay: u16) -> u32
 {
     let number = wide(tag) + (delay as i64) + NEGATIVE_TAGS;
     number as u32
+}
+
+// The number of a tag.
+pub(crate) fn tag_number(tag: i16) -> u16
+    ensures { λ r. ⌜ dueOf r ≡ tag ⌝ }
+{
+    due_number(tag, 0) as u16
 }
 
 // The same as they are stored, whatever their numbers are read as.
@@ -52,7 +59,7 @@ pub(crate) fn is_met(o: Obligation, ticks: [bool; 8], tags: [i16; 8]) -> bool
     ensures { λ r. ⌜ r ≡ meets (filledOf ticks tags) (obligationOf o) ⌝ }
 {
     if ticks_at(ticks, o.clock) {
-        due_number(tag_at(tags, o.on), 0) == o.number
+        tag_number(tag_at(tags, o.on)) == o.number
     } else {
         false
     }
@@ -62,5 +69,5 @@ pub(crate) fn is_met(o: Obligation, ticks: [bool; 8], tags: [i16; 8]) -> bool
 pub(crate) fn is_late(o: Obligation, tags: [i16; 8]) -> bool
     ensures { λ r. ⌜ r ≡ not (leZ (tagIn tags (o .on)) (obligationOf o .due)) ⌝ }
 {
-    o.number < due_number(tag_at(tags, o.on), 0)
+    o.number < tag_number(tag_at(tags, o.on))
 }

@@ -2,9 +2,10 @@
 use crate::obligation::Obligation;
 use crate::obligation::same_obligation;
 use crate::word::byte_in;
-use crate::word::bytes_word;
 use crate::word::count_in;
 use crate::word::next_byte_in;
+use crate::word::packed_word;
+use crate::word::upper_in;
 ghost use mathlib.Core.Path.{_≡_};
 ghost use Prim.Native.Nat.{_+_, _*_, _<_, _≤_};
 ghost use lib.ListN.{length, set};
@@ -33,17 +34,15 @@ pub(crate) const OBLIGATIONS: usize = 0;
 
 pub(crate) const COUNTDOWNS: usize = 1;
 
-pub(crate) const PART_WORDS: usize = 17;
+pub(crate) const PART_WORDS: usize = 9;
 
-// In a part, behind its count: where the clocks with their on-clocks begin, and the numbers.
-pub(crate) const PART_CLOCKS: usize = 1;
-
-pub(crate) const PART_NUMBERS: usize = 9;
+// In a part, behind its count: where its places begin, a word each.
+pub(crate) const PLACES: usize = 1;
 
 // Behind the parts: where the leads begin, and the stopped clocks.
-pub(crate) const LEADS: usize = 34;
+pub(crate) const LEADS: usize = 18;
 
-pub(crate) const STOPPED: usize = 50;
+pub(crate) const STOPPED: usize = 34;
 
 // Word p of row i.
 pub(crate) fn word_at(rows: &[u32; SIZE], i: usize, p: usize) -> u32
@@ -85,10 +84,10 @@ pub(crate) fn obligation_at(rows: &[u32; SIZE], i: usize, part: usize, j: usize)
     requires { ⌜ (i < height) × ((part < parts) × (j < 8)) ⌝ }
     ensures { λ r. ⌜ r ≡ rowObligation (now (rows .entry)) i part j ⌝ }
 {
-    let clocks = word_at(rows, i, PART_WORDS * part + PART_CLOCKS + j);
-    let number = word_at(rows, i, PART_WORDS * part + PART_NUMBERS + j);
-    let clock = byte_in(clocks);
-    let on = next_byte_in(clocks);
+    let w = word_at(rows, i, PART_WORDS * part + PLACES + j);
+    let clock = byte_in(w);
+    let on = next_byte_in(w);
+    let number = upper_in(w);
     Obligation { clock, on, number }
 }
 
@@ -103,10 +102,9 @@ pub(crate) fn put_obligation(rows: &mut [u32; SIZE], i: usize, part: usize, j: u
     put_word(
         rows,
         i,
-        PART_WORDS * part + PART_CLOCKS + j,
-        bytes_word(clock, on),
+        PART_WORDS * part + PLACES + j,
+        packed_word(clock, on, number),
     );
-    put_word(rows, i, PART_WORDS * part + PART_NUMBERS + j, number);
 }
 
 // The first n of a part of row i, at the front of eight places; blank ones past them.

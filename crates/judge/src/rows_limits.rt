@@ -31,8 +31,8 @@ fn row_owed_within(
     part: usize,
     n: usize,
     clocks: u8,
-    least: u32,
-    most: u32,
+    least: u16,
+    most: u16,
 ) -> bool
     requires { ⌜ (i < height) × ((part < parts) × (n ≤ 8)) ⌝ }
     ensures { λ r. ⌜ r ≡ below n (placeFits clocks least most (now (rows .entry)) i part) ⌝ }
@@ -89,8 +89,8 @@ fn row_set_within(
     i: usize,
     part: usize,
     clocks: u8,
-    least: u32,
-    most: u32,
+    least: u16,
+    most: u16,
 ) -> bool
     requires { ⌜ (i < height) × (part < parts) ⌝ }
     ensures { λ r. ⌜ r ≡ setWithin clocks least most (rowCount (now (rows .entry)) i part) (rowSet (now (rows .entry)) i part) ⌝ }

@@ -2,7 +2,7 @@
 use crate::advance::add_row;
 use crate::line::NewObligation;
 use crate::obligation::Obligation;
-use crate::obligation::due_number;
+use crate::obligation::tag_number;
 use crate::rows::HEAD;
 use crate::rows::OBLIGATIONS;
 use crate::rows::SIZE;
@@ -26,7 +26,7 @@ fn owed_at_start(l: Line) -> NewObligation
         Line::Sporadic { a, b, t } => NewObligation::Owed(Obligation {
             clock: a,
             on: b,
-            number: due_number(t, 0),
+            number: tag_number(t),
         }),
         Line::Relation { .. } => NewObligation::Nothing,
         Line::Implies { .. } => NewObligation::Nothing,

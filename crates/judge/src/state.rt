@@ -28,7 +28,7 @@ ghost use Rattle.judge.specs.Rows.{words};
 ghost use Rattle.judge.specs.State.{stateWords, clocksBy, stateSlot, stateSheet, countBy, stateTag, stateProgress, hasFormat, isKind, kindsBelow, hasKinds, isSide, isCase, isState, PutFormat, FewIn, PutCount, PutLastTags, PuttingProgress, PutProgress, PutWords, noWords, SlotWords, PutLines, PutSheet};
 
 // The format and its version.
-pub(crate) const FORMAT: u32 = 1279655938;
+pub(crate) const FORMAT: u32 = 1279655939;
 
 // The answer's case: exhausted, or any other.
 const EXHAUSTED: u32 = 1;

@@ -3,10 +3,9 @@ use crate::held::Status;
 use crate::held::live_in;
 use crate::plan::Plan;
 use crate::rows::LEADS;
-use crate::rows::PART_CLOCKS;
-use crate::rows::PART_NUMBERS;
 use crate::rows::PART_WORDS;
 use crate::rows::PARTS;
+use crate::rows::PLACES;
 use crate::rows::SIDE;
 use crate::rows::SIDES;
 use crate::rows::SIZE;
@@ -42,8 +41,7 @@ fn clear_owed(rows: &mut [u32; SIZE], i: usize, part: usize, n: usize)
     ensures { λ _. ⌜ ClearedOwed i part n (now (rows .entry)) (now (rows .exit)) ⌝ }
 {
     let at = PART_WORDS * part;
-    clear_part(rows, i, at + PART_CLOCKS + n, at + PART_NUMBERS);
-    clear_part(rows, i, at + PART_NUMBERS + n, at + PART_WORDS);
+    clear_part(rows, i, at + PLACES + n, at + PART_WORDS);
 }
 
 // Clears the places of row i past the counts of its sets.

@@ -29,11 +29,18 @@ pub(crate) fn next_byte_in(w: u32) -> u8
     (w / 256 % 256) as u8
 }
 
-// Two bytes together.
-pub(crate) fn bytes_word(x: u8, y: u8) -> u32
-    ensures { λ r. ⌜ (r % 256 ≡ x) × (r / 256 % 256 ≡ y) ⌝ }
+// The upper half.
+pub(crate) fn upper_in(w: u32) -> u16
+    ensures { λ r. ⌜ r ≡ w / 65536 ⌝ }
 {
-    (x as u32) + 256 * (y as u32)
+    (w / 65536) as u16
+}
+
+// Two bytes, and a number in the upper half.
+pub(crate) fn packed_word(x: u8, y: u8, upper: u16) -> u32
+    ensures { λ r. ⌜ (r % 256 ≡ x) × ((r / 256 % 256 ≡ y) × (r / 65536 ≡ upper)) ⌝ }
+{
+    (x as u32) + 256 * (y as u32) + 65536 * (upper as u32)
 }
 
 pub(crate) fn number_in(w: u32) -> u16

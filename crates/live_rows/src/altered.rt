@@ -24,24 +24,23 @@ const KIND_IN_LINE: usize = 2;
 
 const DELAY_IN_LINE: usize = 7;
 
-// The format of the version before countdowns, 0x4C460001, and a kind that no line has.
-const OLD_FORMAT: u32 = 1279655937;
+// The format of the version before, 0x4C460002, in which a due could lie past the scale; and a kind that no line has.
+const OLD_FORMAT: u32 = 1279655938;
 
 const NO_KIND: u32 = 25;
 
-// Dues at both ends, 98,302 and -32,768, and beyond them: counted from the least tag, in 32 bits of two's complement.
-const DUE_HIGHEST: u32 = 131070;
+// Obligations of 1 on 0 with dues at both ends, 32,767 and -32,768. No word has a due beyond them.
+const DUE_HIGHEST: u32 = 4294901761;
 
-const DUE_TOO_HIGH: u32 = 131071;
+const DUE_LOWEST: u32 = 1;
 
-const DUE_LOWEST: u32 = 0;
+// Obligations of 2 on 0 and of 1 on 2, due at 0.
+const OF_CLOCK_2: u32 = 2147483650;
 
-const DUE_TOO_LOW: u32 = 4294967295;
+const ON_CLOCK_2: u32 = 2147484161;
 
-// A clock with its on-clock: 2 on 0, and 1 on 2.
-pub const OF_CLOCK_2: u32 = 2;
-
-pub const ON_CLOCK_2: u32 = 513;
+// A countdown of 1 on 0 that wants 256.
+pub const WANTS_256: u32 = 16777217;
 
 // 0 delayed by 2 on 0 implies 1, 0 weakly precedes 1: a tick at -3, unseen at -2. Two remainders are held.
 pub fn two_held() -> [u32; STATE_WORDS] {
@@ -114,17 +113,15 @@ fn refused_in_row(s: [u32; STATE_WORDS]) {
     refused(
         b"an obligation of clock 2",
         s,
-        row + place::CLOCK,
+        row + place::OBLIGATION,
         OF_CLOCK_2,
     );
     refused(
         b"an obligation on clock 2",
         s,
-        row + place::CLOCK,
+        row + place::OBLIGATION,
         ON_CLOCK_2,
     );
-    refused(b"a due of 98,303", s, row + place::DUE, DUE_TOO_HIGH);
-    refused(b"a due of -32,769", s, row + place::DUE, DUE_TOO_LOW);
     refused(b"9 countdowns", s, row + place::COUNTING, 9);
     refused(b"a countdown that wants 0", s, row + place::COUNTING, 1);
     refused(b"a lead of 3", s, row + place::LEAD, 3);
@@ -166,8 +163,8 @@ pub fn at_limits() {
     held(b"a line of kind 24", s, place::KIND, 24);
     let row = place::HELD;
     held(b"8 obligations", s, row + place::OWED, 8);
-    held(b"a due of 98,302", s, row + place::DUE, DUE_HIGHEST);
-    held(b"a due of -32,768", s, row + place::DUE, DUE_LOWEST);
+    held(b"a due of 32,767", s, row + place::OBLIGATION, DUE_HIGHEST);
+    held(b"a due of -32,768", s, row + place::OBLIGATION, DUE_LOWEST);
     held(b"a lead of 2", s, row + place::LEAD, 2);
 }
 
@@ -191,16 +188,16 @@ fn taken_in_row(s: [u32; STATE_WORDS]) {
         3,
     );
     taken(
-        b"an eighth due of 98,303",
+        b"an eighth obligation of clock 2",
         s,
-        row + place::EIGHTH_DUE,
-        DUE_TOO_HIGH,
+        row + place::EIGHTH_OBLIGATION,
+        OF_CLOCK_2,
     );
     taken(
         b"256 wanted by an eighth countdown",
         s,
-        row + place::EIGHTH_WANTED,
-        256,
+        row + place::EIGHTH_COUNTDOWN,
+        WANTS_256,
     );
 }
 

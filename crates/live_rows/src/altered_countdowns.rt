@@ -1,6 +1,5 @@
 // States with countdowns in which a word was made another.
-use crate::altered::OF_CLOCK_2;
-use crate::altered::ON_CLOCK_2;
+use crate::altered::WANTS_256;
 use crate::altered::held;
 use crate::altered::refused;
 use crate::place;
@@ -11,6 +10,17 @@ use judge::live::STATE_WORDS;
 
 // Ticks, each of which begins a countdown.
 const TICKS: usize = 8;
+
+// Countdowns that want 255: of 2 on 0, of 1 on 2, and of 1 on 0; and of 1 on 0 one that wants 1, and one that wants 0.
+const OF_CLOCK_2: u32 = 16711682;
+
+const ON_CLOCK_2: u32 = 16712193;
+
+const WANTS_255: u32 = 16711681;
+
+const WANTS_1: u32 = 65537;
+
+const WANTS_0: u32 = 1;
 
 // After each tick of 0, 1 ticks at the 255th later tick of 0: eight ticks at -3. Eight countdowns are held in one remainder.
 fn eight_countdowns() -> [u32; STATE_WORDS] {
@@ -36,18 +46,23 @@ pub fn outside() {
     refused(
         b"a countdown of clock 2",
         s,
-        row + place::COUNTDOWN_CLOCK,
+        row + place::COUNTDOWN,
         OF_CLOCK_2,
     );
     refused(
         b"a countdown on clock 2",
         s,
-        row + place::COUNTDOWN_CLOCK,
+        row + place::COUNTDOWN,
         ON_CLOCK_2,
     );
-    refused(b"0 wanted", s, row + place::WANTED, 0);
-    refused(b"256 wanted", s, row + place::WANTED, 256);
-    refused(b"0 wanted by the eighth", s, row + place::EIGHTH_WANTED, 0);
+    refused(b"0 wanted", s, row + place::COUNTDOWN, WANTS_0);
+    refused(b"256 wanted", s, row + place::COUNTDOWN, WANTS_256);
+    refused(
+        b"0 wanted by the eighth",
+        s,
+        row + place::EIGHTH_COUNTDOWN,
+        WANTS_0,
+    );
 }
 
 pub fn at_limits() {
@@ -57,6 +72,6 @@ pub fn at_limits() {
     held(b"a count of 1", s, place::LINE_NUMBER, 1);
     held(b"8 countdowns", s, row + place::COUNTING, 8);
     held(b"no countdown", s, row + place::COUNTING, 0);
-    held(b"1 wanted", s, row + place::WANTED, 1);
-    held(b"255 wanted", s, row + place::WANTED, 255);
+    held(b"1 wanted", s, row + place::COUNTDOWN, WANTS_1);
+    held(b"255 wanted", s, row + place::COUNTDOWN, WANTS_255);
 }

@@ -28,11 +28,13 @@ fn pulse(state: &mut [u32; STATE_WORDS]) {
     seen(state, b"observe, pulse", IDLE, TICK, IDLE);
 }
 
-// A clock and its on-clock in a word.
-fn clocks(word: u32) {
+// A countdown's word: its clock, its on-clock, and the ticks still wanted.
+fn countdown(word: u32) {
     number((word % 256) as u64);
     say(b" on ");
-    number((word / 256) as u64);
+    number((word / 256 % 256) as u64);
+    say(b", wanted ");
+    number((word / 65536) as u64);
 }
 
 // The first remainder's number of countdowns, and the first of these, as the words have them; and who owes each clock.
@@ -42,9 +44,7 @@ fn told(state: &[u32; STATE_WORDS]) {
     say(b"  words: countdowns ");
     number(word_of(state, row + place::COUNTING) as u64);
     say(b", the first of clock ");
-    clocks(word_of(state, row + place::COUNTDOWN_CLOCK));
-    say(b", wanted ");
-    number(word_of(state, row + place::WANTED) as u64);
+    countdown(word_of(state, row + place::COUNTDOWN));
     say(b"\n");
     owing(state, 0);
     owing(state, 1);

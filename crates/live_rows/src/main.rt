@@ -9,6 +9,7 @@ mod place;
 mod reopened;
 mod row;
 mod same;
+mod scale;
 mod state;
 mod text;
 
@@ -20,6 +21,7 @@ fn main() {
     long_delay::restarted();
     countdowns::fourth_pulse();
     countdowns::many();
+    scale::all();
     altered::outside();
     altered::at_limits();
     altered::unused();

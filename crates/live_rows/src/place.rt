@@ -28,28 +28,24 @@ pub const ROW: usize = 64;
 
 pub const HELD: usize = 384;
 
-// In a row: how many obligations, the first one's clock with its on-clock and its due, the eighth one's due.
+// In a row: how many obligations, the first and the eighth of them. Such a word is the clock, 256 times the on-clock and 65,536 times the number, the due counted from -32,768.
 pub const OWED: usize = 0;
 
-pub const CLOCK: usize = 1;
+pub const OBLIGATION: usize = 1;
 
-pub const DUE: usize = 9;
-
-pub const EIGHTH_DUE: usize = 16;
+pub const EIGHTH_OBLIGATION: usize = 8;
 
 // The same of the countdowns, whose numbers are the ticks still wanted.
-pub const COUNTING: usize = 17;
+pub const COUNTING: usize = 9;
 
-pub const COUNTDOWN_CLOCK: usize = 18;
+pub const COUNTDOWN: usize = 10;
 
-pub const WANTED: usize = 26;
-
-pub const EIGHTH_WANTED: usize = 33;
+pub const EIGHTH_COUNTDOWN: usize = 17;
 
 // The leads of the first two lines, a delay line and a precedes line.
-pub const DELAY_LEAD: usize = 34;
+pub const DELAY_LEAD: usize = 18;
 
-pub const LEAD: usize = 35;
+pub const LEAD: usize = 19;
 
 // The row behind the two held, and the first row of the other side.
 pub const THIRD: usize = 512;

@@ -10,7 +10,7 @@ use judge::monitor::Monitor;
 use judge::obligation::Obligation;
 
 // The number of the due 0, which is counted from the least tag.
-const DUE_AT_0: u32 = 32768;
+const DUE_AT_0: u16 = 32768;
 
 // After each tick of 0, 1 ticks at the second later tick of 0.
 fn observed() {
@@ -78,7 +78,7 @@ fn of_one_clock() {
 }
 
 // Two clocks and no line, in its remainder one countdown; the places of obligations are not in use.
-fn one_countdown(clock: u8, on: u8, wanted: u32) -> Monitor {
+fn one_countdown(clock: u8, on: u8, wanted: u16) -> Monitor {
     let m = opened(b"\x01\x00\x01\x00\x02");
     let countdown = Obligation {
         clock,

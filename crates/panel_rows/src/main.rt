@@ -2,6 +2,7 @@
 mod countdowns;
 mod made;
 mod row;
+mod scale;
 mod text;
 
 use crate::made::after;
@@ -79,4 +80,5 @@ fn main() {
     long_delay();
     sporadic();
     countdowns::all();
+    scale::all();
 }

@@ -1,4 +1,4 @@
--- The executable definition is TESL's: a filled run fits exactly when no tag falls and each line holds, formula by formula. Assumes nothing.
+-- The executable definition is TESL's: a filled run whose tags are within the scale fits exactly when no tag falls and each line holds, formula by formula. Assumes nothing.
 use mathlib.Core.List.{List, [], _∷_}
 use mathlib.Core.Logic.{_↔_, Iff·and, Iff·trans}
 use mathlib.Core.Option.{Option, some}
@@ -13,8 +13,8 @@ use lib.Seq.{take-suc}
 use Rattle.records.specs.declared.line.Line.{Line}
 use Rattle.records.specs.Sheet.{SheetValue}
 use Rattle.tesl.specs.Run.{Filled}
-use Rattle.tesl.specs.Fits.{lastTags, noneFalls, fits}
-use Rattle.tesl.specs.Formula.{instant, tag, NoneFalls, EachHolds, noInstant}
+use Rattle.tesl.specs.Fits.{lastTags, noneFalls, mostTag, fits}
+use Rattle.tesl.specs.Formula.{instant, tag, WithinScale, NoneFalls, EachHolds, noInstant}
 use Rattle.tesl.proofs.FormulaLists.{below-at, below-of, lastOf-snoc}
 use Rattle.tesl.proofs.FormulaParts.{NoneFallsAt, EachPart, fits-by-line}
 use Rattle.tesl.proofs.FormulaLines.{line-law}
@@ -32,9 +32,9 @@ falls-law C run = (
     before : (n : ℕ) → suc n < length run → lastTags (take (suc n) run) ≡ some ((instant run n) .tags)
     before n b = ap lastTags (take-suc run n noInstant (omega arith)) ∙ lastOf-snoc (λ (f : Filled). f .tags) (take n run) (instant run n)
 
-each-law : (ls : List Line) (run : List Filled) → EachPart ls run ↔ EachHolds ls run
-each-law [] run = (λ u. u, λ u. u)
-each-law (l ∷ ls) run = Iff·and (line-law l run) (each-law ls run)
+each-law : (most : ℤ) (ls : List Line) (run : List Filled) → WithinScale most run → EachPart most ls run ↔ EachHolds ls run
+each-law most [] run w = (λ u. u, λ u. u)
+each-law most (l ∷ ls) run w = Iff·and (line-law most l run w) (each-law most ls run w)
 
-pub fits-holds : (s : SheetValue) (run : List Filled) → T (fits s run) ↔ (NoneFalls (s .clocks) run × EachHolds (s .lines) run)
-fits-holds s run = Iff·trans (fits-by-line s run) (Iff·and (falls-law (s .clocks) run) (each-law (s .lines) run))
+pub fits-holds : (s : SheetValue) (run : List Filled) → WithinScale mostTag run → T (fits s run) ↔ (NoneFalls (s .clocks) run × EachHolds (s .lines) run)
+fits-holds s run w = Iff·trans (fits-by-line s run) (Iff·and (falls-law (s .clocks) run) (each-law mostTag (s .lines) run w))

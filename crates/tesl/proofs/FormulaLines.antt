@@ -8,6 +8,7 @@ use native.Mathlib.Nat.{le-of-lt, le-of-suc-le-suc, not-suc-le-zero}
 use native.Mathlib.Omega.{arith}
 use lib.Dec.{T, T-not, not-T, eqb, leb→le, le→leb, eqb→eq, eqb-refl}
 use lib.IntN.{ℤ, pos, _+ℤ_, _*ℤ_}
+use lib.Signed.{leZ}
 use lib.ListN.{length, getD, take, drop}
 use lib.Seq.{take-suc, length-take-le, getD-take}
 use Rattle.records.specs.declared.line.Line.{Line}
@@ -15,18 +16,18 @@ use Rattle.records.specs.declared.line.Line.the-variants.{Sporadic, Relation, I
 use Rattle.tesl.specs.Lists.{any}
 use Rattle.tesl.specs.Run.{Filled, ticksAt}
 use Rattle.tesl.specs.Fits.{lastTags, ticksIn, nthTick, countedAt, Obligation}
-use Rattle.tesl.specs.Formula.{instant, Ticking, tag, ticksBelow, LastTagAtMost, Holds, noInstant}
+use Rattle.tesl.specs.Formula.{instant, Ticking, tag, ticksBelow, LastTagAtMost, Holds, WithinScale, noInstant}
 use Rattle.tesl.proofs.Tests.{and-l, and-r, and-i, or-e, T→≡, ≡→T}
 use Rattle.tesl.proofs.FormulaLists.{any-find, any-has}
 use Rattle.tesl.proofs.FormulaParts.{paid, Part}
-use Rattle.tesl.proofs.FormulaOwed.{eqZ→eq, eq→eqZ, ticks-below, ticks-with, ticks-between, MetFrom, paid-one}
+use Rattle.tesl.proofs.FormulaOwed.{eqZ→eq, eq→eqZ, exceeds, ticks-below, ticks-with, ticks-between, MetFrom, paid-one}
 
-module _ (run : List Filled) (A B : ℕ) where
+module _ (most : ℤ) (run : List Filled) (A B : ℕ) where
   -- K's ticks up to and with instant n
   abbrev upto : ℕ → ℕ → ℕ
   upto n K = ticksIn K (take n run ++ (instant run n ∷ []))
 
-  sporadic-law : (t : ℤ) → Part (Sporadic A B t) run ↔ Holds (Sporadic A B t) run
+  sporadic-law : (t : ℤ) → Part most (Sporadic A B t) run ↔ Holds (Sporadic A B t) run
   sporadic-law t =
       let o : Obligation = record { clock = A; due = t; on = B } in
       (λ p. there ((paid-one 0 run o) .0 (p .from-start)), λ h. record { from-start = (paid-one 0 run o) .1 (back h); at-each = λ n b. tt; begun-there = λ n b. tt })
@@ -39,13 +40,13 @@ module _ (run : List Filled) (A B : ℕ) where
       back (inl w) = inl (w .0, omega arith, w .1, w .2, w .3)
       back (inr h) = inr h
 
-  relation-law : (p q : ℤ) → Part (Relation A B p q) run ↔ Holds (Relation A B p q) run
+  relation-law : (p q : ℤ) → Part most (Relation A B p q) run ↔ Holds (Relation A B p q) run
   relation-law p q = (
     λ x n b. eqZ→eq (tag run A n) (p *ℤ tag run B n +ℤ q) (x .at-each n b),
     λ h. record { from-start = tt; at-each = λ n b. eq→eqZ (h n b); begun-there = λ n b. tt },
   )
 
-  implies-law : Part (Implies A B) run ↔ Holds (Implies A B) run
+  implies-law : Part most (Implies A B) run ↔ Holds (Implies A B) run
   implies-law = (
     λ x n b. there (ticksAt (instant run n) A) (ticksAt (instant run n) B) (x .at-each n b),
     λ h. record { from-start = tt; at-each = λ n b. back (ticksAt (instant run n) A) (ticksAt (instant run n) B) (h n b); begun-there = λ n b. tt },
@@ -58,7 +59,7 @@ module _ (run : List Filled) (A B : ℕ) where
       back true c h = ≡→T (h refl)
       back false c h = tt
 
-  excludes-law : Part (Excludes A B) run ↔ Holds (Excludes A B) run
+  excludes-law : Part most (Excludes A B) run ↔ Holds (Excludes A B) run
   excludes-law = (
     λ x n b d e. T-not (ticksAt (instant run n) A && ticksAt (instant run n) B) (x .at-each n b) (and-i (ticksAt (instant run n) A) (ticksAt (instant run n) B) (≡→T d) (≡→T e)),
     λ h. record {
@@ -69,25 +70,38 @@ module _ (run : List Filled) (A B : ℕ) where
     },
   )
 
-  delayed-law : (D d : ℕ) → Part (Delayed A B D d) run ↔ Holds (Delayed A B D d) run
-  delayed-law D d = (
-    λ x n b e. (paid-one (suc n) run (begun n)) .0 (subst (λ (c : Bool). T (paid (lastTags run) (drop (suc n) run) (cond c (begun n ∷ []) []))) e (x .begun-there n b)),
+  -- where the due exceeds the end of the scale, no tag passes it
+  delayed-law : WithinScale most run → (D d : ℕ) → Part most (Delayed A B D d) run ↔ Holds (Delayed A B D d) run
+  delayed-law within D d = (
+    λ x n b. there n (ticksAt (instant run n) A) (leZ (due n) most) (λ t. t) (x .begun-there n b),
     λ h. record {
       from-start = tt;
       at-each = λ n b. tt;
-      begun-there = λ n b. back n (ticksAt (instant run n) A) (h n b);
+      begun-there = λ n b. back n (ticksAt (instant run n) A) (leZ (due n) most) (h n b);
     },
   )
     where
+      due : ℕ → ℤ
+      due n = tag run B n +ℤ pos d
+
       begun : ℕ → Obligation
       begun n = record { clock = D; due = tag run B n +ℤ pos d; on = B }
 
-      back : (n : ℕ) (c : Bool) → (c ≡ true → MetFrom (suc n) run (begun n) ⊎ LastTagAtMost run B (tag run B n +ℤ pos d))
-          → T (paid (lastTags run) (drop (suc n) run) (cond c (begun n ∷ []) []))
-      back n true h = (paid-one (suc n) run (begun n)) .1 (h refl)
-      back n false h = tt
+      -- what is asked of the one that a tick begins, or not, with its due on the scale, or not
+      asked : ℕ → Bool → Bool → Type 0
+      asked n ticks on-scale = T (paid (lastTags run) (drop (suc n) run) (cond (ticks && on-scale) (begun n ∷ []) []))
 
-  weakly-law : Part (Weakly A B) run ↔ Holds (Weakly A B) run
+      there : (n : ℕ) (ticks on-scale : Bool) → (T (leZ (due n) most) → T on-scale) → asked n ticks on-scale → ticks ≡ true → MetFrom (suc n) run (begun n) ⊎ LastTagAtMost run B (due n)
+      there n true true s x e = (paid-one (suc n) run (begun n)) .0 x
+      there n true false s x e = inr (λ m k. exceeds (tag run B m) (due n) (within B m) s)
+      there n false on-scale s x e = absurd (≡→T e)
+
+      back : (n : ℕ) (ticks on-scale : Bool) → (ticks ≡ true → MetFrom (suc n) run (begun n) ⊎ LastTagAtMost run B (due n)) → asked n ticks on-scale
+      back n true true h = (paid-one (suc n) run (begun n)) .1 (h refl)
+      back n true false h = tt
+      back n false on-scale h = tt
+
+  pub weakly-law : Part most (Weakly A B) run ↔ Holds (Weakly A B) run
   weakly-law = (
     λ x n b. omega (arith, leb→le (upto n B) (upto n A) (x .at-each n b), ticks-with run A n b, ticks-with run B n b),
     λ h. record {
@@ -97,7 +111,7 @@ module _ (run : List Filled) (A B : ℕ) where
     },
   )
 
-  strictly-law : Part (Strictly A B) run ↔ Holds (Strictly A B) run
+  pub strictly-law : Part most (Strictly A B) run ↔ Holds (Strictly A B) run
   strictly-law = (
     λ x n b. omega (arith, leb→le (upto n B) (ticksIn A (take n run)) (x .at-each n b), ticks-below run A n (le-of-lt b), ticks-with run B n b),
     λ h. record {
@@ -107,7 +121,7 @@ module _ (run : List Filled) (A B : ℕ) where
     },
   )
 
-  kills-law : Part (Kills A B) run ↔ Holds (Kills A B) run
+  kills-law : Part most (Kills A B) run ↔ Holds (Kills A B) run
   kills-law = (
     λ x n m l b d e. T-not (ticksAt (instant run m) B && killed m) (x .at-each m b)
         (and-i (ticksAt (instant run m) B) (killed m) (≡→T e) (kill n m l b d)),
@@ -165,14 +179,14 @@ counted-each A B D n (g ∷ between) f =
     given true false d h = tt
     given false c d h = tt
 
-counted-law : (A B D n : ℕ) (run : List Filled) → Part (Counted A B D n) run ↔ Holds (Counted A B D n) run
-counted-law A B D n run = (there, λ h. record { from-start = tt; at-each = back h; begun-there = λ j b. tt })
+counted-law : (most : ℤ) (A B D n : ℕ) (run : List Filled) → Part most (Counted A B D n) run ↔ Holds (Counted A B D n) run
+counted-law most A B D n run = (there, λ h. record { from-start = tt; at-each = back h; begun-there = λ j b. tt })
   where
     -- B's ticks after i, up to and with j
     since : ℕ → ℕ → ℕ
     since i j = ticksIn B (drop (suc i) (take j run) ++ (instant run j ∷ []))
 
-    there : Part (Counted A B D n) run → Holds (Counted A B D n) run
+    there : Part most (Counted A B D n) run → Holds (Counted A B D n) run
     there x i j l b a t q =
         T→≡ (ticksAt (instant run j) D) (counted-each A B D n (take j run) (instant run j) .0 (x .at-each j b) i
         (omega (arith, length-take-le j run (le-of-lt b)))
@@ -188,13 +202,14 @@ counted-law A B D n run = (there, λ h. record { from-start = tt; at-each = back
         (T→≡ (ticksAt (instant run j) B) (and-l (ticksAt (instant run j) B) (eqb (since i j) n) t))
         (ticks-between run B i j l b ∙ ap (λ (c : ℕ). ticksBelow run B (suc i) + c) m)))
 
-pub line-law : (l : Line) (run : List Filled) → Part l run ↔ Holds l run
-line-law (Sporadic A B t) run = sporadic-law run A B t
-line-law (Relation A B p q) run = relation-law run A B p q
-line-law (Implies A B) run = implies-law run A B
-line-law (Excludes A B) run = excludes-law run A B
-line-law (Delayed A B D d) run = delayed-law run A B D d
-line-law (Weakly A B) run = weakly-law run A B
-line-law (Strictly A B) run = strictly-law run A B
-line-law (Kills A B) run = kills-law run A B
-line-law (Counted A B D n) run = counted-law A B D n run
+-- each is the formula, where no tag exceeds the end of the scale
+pub line-law : (most : ℤ) (l : Line) (run : List Filled) → WithinScale most run → Part most l run ↔ Holds l run
+line-law most (Sporadic A B t) run w = sporadic-law most run A B t
+line-law most (Relation A B p q) run w = relation-law most run A B p q
+line-law most (Implies A B) run w = implies-law most run A B
+line-law most (Excludes A B) run w = excludes-law most run A B
+line-law most (Delayed A B D d) run w = delayed-law most run A B w D d
+line-law most (Weakly A B) run w = weakly-law most run A B
+line-law most (Strictly A B) run w = strictly-law most run A B
+line-law most (Kills A B) run w = kills-law most run A B
+line-law most (Counted A B D n) run w = counted-law most A B D n run

@@ -1,13 +1,13 @@
 -- What the laws of the lines share: ticks counted by instants, and an obligation met at some instant or on time. Assumes nothing.
-use mathlib.Core.Bool.{Bool, true, cond, _&&_, _||_}
+use mathlib.Core.Bool.{Bool, true, false, not, cond, _&&_, _||_}
 use mathlib.Core.List.{List, [], _∷_, _++_}
 use mathlib.Core.Logic.{_↔_, _⊎_, inl, inr}
 use mathlib.Core.Path.{_≡_, refl, sym, ap, _∙_, subst}
 use Prim.Native.Nat.{ℕ, zero, suc, _+_, _-_, _≤_, _<_}
 use native.Mathlib.Omega.{arith}
-use lib.Dec.{T, eqb→eq, eqb-refl}
+use lib.Dec.{T, le→leb, ltb→lt, eqb→eq, eqb-refl}
 use lib.IntN.{ℤ, pos, negsuc}
-use lib.Signed.{leZ-yes}
+use lib.Signed.{ltZ, leZ, _≤ℤ_, leZ-yes, ltZ-yes, ltZ-no, <ℤ-≤ℤ-trans}
 use lib.ListN.{length, getD, take, drop, length-drop, take-append-drop}
 use lib.Seq.{take-suc, take-take, getD-drop}
 use Rattle.tesl.specs.Lists.{any}
@@ -32,6 +32,20 @@ eqZ-refl (negsuc a) = eqb-refl a
 
 pub eq→eqZ : {a b : ℤ} → a ≡ b → T (eqZ a b)
 eq→eqZ {a} e = subst (λ (z : ℤ). T (eqZ a z)) e (eqZ-refl a)
+
+below-at-most : (a b : ℤ) → T (ltZ a b) → T (leZ a b)
+below-at-most (pos a) (pos b) t = let h = ltb→lt a b t in le→leb a b (omega arith)
+below-at-most (pos a) (negsuc b) t = t
+below-at-most (negsuc a) (pos b) t = tt
+below-at-most (negsuc a) (negsuc b) t = let h = ltb→lt b a t in le→leb b a (omega arith)
+
+-- what exceeds the end of the scale is above all that doesn't
+pub exceeds : {most : ℤ} (z due : ℤ) → z ≤ℤ most → (T (leZ due most) → ⊥) → z ≤ℤ due
+exceeds {most} z due h n = by-test (ltZ due z) (λ t. t) (λ t. t)
+  where
+    by-test : (b : Bool) → (T b → T (ltZ due z)) → (T (not b) → T (not (ltZ due z))) → z ≤ℤ due
+    by-test true y m = absurd (n (below-at-most due most (<ℤ-≤ℤ-trans {a = due} {b = z} {c = most} (ltZ-yes (y tt)) h .lt)))
+    by-test false y m = ltZ-no (m tt)
 
 -- ---- ticks below an instant
 

@@ -1,4 +1,4 @@
--- The lift examples L1 to L11 of document 01, and our own (refused calls, 4,000 instants, the whole log, a product beyond 16 bits, a delay counted in ticks): one statement, a row each, by computation. Assumes nothing.
+-- The lift examples L1 to L11 of document 01, and our own (refused calls, 4,000 instants, the whole log, a product beyond 16 bits, a delay counted in ticks, the end of the scale): one statement, a row each, by computation. Assumes nothing.
 use mathlib.Core.Bool.{Bool, true, false}
 use mathlib.Core.List.{List, [], _∷_, _++_, map}
 use mathlib.Core.Path.{_≡_, refl}
@@ -116,6 +116,14 @@ ownTicks = Counted 0 0 1 255
 abbrev both : SheetValue
 both = record { clocks = 2; lines = Delayed 0 0 1 100 ∷ ownTicks ∷ [] }
 
+-- nine instants up to the end of the scale
+abbrev lastNine : Tick → List Instant
+lastNine t = map (alone t) (32759 ∷ 32760 ∷ 32761 ∷ 32762 ∷ 32763 ∷ 32764 ∷ 32765 ∷ 32766 ∷ 32767 ∷ [])
+
+-- a long lift: clock 0 ticks at 32,600, and the reading, clock 1, is made at 32,700
+abbrev longLift : List Instant
+longLift = alone Ticks 32600 ∷ two Idle (pos 32700) Ticks (pos 0) ∷ []
+
 pub record Examples : Type 0 where
   -- raw 65533 is -3; 32767 is 32,767; 32768 is -32,768
   L1 : (tagOf 65533 ≡ negsuc 2) × (tagOf 32767 ≡ pos 32767) × (tagOf 32768 ≡ negsuc 32767)
@@ -224,6 +232,26 @@ pub record Examples : Type 0 where
       × (map counts (remainders both eight) ≡ 8 ∷ [])
       × (answer both eight ≡ holding 1 owed)
       × (answer (sheet 2 ownTicks) (eight ++ (alone Ticks 9 ∷ [])) ≡ exhausted)
+  -- begun at 32,767 with d = 0: owed, and met there later; with d = 1: clear. The longest delay from −32,768 is due at 32,767 and owed; from −32,767 it isn't
+  scaleEnd :
+      (answer (delay 0) (alone Ticks 32767 ∷ []) ≡ holding 1 owed)
+      × (answer (delay 0) (alone Ticks 32767 ∷ two Idle (pos 32767) Ticks (pos 0) ∷ []) ≡ holding 1 clear)
+      × (answer (delay 1) (alone Ticks 32767 ∷ []) ≡ holding 1 clear)
+      × (answer (delay 65535) (two Ticks (negsuc 32767) Idle (pos 0) ∷ []) ≡ holding 1 owed)
+      × (answer (delay 65535) (two Ticks (negsuc 32766) Idle (pos 0) ∷ []) ≡ holding 1 clear)
+  -- a long lift near the end, d = 100: owed until its reading, clear with it, and clear again after a tick at 32,700, whose due no tag reaches
+  longLiftClear :
+      (answer (delay 100) (alone Ticks 32600 ∷ []) ≡ holding 1 owed)
+      × (answer (delay 100) longLift ≡ holding 1 clear)
+      × (answer (delay 100) (longLift ++ (alone Ticks 32700 ∷ [])) ≡ holding 1 clear)
+  -- nine delays begun past the end, seen or unseen: holding; with d = 8 the first of the nine is due at the end, and it alone is owed
+  ninePastTheEnd :
+      (answer (delay 100) (lastNine Ticks) ≡ holding 1 clear)
+      × (answer (delay 100) (lastNine Unseen) ≡ holding 1 clear)
+      × (answer (delay 8) (lastNine Ticks) ≡ holding 1 owed)
+      × (map owes (remainders (delay 8) (lastNine Ticks)) ≡ 1 ∷ [])
+  -- a sporadic line's due is a tag: 32,767 is owed from the start
+  sporadicAtTheEnd : answer (sheet 2 (Sporadic 0 1 (pos 32767))) [] ≡ holding 1 owed
 
 pub examples : Examples
 unfolding signed isTorn front cut lengthOf clocksOf lineOf readBy tickOf rawCells readInstant fillings runFillings fits remainder sameRemainder owes counts overfull isClear remainders tooMany over judged answerWithin accepts machine session judgeLog
@@ -250,4 +278,8 @@ examples = record {
   becomeEqual = refl;
   longest = refl;
   eightAndEight = (refl, refl, refl, refl, refl);
+  scaleEnd = (refl, refl, refl, refl, refl);
+  longLiftClear = (refl, refl, refl);
+  ninePastTheEnd = (refl, refl, refl, refl);
+  sporadicAtTheEnd = refl;
 }

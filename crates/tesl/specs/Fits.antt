@@ -1,4 +1,4 @@
--- Document 01, 'When a filled run fits', clause by clause in its order; and document 02's delay counted in ticks.
+-- Document 01, 'When a filled run fits', clause by clause in its order; and document 02's delay counted in ticks and end of the scale.
 use mathlib.Core.Bool.{Bool, true, false, not, cond, _&&_, _||_}
 use mathlib.Core.List.{List, [], _∷_, _++_, map}
 use mathlib.Core.Option.{Option, none, some}
@@ -75,21 +75,26 @@ meets f o = ticksAt f (o .clock) && eqZ (tagAt f (o .on)) (o .due)
 abbrev pub owedAtStart : Line → List Obligation
 owedAtStart l = ofSporadic [] (λ A B t. record { clock = A; due = t; on = B } ∷ []) l
 
--- each tick of A of a delay line begins one
-abbrev pub owedFrom : Filled → Line → List Obligation
-owedFrom f l = ofDelayed [] (λ A B D d. cond (ticksAt f A) (record { clock = D; due = tagAt f B +ℤ pos d; on = B } ∷ []) []) l
+-- the end of the scale: the greatest tag
+abbrev pub mostTag : ℤ
+mostTag = pos 32767
+
+-- each tick of A of a delay line begins one, unless its due would exceed the end of the scale, `most`
+abbrev pub owedFrom : ℤ → Filled → Line → List Obligation
+owedFrom most f l =
+    ofDelayed [] (λ A B D d. cond (ticksAt f A && leZ (tagAt f B +ℤ pos d) most) (record { clock = D; due = tagAt f B +ℤ pos d; on = B } ∷ []) []) l
 
 -- those that no instant of the run meets
 abbrev pub unmetBy : List Filled → List Obligation → List Obligation
 unmetBy run os = filter (λ (o : Obligation). not (any (λ (f : Filled). meets f o) run)) os
 
 -- those begun in the run that no later instant than the one that began them meets
-abbrev pub unmetLater : List Line → List Filled → List Obligation
-unmetLater ls run = byLater (λ f later. unmetBy later (flatMap (owedFrom f) ls)) run
+abbrev pub unmetLater : ℤ → List Line → List Filled → List Obligation
+unmetLater most ls run = byLater (λ f later. unmetBy later (flatMap (owedFrom most f) ls)) run
 
 -- the unmet obligations of a run
-abbrev pub unmet : List Line → List Filled → List Obligation
-unmet ls run = unmetBy run (flatMap owedAtStart ls) ++ unmetLater ls run
+abbrev pub unmet : ℤ → List Line → List Filled → List Obligation
+unmet most ls run = unmetBy run (flatMap owedAtStart ls) ++ unmetLater most ls run
 
 -- an obligation that isn't met must have its due at or above the last on-tag (with no instant it has)
 abbrev pub notLate : Option (List ℤ) → List Obligation → Bool
@@ -122,4 +127,4 @@ countdowns ls run = byLater (λ f later. leftBy later (flatMap (countedFrom f) l
 
 -- ---- a filled run fits
 unfoldable pub fits : SheetValue → List Filled → Bool
-fits s run = always (fitsAt s) [] run && notLate (lastTags run) (unmet (s .lines) run)
+fits s run = always (fitsAt s) [] run && notLate (lastTags run) (unmet mostTag (s .lines) run)

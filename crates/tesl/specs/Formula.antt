@@ -57,6 +57,10 @@ Holds (Kills A B) run = (n m : ℕ) → n ≤ m → m < length run → Ticking r
 Holds (Counted A B D n) run =
     (i j : ℕ) → i < j → j < length run → Ticking run A i → Ticking run B j → ticksBelow run B (suc j) ≡ ticksBelow run B (suc i) + n → Ticking run D j
 
+-- no tag of the run exceeds the end of the scale
+abbrev pub WithinScale : ℤ → List Filled → Type 0
+WithinScale most run = (K n : ℕ) → tag run K n ≤ℤ most
+
 -- no tag of the first C clocks falls
 abbrev pub NoneFalls : ℕ → List Filled → Type 0
 NoneFalls C run = (K n : ℕ) → K < C → suc n < length run → tag run K n ≤ℤ tag run K (suc n)

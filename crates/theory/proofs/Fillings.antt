@@ -8,7 +8,7 @@ use lib.IntN.{ℤ}
 use Rattle.records.specs.Sheet.{SheetValue}
 use Rattle.tesl.specs.Lists.{any, filter, lastOf, always}
 use Rattle.tesl.specs.Run.{Instant, ticksOf, tagsOf, Filled, fillTicks, fillings, runFillings}
-use Rattle.tesl.specs.Fits.{lastTags, fitsAt, unmet, notLate, fits}
+use Rattle.tesl.specs.Fits.{lastTags, fitsAt, mostTag, unmet, notLate, fits}
 use Rattle.tesl.specs.Remainder.{Remainder, remainder}
 use Rattle.theory.specs.Step.{next, stepOk, lastTagsOf, nexts, wellFormed}
 use Rattle.tesl.proofs.Tests.{and-l}
@@ -97,7 +97,7 @@ found-snoc s wf run i p =
         ∙ and-assoc (fits s w) (stepOk s (lastTags w) f (remainder s w)) (p (remainder s (w ++ (f ∷ []))))
         ∙ and-under (fits s w) (stepOk s (lastTags w) f (remainder s w) && p (remainder s (w ++ (f ∷ []))))
         (stepOk s (lastTagsOf run) f (remainder s w) && p (next s f (remainder s w)))
-        (λ t. ap (λ (r : Remainder). stepOk s (lastTags w) f (remainder s w) && p r) (remainder-snoc s w f (and-l (always (fitsAt s) [] w) (notLate (lastTags w) (unmet (s .lines) w)) t))
+        (λ t. ap (λ (r : Remainder). stepOk s (lastTags w) f (remainder s w) && p r) (remainder-snoc s w f (and-l (always (fitsAt s) [] w) (notLate (lastTags w) (unmet mostTag (s .lines) w)) t))
         ∙ ap (λ (l : List (List ℤ)). stepOk s (lastOf l) f (remainder s w) && p (next s f (remainder s w))) e)
 
 -- ---- once no filling fits, no longer run fits: of a run that fits by some filling, each beginning does

@@ -5,13 +5,14 @@ use mathlib.Core.Path.{_≡_, sym, _∙_, subst}
 use Prim.Native.Nat.{ℕ, suc, _≤_, _<_}
 use native.Mathlib.Omega.{arith}
 use lib.Dec.{T, leb}
+use lib.IntN.{ℤ}
 use lib.ListN.{length}
 use Rattle.records.specs.declared.line.Line.{Line}
 use Rattle.records.specs.Line.{isSporadic, kindOf, ofPrecedes}
 use Rattle.records.specs.Types.{IsTag, IsLineValue}
 use Rattle.tesl.specs.Lists.{all}
 use Rattle.tesl.specs.Run.{Filled, ticksAt, tagAt}
-use Rattle.tesl.specs.Fits.{ticksIn, holdsAt, Obligation, owedAtStart, owedFrom, countedFrom, countdowns}
+use Rattle.tesl.specs.Fits.{ticksIn, holdsAt, mostTag, Obligation, owedAtStart, owedFrom, countedFrom, countdowns}
 use Rattle.tesl.specs.Remainder.{leadOf, stops}
 use Rattle.theory.specs.Step.{bit, lineOk, nextLead, misses, noneMissed, startedBy, lineBelow}
 use Rattle.theory.specs.Limits.{dueOk, clocksOk, countdownOk}
@@ -35,13 +36,13 @@ pub record Stops (l : Line) : Type 0 where
   pub below : (run : List Filled) (c k : ℕ) → T (lineBelow c l) → T (stops run k l) → k < c
   pub quiet : (run : List Filled) (f : Filled) (k : ℕ) → T (holdsAt l run f) → T (stops run k l) → T (ticksAt f k) → ⊥
 
--- ---- its obligations: how many from the start, their clocks, and their dues from tags and a delay of 16 bits
+-- ---- its obligations: how many from the start, their clocks, and their dues, from a tag on and on the scale
 pub record Owes (l : Line) : Type 0 where
   pub start-number : length (owedAtStart l) ≤ bit (isSporadic (kindOf l))
   pub start-clocks : (c : ℕ) → T (lineBelow c l) → T (all (clocksOk c) (owedAtStart l))
-  pub begun-clocks : (c : ℕ) (f : Filled) → T (lineBelow c l) → T (all (clocksOk c) (owedFrom f l))
-  pub start-dues : IsLineValue l → T (all (λ (o : Obligation). dueOk (o .due)) (owedAtStart l))
-  pub begun-dues : (f : Filled) → ((k : ℕ) → IsTag (tagAt f k)) → IsLineValue l → T (all (λ (o : Obligation). dueOk (o .due)) (owedFrom f l))
+  pub begun-clocks : (most : ℤ) (c : ℕ) (f : Filled) → T (lineBelow c l) → T (all (clocksOk c) (owedFrom most f l))
+  pub start-dues : IsLineValue l → T (all (λ (o : Obligation). dueOk mostTag (o .due)) (owedAtStart l))
+  pub begun-dues : (most : ℤ) (f : Filled) → ((k : ℕ) → IsTag (tagAt f k)) → T (all (λ (o : Obligation). dueOk most (o .due)) (owedFrom most f l))
 
 -- ---- its countdowns: where it holds none is missed; their clocks, and 1 to 255 wanted
 pub record Counts (l : Line) : Type 0 where
@@ -79,13 +80,13 @@ no-stop l e = record {
   quiet = λ run f k h t u. subst T (e run k) t;
 }
 
-pub no-owed : (l : Line) → owedAtStart l ≡ [] → ((f : Filled) → owedFrom f l ≡ []) → Owes l
+pub no-owed : (l : Line) → owedAtStart l ≡ [] → ((most : ℤ) (f : Filled) → owedFrom most f l ≡ []) → Owes l
 no-owed l e g = record {
   start-number = rw e (omega arith);
   start-clocks = λ c w. rw e tt;
-  begun-clocks = λ c f w. rw (g f) tt;
+  begun-clocks = λ most c f w. rw (g most f) tt;
   start-dues = λ v. rw e tt;
-  begun-dues = λ f t v. rw (g f) tt;
+  begun-dues = λ most f t. rw (g most f) tt;
 }
 
 pub no-count : (l : Line) → ((f : Filled) → countedFrom f l ≡ []) → Counts l

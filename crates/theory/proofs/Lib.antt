@@ -20,6 +20,7 @@ pub mod Answers
 pub mod Limits
 pub mod Opened
 pub mod Accepted
+pub mod Scale
 pub mod Tracks
 -- The unmet obligations and the countdowns, with quantifiers.
 pub mod Unmet

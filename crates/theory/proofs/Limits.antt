@@ -14,7 +14,7 @@ use Rattle.records.specs.Sheet.{SheetValue}
 use Rattle.records.specs.Types.{All, IsTag, IsLineValue, IsInstant}
 use Rattle.tesl.specs.Lists.{all, any}
 use Rattle.tesl.specs.Run.{Instant, ticksOf, tagsOf, Filled, tagIn, tagAt, fillTicks, fillings, runFillings}
-use Rattle.tesl.specs.Fits.{Obligation, unmet, Countdown, ticksIn, leftOf, leftBy, fits}
+use Rattle.tesl.specs.Fits.{mostTag, Obligation, unmet, Countdown, ticksIn, leftOf, leftBy, fits}
 use Rattle.tesl.specs.Remainder.{Remainder, leadOf, remainder, sameRemainder, owes}
 use Rattle.tesl.specs.Answer.{exhausted, remainders, answerWithin}
 use Rattle.theory.specs.Step.{nextLead, nextLeads, nextOwed, startedBy, begunCountdowns, nextCountdowns, next, stepOk, lastTagsOf, nexts, lineBelow, wellFormed}
@@ -69,12 +69,12 @@ left-within c later x t = by-test (ltb m (x .wanted)) (ltb→lt m (x .wanted))
     by-test false l = tt
 
 -- the limits cannot tell apart what is the same, however its obligations and countdowns are kept
-pub same-within : (c held : ℕ) (a b : Remainder) → T (sameRemainder a b) → withinLimits c held a ≡ withinLimits c held b
+pub same-within : (most : ℤ) (c held : ℕ) (a b : Remainder) → T (sameRemainder a b) → withinLimits most c held a ≡ withinLimits most c held b
 unfolding withinLimits
-same-within c held a b t =
+same-within most c held a b t =
     let h = alike a b t in
     let test : (p : Obligation → Bool) → all p (a .owed) ≡ all p (b .owed) = λ p. all-equal owed-equality p (a .owed) (b .owed) (h .owed) in
-    rw (test (clocksOk c), test (λ o. dueOk (o .due)), all-equal count-equality (countdownOk c) (a .countdowns) (b .countdowns) (h .countdowns), h .leads)
+    rw (test (clocksOk c), test (λ o. dueOk most (o .due)), all-equal count-equality (countdownOk c) (a .countdowns) (b .countdowns) (h .countdowns), h .leads)
 
 -- a sheet as it is read: clocks of lines below C, fields of their sizes
 module _ (s : SheetValue) (wf : T (wellFormed s)) (values : All IsLineValue (s .lines)) where
@@ -96,36 +96,36 @@ module _ (s : SheetValue) (wf : T (wellFormed s)) (values : All IsLineValue (s .
       (begun-within f)
 
   pub next-within : (f : Filled) → ((k : ℕ) → IsTag (tagAt f k)) → (held : ℕ) (r : Remainder)
-      → T (withinLimits (s .clocks) held r) → T (withinLimits (s .clocks) (suc held) (next s f r))
+      → T (withinLimits mostTag (s .clocks) held r) → T (withinLimits mostTag (s .clocks) (suc held) (next s f r))
   unfolding withinLimits next
   next-within f tags held r t =
       let clocks = clocksOk (s .clocks) in
-      let dues : Obligation → Bool = λ o. dueOk (o .due) in
+      let dues : Obligation → Bool = λ o. dueOk mostTag (o .due) in
       let counted = countdownOk (s .clocks) in
       let small : ℕ → List ℕ → Bool = λ k. all (λ (n : ℕ). leb n k) in
       let owed = all clocks (r .owed) && all dues (r .owed) in
       let rest = all counted (r .countdowns) && small held (r .leads) in
       let u = and-l owed rest t in
       let v = and-r owed rest t in
-      let after = nextOwed (s .lines) f (r .owed) in
+      let after = nextOwed mostTag (s .lines) f (r .owed) in
       let counts = nextCountdowns (s .lines) f (r .countdowns) in
       let leads = nextLeads (nextLead f) (s .lines) (r .leads) in
       and-i (all clocks after && all dues after) (all counted counts && small (suc held) leads)
       (and-i (all clocks after) (all dues after)
-      (next-clocks (s .clocks) (s .lines) wf f (r .owed) (and-l (all clocks (r .owed)) (all dues (r .owed)) u))
-      (next-all dues IsLineValue f (λ l v. law l .owes .begun-dues f tags v) (s .lines) values (r .owed) (and-r (all clocks (r .owed)) (all dues (r .owed)) u)))
+      (next-clocks (s .clocks) mostTag (s .lines) wf f (r .owed) (and-l (all clocks (r .owed)) (all dues (r .owed)) u))
+      (next-all dues mostTag IsLineValue f (λ l v. law l .owes .begun-dues mostTag f tags) (s .lines) values (r .owed) (and-r (all clocks (r .owed)) (all dues (r .owed)) u)))
       (and-i (all counted counts) (small (suc held) leads)
       (countdowns-within f (r .countdowns) (and-l (all counted (r .countdowns)) (small held (r .leads)) v))
       (leads-within f held (s .lines) (r .leads) (and-r (all counted (r .countdowns)) (small held (r .leads)) v)))
 
-  pub start-within : T (withinLimits (s .clocks) 0 (remainder s []))
+  pub start-within : T (withinLimits mostTag (s .clocks) 0 (remainder s []))
   unfolding withinLimits remainder
   start-within =
-      let dues : Obligation → Bool = λ o. dueOk (o .due) in
-      let owed = unmet (s .lines) [] in
+      let dues : Obligation → Bool = λ o. dueOk mostTag (o .due) in
+      let owed = unmet mostTag (s .lines) [] in
       and-i (all (clocksOk (s .clocks)) owed && all dues owed) (all (λ (n : ℕ). leb n 0) (map (leadOf []) (s .lines)))
-      (and-i (all (clocksOk (s .clocks)) owed) (all dues owed) (start-clocks (s .clocks) (s .lines) wf)
-      (start-all dues IsLineValue (λ l v. law l .owes .start-dues v) (s .lines) values))
+      (and-i (all (clocksOk (s .clocks)) owed) (all dues owed) (start-clocks (s .clocks) mostTag (s .lines) wf)
+      (start-all dues mostTag IsLineValue (λ l v. law l .owes .start-dues v) (s .lines) values))
       (no-leads (s .lines))
     where
       no-leads : (ls : List Line) → T (all (λ (n : ℕ). leb n 0) (map (leadOf []) ls))
@@ -142,18 +142,18 @@ module _ (s : SheetValue) (wf : T (wellFormed s)) (values : All IsLineValue (s .
   instant-tags (c ∷ i) h (suc k) = instant-tags i (h .1) k
 
   beyond : ℕ → Remainder → Bool
-  beyond held r = not (withinLimits (s .clocks) held r)
+  beyond held r = not (withinLimits mostTag (s .clocks) held r)
 
   beyond-same : (held : ℕ) (x y : Remainder) → T (sameRemainder x y) → T (beyond held x) → T (beyond held y)
   unfolding beyond
-  beyond-same held x y e u = subst (λ (b : Bool). T (not b)) (same-within (s .clocks) held x y e) u
+  beyond-same held x y e u = subst (λ (b : Bool). T (not b)) (same-within mostTag (s .clocks) held x y e) u
 
   -- a successor beyond the limits has a remainder beyond them before it
   nexts-within : (last : Option (List ℤ)) (i : Instant) → IsInstant i → (held : ℕ) (r : Remainder) → T (any (beyond (suc held)) (nexts s last i r)) → T (beyond held r)
   unfolding beyond fillings
-  nexts-within last i h held r t = not-T (withinLimits (s .clocks) held r) (λ w.
+  nexts-within last i h held r t = not-T (withinLimits mostTag (s .clocks) held r) (λ w.
       none-any (λ (b : List Bool). late (filledBy b)) (fillTicks (ticksOf i))
-      (λ b u. T-not (withinLimits (s .clocks) (suc held) (next s (filledBy b) r)) (and-r (stepOk s last (filledBy b) r) (beyond (suc held) (next s (filledBy b) r)) u)
+      (λ b u. T-not (withinLimits mostTag (s .clocks) (suc held) (next s (filledBy b) r)) (and-r (stepOk s last (filledBy b) r) (beyond (suc held) (next s (filledBy b) r)) u)
       (next-within (filledBy b) (instant-tags i h) held r w))
       (subst T (any-nexts s last i (beyond (suc held)) r ∙ any-map late filledBy (fillTicks (ticksOf i))) t))
     where
@@ -166,7 +166,7 @@ module _ (s : SheetValue) (wf : T (wellFormed s)) (values : All IsLineValue (s .
   found-within : (run : List Instant) → All IsInstant run → T (any (beyond (length run)) (found s run)) → ⊥
   unfolding beyond fits runFillings
   found-within = snoc-ind (λ (run : List Instant). All IsInstant run → T (any (beyond (length run)) (found s run)) → ⊥)
-      (λ h t. T-not (withinLimits (s .clocks) 0 (remainder s [])) (subst T (or-false (beyond 0 (remainder s []))) t) start-within)
+      (λ h t. T-not (withinLimits mostTag (s .clocks) 0 (remainder s [])) (subst T (or-false (beyond 0 (remainder s []))) t) start-within)
       (λ run i ih h t.
       let r = snoc-each IsInstant run h in
       let n : length (run ++ (i ∷ [])) ≡ suc (length run) = omega (arith, length-append run (i ∷ [])) in
@@ -177,23 +177,23 @@ module _ (s : SheetValue) (wf : T (wellFormed s)) (values : All IsLineValue (s .
 
   -- from any held ones within the limits, whether a run has them or not, and some of their successors
   pub successors-within : (last : Option (List ℤ)) (i : Instant) → IsInstant i → (held : ℕ) (rs new : List Remainder) → Covers sameRemainder new (successors s last i rs)
-      → T (all (withinLimits (s .clocks) held) rs) → T (all (withinLimits (s .clocks) (suc held)) new)
+      → T (all (withinLimits mostTag (s .clocks) held) rs) → T (all (withinLimits mostTag (s .clocks) (suc held)) new)
   unfolding beyond successors
   successors-within last i h held rs new c w =
-      subst T (sym (all-as-any (withinLimits (s .clocks) (suc held)) new)) (not-T (any (beyond (suc held)) new)
-      (λ t. T-not (any (beyond held) rs) (subst T (all-as-any (withinLimits (s .clocks) held) rs) w)
+      subst T (sym (all-as-any (withinLimits mostTag (s .clocks) (suc held)) new)) (not-T (any (beyond (suc held)) new)
+      (λ t. T-not (any (beyond held) rs) (subst T (all-as-any (withinLimits mostTag (s .clocks) held) rs) w)
       (any-imp (λ (r : Remainder). any (beyond (suc held)) (nexts s last i r)) (beyond held) rs (nexts-within last i h held)
       (subst T (any-flatMap (beyond (suc held)) (nexts s last i) rs)
       (any-covers sameRemainder remainder-equivalence (beyond (suc held)) (beyond-same (suc held)) new (successors s last i rs) c t)))))
 
-  pub held-within : (room : ℕ) (run : List Instant) (rs : List Remainder) → All IsInstant run → answerWithin room s run ≢ exhausted → Held s run rs → HeldLimits room (s .clocks) (length run) rs
+  pub held-within : (room : ℕ) (run : List Instant) (rs : List Remainder) → All IsInstant run → answerWithin room s run ≢ exhausted → Held s run rs → HeldLimits mostTag room (s .clocks) (length run) rs
   unfolding remainders beyond
   held-within room run rs h n held =
       let few = held-few room s run rs n held in
       record {
         live = few .0;
         owe = few .1;
-        within = subst T (sym (all-as-any (withinLimits (s .clocks) (length run)) rs)) (not-T (any (beyond (length run)) rs)
+        within = subst T (sym (all-as-any (withinLimits mostTag (s .clocks) (length run)) rs)) (not-T (any (beyond (length run)) rs)
             (λ t. found-within run h (subst T
             (any-set sameRemainder remainder-equivalence (beyond (length run)) (beyond-same (length run)) rs (found s run)
             (λ x. held .these x ∙ distinct-set sameRemainder remainder-equivalence (found s run) x)) t)));

@@ -5,13 +5,14 @@ use mathlib.Core.Path.{_≡_, refl, sym, subst}
 use Prim.Native.Nat.{ℕ, suc, _+_, _-_, _≤_, _<_}
 use native.Mathlib.Omega.{arith}
 use lib.Dec.{T, T-not, not-T, leb, ltb, eqb, leb→le, le→leb, ltb→lt, eqb→eq, eqb-refl}
-use lib.IntN.{ℤ, pos, _+ℤ_}
+use lib.IntN.{ℤ, pos, negsuc, _+ℤ_}
+use lib.Signed.{leZ}
 use Rattle.records.specs.declared.line.Line.{Line}
 use Rattle.records.specs.declared.line.Line.the-variants.{Sporadic, Relation, Implies, Excludes, Delayed, Weakly, Strictly, Kills, Counted}
 use Rattle.records.specs.Line.{clocksOf}
 use Rattle.tesl.specs.Lists.{all, any}
 use Rattle.tesl.specs.Run.{Filled, ticksAt, tagAt}
-use Rattle.tesl.specs.Fits.{ticksIn, Obligation, Countdown, leftBy}
+use Rattle.tesl.specs.Fits.{ticksIn, mostTag, Obligation, Countdown, leftBy}
 use Rattle.theory.specs.Step.{bit}
 use Rattle.theory.specs.Limits.{dueOk, clocksOk, countdownOk}
 use Rattle.tesl.proofs.Tests.{and-l, and-r, and-i, or-l, or-r, or-e}
@@ -35,9 +36,9 @@ sporadic-law A B t = record {
   owes = record {
     start-number = omega arith;
     start-clocks = λ c w. two-clocks A B c w;
-    begun-clocks = λ c f w. tt;
-    start-dues = λ v. and-i (dueOk t) true (tag-due t (v .2)) tt;
-    begun-dues = λ f g v. tt;
+    begun-clocks = λ most c f w. tt;
+    start-dues = λ v. and-i (dueOk mostTag t) true (tag-due t (v .2)) tt;
+    begun-dues = λ most f g. tt;
   };
   counts = no-count (Sporadic A B t) (λ f. refl);
   judged = by-instant (Sporadic A B t) (λ run f. refl);
@@ -49,7 +50,7 @@ relation-law : (A B : ℕ) (p q : ℤ) → Law (Relation A B p q)
 relation-law A B p q = record {
   leads = no-lead (Relation A B p q) (λ run. refl) (λ run. refl) (λ f n. refl);
   stops = no-stop (Relation A B p q) (λ run k. refl);
-  owes = no-owed (Relation A B p q) refl (λ f. refl);
+  owes = no-owed (Relation A B p q) refl (λ most f. refl);
   counts = no-count (Relation A B p q) (λ f. refl);
   judged = by-instant (Relation A B p q) (λ run f. refl);
 }
@@ -58,7 +59,7 @@ implies-law : (A B : ℕ) → Law (Implies A B)
 implies-law A B = record {
   leads = no-lead (Implies A B) (λ run. refl) (λ run. refl) (λ f n. refl);
   stops = no-stop (Implies A B) (λ run k. refl);
-  owes = no-owed (Implies A B) refl (λ f. refl);
+  owes = no-owed (Implies A B) refl (λ most f. refl);
   counts = no-count (Implies A B) (λ f. refl);
   judged = by-instant (Implies A B) (λ run f. refl);
 }
@@ -67,17 +68,17 @@ excludes-law : (A B : ℕ) → Law (Excludes A B)
 excludes-law A B = record {
   leads = no-lead (Excludes A B) (λ run. refl) (λ run. refl) (λ f n. refl);
   stops = no-stop (Excludes A B) (λ run k. refl);
-  owes = no-owed (Excludes A B) refl (λ f. refl);
+  owes = no-owed (Excludes A B) refl (λ most f. refl);
   counts = no-count (Excludes A B) (λ f. refl);
   judged = by-instant (Excludes A B) (λ run f. refl);
 }
 
 -- ---- delayed: each tick of A begins an obligation
 
--- what holds of the one holds of what a tick or none of A begins
-when-ticks : {X : Type 0} (p : X → Bool) (b : Bool) (o : X) → T (p o) → T (all p (cond b (o ∷ []) []))
-when-ticks p true o t = and-i (p o) true t tt
-when-ticks p false o t = tt
+-- what holds of the one, if it is begun, holds of what is begun
+if-begun : {X : Type 0} (p : X → Bool) (b : Bool) (o : X) → (T b → T (p o)) → T (all p (cond b (o ∷ []) []))
+if-begun p true o t = and-i (p o) true (t tt) tt
+if-begun p false o t = tt
 
 delayed-law : (A B D d : ℕ) → Law (Delayed A B D d)
 unfolding clocksOf
@@ -87,19 +88,27 @@ delayed-law A B D d = record {
   owes = record {
     start-number = omega arith;
     start-clocks = λ c w. tt;
-    begun-clocks = λ c f w.
+    begun-clocks = λ most c f w.
         let u = and-r (ltb A c) (ltb B c && (ltb D c && true)) w in
-        when-ticks (clocksOk c) (ticksAt f A) (begun f)
-        (and-i (ltb D c) (ltb B c) (and-l (ltb D c) true (and-r (ltb B c) (ltb D c && true) u)) (and-l (ltb B c) (ltb D c && true) u));
+        if-begun (clocksOk c) (begins most f) (begun f)
+        (λ t. and-i (ltb D c) (ltb B c) (and-l (ltb D c) true (and-r (ltb B c) (ltb D c && true) u)) (and-l (ltb B c) (ltb D c && true) u));
     start-dues = λ v. tt;
-    begun-dues = λ f g v. when-ticks (λ (o : Obligation). dueOk (o .due)) (ticksAt f A) (begun f) (delay-due (tagAt f B) d (g B) (v .3));
+    begun-dues = λ most f g.
+        if-begun (λ (o : Obligation). dueOk most (o .due)) (begins most f) (begun f)
+        (λ t. and-i (leZ (negsuc 32767) (due f)) (leZ (due f) most) (delay-due (tagAt f B) d (g B)) (and-r (ticksAt f A) (leZ (due f) most) t));
   };
   counts = no-count (Delayed A B D d) (λ f. refl);
   judged = by-instant (Delayed A B D d) (λ run f. refl);
 }
   where
+    due : Filled → ℤ
+    due f = tagAt f B +ℤ pos d
+
+    begins : ℤ → Filled → Bool
+    begins most f = ticksAt f A && leZ (due f) most
+
     begun : Filled → Obligation
-    begun f = record { clock = D; due = tagAt f B +ℤ pos d; on = B }
+    begun f = record { clock = D; due = due f; on = B }
 
 -- ---- precedes: the lead
 
@@ -124,7 +133,7 @@ weakly-law A B = record {
     grows = λ f n held h. lead-grows (ticksAt f A) (ticksAt f B) n held h;
   };
   stops = no-stop (Weakly A B) (λ run k. refl);
-  owes = no-owed (Weakly A B) refl (λ f. refl);
+  owes = no-owed (Weakly A B) refl (λ most f. refl);
   counts = no-count (Weakly A B) (λ f. refl);
   judged = record {
     asks = λ run f o h. le→leb (bit (ticksAt f B)) (ticksIn A run - ticksIn B run + bit (ticksAt f A))
@@ -145,7 +154,7 @@ strictly-law A B = record {
     grows = λ f n held h. lead-grows (ticksAt f A) (ticksAt f B) n held h;
   };
   stops = no-stop (Strictly A B) (λ run k. refl);
-  owes = no-owed (Strictly A B) refl (λ f. refl);
+  owes = no-owed (Strictly A B) refl (λ most f. refl);
   counts = no-count (Strictly A B) (λ f. refl);
   judged = record {
     asks = λ run f o h. le→leb (bit (ticksAt f B)) (ticksIn A run - ticksIn B run)
@@ -169,7 +178,7 @@ kills-law A B = record {
         (and-i (ticksAt f B) (any ticked (run ++ (f ∷ []))) (subst (λ (j : ℕ). T (ticksAt f j)) (sym (eqb→eq B k (and-l (eqb B k) (any ticked run) t))) u)
         (subst T (sym (any-snoc ticked run f)) (or-l (any ticked run) (ticked f) (and-r (eqb B k) (any ticked run) t))));
   };
-  owes = no-owed (Kills A B) refl (λ f. refl);
+  owes = no-owed (Kills A B) refl (λ most f. refl);
   counts = no-count (Kills A B) (λ f. refl);
   judged = record {
     asks = λ run f o h. not-T (ticksAt f B && ticked f)
@@ -194,7 +203,7 @@ unfolding clocksOf
 counted-law A B D n = record {
   leads = no-lead (Counted A B D n) (λ run. refl) (λ run. refl) (λ f k. refl);
   stops = no-stop (Counted A B D n) (λ run k. refl);
-  owes = no-owed (Counted A B D n) refl (λ f. refl);
+  owes = no-owed (Counted A B D n) refl (λ most f. refl);
   counts = record {
     none-missed = λ run f h. subst T (counted-asks A B D n run f) h;
     begun-limits = λ c f w v.

@@ -1,5 +1,5 @@
 -- Demand 3 as one statement about the list of calls: a monitor of any kind whose single calls follow the plain machine answers what the machine answers, opening and every call, and its last monitor follows the machine's list.
--- And what holds of the machine's answer for every run holds of each answer of its session. Assumes nothing.
+-- And what holds of the machine's answer for every run on the scale holds of each answer of its session. Assumes nothing.
 use mathlib.Core.List.{List, [], _∷_, _++_}
 use mathlib.Core.Option.{Option, none, some}
 use mathlib.Core.Path.{_≡_, refl, sym, ap, _∙_, subst}
@@ -9,10 +9,13 @@ use Rattle.records.specs.Outcome.{Outcome, taken, refused}
 use Rattle.records.specs.Sheet.{SheetValue}
 use Rattle.records.proofs.Lists.{refused-taken}
 use Rattle.tesl.specs.Run.{Instant}
+use Rattle.tesl.specs.Fits.{mostTag}
 use Rattle.tesl.specs.Answer.{Answer, answer}
 use Rattle.tesl.specs.Machine as tesl
 use Rattle.tesl.specs.Machine.{accepts, listAfter, reply, machine, listAfterCalls, Session, Reader, session}
+use Rattle.theory.specs.Limits.{OnScale}
 use Rattle.theory.specs.Session.{OpenedMonitor, Calls, no-call, call, Ran, not-opened, opened, Opening, refuses, opens, FollowsMachine, SameSession, lastAnswer, ReplyTo, EachReply, Answered, EachAnswer}
+use Rattle.theory.proofs.Scale.{list-scale}
 
 module _ {M : Type 0} (read : Reader) (Opens : List ℕ → Outcome (OpenedMonitor M) → Type 0) (Observes : M → List ℕ → Outcome Answer → M → Type 0)
     (Follows : SheetValue → List Instant → M → Type 0) (laws : FollowsMachine read Opens Observes Follows) where
@@ -55,15 +58,22 @@ last-held s run (bytes ∷ calls) = by-outcome (accepts s run bytes) (last-held 
     by-outcome (refused n) h = h
     by-outcome (taken i) h = h
 
-module _ (P : SheetValue → List Instant → Answer → Type 0) (holds : (s : SheetValue) (run : List Instant) → P s run (answer s run)) where
-  each-reply : (s : SheetValue) (run : List Instant) (calls : List (List ℕ)) → EachReply P s run calls (machine s run calls)
+module _ (P : SheetValue → List Instant → Answer → Type 0) (holds : (s : SheetValue) (run : List Instant) → OnScale mostTag run → P s run (answer s run)) where
+  each-reply : (s : SheetValue) (run : List Instant) → OnScale mostTag run → (calls : List (List ℕ)) → EachReply P s run calls (machine s run calls)
   unfolding machine
-  each-reply s run [] = tt
-  each-reply s run (bytes ∷ calls) = (one (accepts s run bytes), each-reply s (listAfter run (accepts s run bytes)) calls)
+  each-reply s run on [] = tt
+  each-reply s run on (bytes ∷ calls) =
+      let after = list-scale s run bytes on in
+      (one (accepts s run bytes) after, each-reply s (listAfter run (accepts s run bytes)) after calls)
     where
-      one : (o : Outcome Instant) → ReplyTo P s run o (reply s run o)
-      one (refused n) = refl
-      one (taken i) = (answer s (run ++ (i ∷ [])), refl, holds s (run ++ (i ∷ [])))
+      one : (o : Outcome Instant) → OnScale mostTag (listAfter run o) → ReplyTo P s run o (reply s run o)
+      one (refused n) on = refl
+      one (taken i) on = (answer s (run ++ (i ∷ [])), refl, holds s (run ++ (i ∷ [])) on)
+
+  list-on-scale : (s : SheetValue) (run : List Instant) → OnScale mostTag run → (calls : List (List ℕ)) → OnScale mostTag (listAfterCalls s run calls)
+  unfolding listAfterCalls
+  list-on-scale s run on [] = on
+  list-on-scale s run on (bytes ∷ calls) = list-on-scale s (listAfter run (accepts s run bytes)) (list-scale s run bytes on) calls
 
   pub each-answer : (read : Reader) (sheet : List ℕ) (calls : List (List ℕ)) → EachAnswer P read sheet calls (session read sheet calls)
   unfolding session
@@ -77,8 +87,8 @@ module _ (P : SheetValue → List Instant → Answer → Type 0) (holds : (s : S
             let q : s ≡ t = cc in
             subst (λ (v : SheetValue). Answered P v calls (record { opening = taken (answer s []); replies = machine s [] calls })) q (record {
               first = answer s [];
-              opening = (refl, holds s []);
-              replies = each-reply s [] calls;
-              last = subst (P s (listAfterCalls s [] calls)) (sym (last-held s [] calls)) (holds s (listAfterCalls s [] calls));
+              opening = (refl, holds s [] tt);
+              replies = each-reply s [] tt calls;
+              last = subst (P s (listAfterCalls s [] calls)) (sym (last-held s [] calls)) (holds s (listAfterCalls s [] calls) (list-on-scale s [] tt calls));
             });
       }

@@ -17,7 +17,7 @@ use Rattle.records.proofs.Lists.{Passed, taken-passed}
 use Rattle.records.proofs.sheet.Passed.{Below, lines-passed}
 use Rattle.records.proofs.sheet.RoundTrip.{read-writes}
 use Rattle.tesl.specs.Lists.{all, flatMap}
-use Rattle.tesl.specs.Fits.{owedAtStart, unmet}
+use Rattle.tesl.specs.Fits.{mostTag, owedAtStart, unmet}
 use Rattle.tesl.specs.Remainder.{Remainder, remainder, sameObligation, sameRemainder, owes, counts, overfull}
 use Rattle.tesl.specs.Answer.{answerWithin, judged}
 use Rattle.theory.specs.Step.{bit, lineBelow}
@@ -69,7 +69,7 @@ pub opening-owes : (s : SheetValue) → SheetLimits s → owes (remainder s []) 
 unfolding owes remainder
 opening-owes s h =
     let start = flatMap owedAtStart (s .lines) in
-    let e : unmet (s .lines) [] ≡ start = append-nil _ ∙ filter-true start in
+    let e : unmet mostTag (s .lines) [] ≡ start = append-nil _ ∙ filter-true start in
     let le = number-most sameObligation owed-equivalence start in
     rw e (omega (arith, start-owes (s .lines), h .sporadics-most))
 

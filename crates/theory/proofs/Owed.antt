@@ -34,56 +34,56 @@ unmetBy-snoc run f os =
     (fun-ext (λ o. ap not (any-snoc (λ (g : Filled). meets g o) run f) ∙ not-or (any (λ (g : Filled). meets g o) run) (meets f o)))
     ∙ sym (filter-filter (λ (o : Obligation). not (meets f o)) (λ (o : Obligation). not (any (λ (g : Filled). meets g o) run)) os)
 
-unmetLater-snoc : (ls : List Line) (run : List Filled) (f : Filled) → unmetLater ls (run ++ (f ∷ [])) ≡ nextOwed ls f (unmetLater ls run)
-unmetLater-snoc ls run f =
-    byLater-snoc (λ g later. unmetBy later (flatMap (owedFrom g) ls)) (filter (λ (o : Obligation). not (meets f o))) refl (filter-append (λ (o : Obligation). not (meets f o))) f
-    (λ g later. unmetBy-snoc later f (flatMap (owedFrom g) ls)) run
-    ∙ ap (λ (os : List Obligation). filter (λ (o : Obligation). not (meets f o)) (unmetLater ls run) ++ os) (filter-true (flatMap (owedFrom f) ls))
+unmetLater-snoc : (most : ℤ) (ls : List Line) (run : List Filled) (f : Filled) → unmetLater most ls (run ++ (f ∷ [])) ≡ nextOwed most ls f (unmetLater most ls run)
+unmetLater-snoc most ls run f =
+    byLater-snoc (λ g later. unmetBy later (flatMap (owedFrom most g) ls)) (filter (λ (o : Obligation). not (meets f o))) refl (filter-append (λ (o : Obligation). not (meets f o))) f
+    (λ g later. unmetBy-snoc later f (flatMap (owedFrom most g) ls)) run
+    ∙ ap (λ (os : List Obligation). filter (λ (o : Obligation). not (meets f o)) (unmetLater most ls run) ++ os) (filter-true (flatMap (owedFrom most f) ls))
 
-pub unmet-snoc : (ls : List Line) (run : List Filled) (f : Filled) → unmet ls (run ++ (f ∷ [])) ≡ nextOwed ls f (unmet ls run)
-unmet-snoc ls run f =
+pub unmet-snoc : (most : ℤ) (ls : List Line) (run : List Filled) (f : Filled) → unmet most ls (run ++ (f ∷ [])) ≡ nextOwed most ls f (unmet most ls run)
+unmet-snoc most ls run f =
     let kept : Obligation → Bool = λ o. not (meets f o) in
     let start = flatMap owedAtStart ls in
-    (λ i. unmetBy-snoc run f start i ++ unmetLater-snoc ls run f i)
-    ∙ sym (append-assoc (filter kept (unmetBy run start)) (filter kept (unmetLater ls run)) (flatMap (owedFrom f) ls))
-    ∙ ap (λ (l : List Obligation). l ++ flatMap (owedFrom f) ls) (sym (filter-append kept (unmetBy run start) (unmetLater ls run)))
+    (λ i. unmetBy-snoc run f start i ++ unmetLater-snoc most ls run f i)
+    ∙ sym (append-assoc (filter kept (unmetBy run start)) (filter kept (unmetLater most ls run)) (flatMap (owedFrom most f) ls))
+    ∙ ap (λ (l : List Obligation). l ++ flatMap (owedFrom most f) ls) (sym (filter-append kept (unmetBy run start) (unmetLater most ls run)))
 
 -- ---- a test that passes of what each line owes at the start and begins passes of what is unmet
 
 pub append-i : {A : Type 0} (p : A → Bool) (xs ys : List A) → T (all p xs) → T (all p ys) → T (all p (xs ++ ys))
 append-i p xs ys s t = subst T (sym (all-append p xs ys)) (and-i (all p xs) (all p ys) s t)
 
-module _ (p : Obligation → Bool) (P : Line → Type 0) where
+module _ (p : Obligation → Bool) (most : ℤ) (P : Line → Type 0) where
   of-lines : (g : Line → List Obligation) → ((l : Line) → P l → T (all p (g l))) → (ls : List Line) → All P ls → T (all p (flatMap g ls))
   of-lines g h [] w = tt
   of-lines g h (l ∷ ls) w = append-i p (g l) (flatMap g ls) (h l (w .0)) (of-lines g h ls (w .1))
 
-  pub start-all : ((l : Line) → P l → T (all p (owedAtStart l))) → (ls : List Line) → All P ls → T (all p (unmet ls []))
+  pub start-all : ((l : Line) → P l → T (all p (owedAtStart l))) → (ls : List Line) → All P ls → T (all p (unmet most ls []))
   start-all h ls w =
       append-i p (unmetBy [] (flatMap owedAtStart ls)) []
       (filter-all p (λ (o : Obligation). not (any (λ (f : Filled). meets f o) [])) (flatMap owedAtStart ls) (of-lines owedAtStart h ls w)) tt
 
-  pub next-all : (f : Filled) → ((l : Line) → P l → T (all p (owedFrom f l))) → (ls : List Line) → All P ls
-      → (os : List Obligation) → T (all p os) → T (all p (nextOwed ls f os))
+  pub next-all : (f : Filled) → ((l : Line) → P l → T (all p (owedFrom most f l))) → (ls : List Line) → All P ls
+      → (os : List Obligation) → T (all p os) → T (all p (nextOwed most ls f os))
   next-all f h ls w os t =
-      append-i p (filter (λ (o : Obligation). not (meets f o)) os) (flatMap (owedFrom f) ls)
+      append-i p (filter (λ (o : Obligation). not (meets f o)) os) (flatMap (owedFrom most f) ls)
       (filter-all p (λ (o : Obligation). not (meets f o)) os t)
-      (of-lines (owedFrom f) h ls w)
+      (of-lines (owedFrom most f) h ls w)
 
 pub lines-below : (c : ℕ) (ls : List Line) → T (all (lineBelow c) ls) → All (λ (l : Line). T (lineBelow c l)) ls
 lines-below c [] w = tt
 lines-below c (l ∷ ls) w = (and-l (lineBelow c l) (all (lineBelow c) ls) w, lines-below c ls (and-r (lineBelow c l) (all (lineBelow c) ls) w))
 
-module _ (c : ℕ) (ls : List Line) (w : T (all (lineBelow c) ls)) where
-  pub start-clocks : T (all (clocksOk c) (unmet ls []))
-  start-clocks = start-all (clocksOk c) (λ (l : Line). T (lineBelow c l)) (λ l v. law l .owes .start-clocks c v) ls (lines-below c ls w)
+module _ (c : ℕ) (most : ℤ) (ls : List Line) (w : T (all (lineBelow c) ls)) where
+  pub start-clocks : T (all (clocksOk c) (unmet most ls []))
+  start-clocks = start-all (clocksOk c) most (λ (l : Line). T (lineBelow c l)) (λ l v. law l .owes .start-clocks c v) ls (lines-below c ls w)
 
-  pub next-clocks : (f : Filled) (os : List Obligation) → T (all (clocksOk c) os) → T (all (clocksOk c) (nextOwed ls f os))
-  next-clocks f os t = next-all (clocksOk c) (λ (l : Line). T (lineBelow c l)) f (λ l v. law l .owes .begun-clocks c f v) ls (lines-below c ls w) os t
+  pub next-clocks : (f : Filled) (os : List Obligation) → T (all (clocksOk c) os) → T (all (clocksOk c) (nextOwed most ls f os))
+  next-clocks f os t = next-all (clocksOk c) most (λ (l : Line). T (lineBelow c l)) f (λ l v. law l .owes .begun-clocks most c f v) ls (lines-below c ls w) os t
 
-  pub unmet-clocks : (run : List Filled) → T (all (clocksOk c) (unmet ls run))
-  unmet-clocks = snoc-ind (λ (run : List Filled). T (all (clocksOk c) (unmet ls run))) start-clocks
-      (λ run f t. subst (λ (os : List Obligation). T (all (clocksOk c) os)) (sym (unmet-snoc ls run f)) (next-clocks f (unmet ls run) t))
+  pub unmet-clocks : (run : List Filled) → T (all (clocksOk c) (unmet most ls run))
+  unmet-clocks = snoc-ind (λ (run : List Filled). T (all (clocksOk c) (unmet most ls run))) start-clocks
+      (λ run f t. subst (λ (os : List Obligation). T (all (clocksOk c) os)) (sym (unmet-snoc most ls run f)) (next-clocks f (unmet most ls run) t))
 
 -- ---- what isn't late after f wasn't late before it: the tags do not fall
 
@@ -99,12 +99,12 @@ one-earlier c was f n o t =
     (eqZ→eq (tagAt f (o .on)) (o .due) (and-r (ticksAt f (o .clock)) (eqZ (tagAt f (o .on)) (o .due)) (subst T (Bool·not-not (meets f o)) u))) up)
     (λ u. leZ-trans (tagIn was (o .on)) (tagAt f (o .on)) (o .due) up u)
 
-pub earlier : (c : ℕ) (ls : List Line) (last : Option (List ℤ)) (f : Filled) (os : List Obligation) → T (all (clocksOk c) os) → T (noneFalls c last (f .tags))
-    → T (notLate (some (f .tags)) (nextOwed ls f os)) → T (notLate last os)
-earlier c ls none f os b n t = tt
-earlier c ls (some was) f os b n t =
+pub earlier : (c : ℕ) (most : ℤ) (ls : List Line) (last : Option (List ℤ)) (f : Filled) (os : List Obligation) → T (all (clocksOk c) os) → T (noneFalls c last (f .tags))
+    → T (notLate (some (f .tags)) (nextOwed most ls f os)) → T (notLate last os)
+earlier c most ls none f os b n t = tt
+earlier c most ls (some was) f os b n t =
     let due : Obligation → Bool = λ o. leZ (tagAt f (o .on)) (o .due) in
     let kept : Obligation → Bool = λ o. not (meets f o) in
     all-imp (λ (o : Obligation). clocksOk c o && (not (kept o) || due o)) (λ (o : Obligation). leZ (tagIn was (o .on)) (o .due)) os (one-earlier c was f n)
     (all-both (clocksOk c) (λ (o : Obligation). not (kept o) || due o) os b
-    (all-filter due kept os (and-l (all due (filter kept os)) (all due (flatMap (owedFrom f) ls)) (subst T (all-append due (filter kept os) (flatMap (owedFrom f) ls)) t))))
+    (all-filter due kept os (and-l (all due (filter kept os)) (all due (flatMap (owedFrom most f) ls)) (subst T (all-append due (filter kept os) (flatMap (owedFrom most f) ls)) t))))

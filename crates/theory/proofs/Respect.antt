@@ -10,7 +10,7 @@ use Rattle.records.specs.declared.line.Line.{Line}
 use Rattle.records.specs.Sheet.{SheetValue}
 use Rattle.tesl.specs.Lists.{all, any, filter, flatMap, sameList}
 use Rattle.tesl.specs.Run.{Filled, tagIn}
-use Rattle.tesl.specs.Fits.{eqZ, Obligation, meets, owedFrom, notLate, Countdown, leftOf, leftBy}
+use Rattle.tesl.specs.Fits.{eqZ, mostTag, Obligation, meets, owedFrom, notLate, Countdown, leftOf, leftBy}
 use Rattle.tesl.specs.Remainder.{Remainder, sameObligation, sameCountdown, sameSets, sameRemainder, owes, counts, overfull, isClear}
 use lib.Signed.{leZ}
 use Rattle.theory.specs.Sets.{SameSet}
@@ -172,11 +172,11 @@ clear-respects a b s t = subst T (λ i. eqb (owes-same a b s i) 0 && eqb (counts
 
 -- ---- the step
 
-nextOwed-any : (p : Obligation → Bool) (ls : List Line) (f : Filled) (xs ys : List Obligation) → SameSet sameObligation xs ys
-    → any p (nextOwed ls f xs) ≡ any p (nextOwed ls f ys)
-nextOwed-any p ls f xs ys e =
+nextOwed-any : (p : Obligation → Bool) (most : ℤ) (ls : List Line) (f : Filled) (xs ys : List Obligation) → SameSet sameObligation xs ys
+    → any p (nextOwed most ls f xs) ≡ any p (nextOwed most ls f ys)
+nextOwed-any p most ls f xs ys e =
     let kept : Obligation → Bool = λ o. not (meets f o) in
-    let begun = flatMap (owedFrom f) ls in
+    let begun = flatMap (owedFrom most f) ls in
     any-append p (filter kept xs) begun
     ∙ ap (λ (b : Bool). b || any p begun) (any-filter p kept xs ∙ any-equal owed-equality (λ o. kept o && p o) xs ys e ∙ sym (any-filter p kept ys))
     ∙ sym (any-append p (filter kept ys) begun)
@@ -197,18 +197,18 @@ next-same s f a b t =
     same-of (next s f a) (next s f b) (record {
       leads = rw (h .leads);
       stopped = rw (h .stopped);
-      owed = λ o. nextOwed-any (sameObligation o) (s .lines) f (a .owed) (b .owed) (h .owed);
+      owed = λ o. nextOwed-any (sameObligation o) mostTag (s .lines) f (a .owed) (b .owed) (h .owed);
       countdowns = λ c. nextCountdowns-any (sameCountdown c) (s .lines) f (a .countdowns) (b .countdowns) (h .countdowns);
     })
 
-notLate-same : (now : List ℤ) (ls : List Line) (f : Filled) (xs ys : List Obligation) → SameSet sameObligation xs ys
-    → notLate (some now) (nextOwed ls f xs) ≡ notLate (some now) (nextOwed ls f ys)
-notLate-same now ls f xs ys e =
+notLate-same : (now : List ℤ) (most : ℤ) (ls : List Line) (f : Filled) (xs ys : List Obligation) → SameSet sameObligation xs ys
+    → notLate (some now) (nextOwed most ls f xs) ≡ notLate (some now) (nextOwed most ls f ys)
+notLate-same now most ls f xs ys e =
     let due : Obligation → Bool = λ o. leZ (tagIn now (o .on)) (o .due) in
-    all-as-any due (nextOwed ls f xs) ∙ ap not (nextOwed-any (λ o. not (due o)) ls f xs ys e) ∙ sym (all-as-any due (nextOwed ls f ys))
+    all-as-any due (nextOwed most ls f xs) ∙ ap not (nextOwed-any (λ o. not (due o)) most ls f xs ys e) ∙ sym (all-as-any due (nextOwed most ls f ys))
 
 pub stepOk-same : (s : SheetValue) (last : Option (List ℤ)) (f : Filled) (a b : Remainder) → T (sameRemainder a b) → stepOk s last f a ≡ stepOk s last f b
 unfolding stepOk
 stepOk-same s last f a b t =
     let h = alike a b t in
-    rw (h .leads, h .stopped, all-equal count-equality (λ (c : Countdown). not (misses f c)) (a .countdowns) (b .countdowns) (h .countdowns), notLate-same (f .tags) (s .lines) f (a .owed) (b .owed) (h .owed))
+    rw (h .leads, h .stopped, all-equal count-equality (λ (c : Countdown). not (misses f c)) (a .countdowns) (b .countdowns) (h .countdowns), notLate-same (f .tags) mostTag (s .lines) f (a .owed) (b .owed) (h .owed))

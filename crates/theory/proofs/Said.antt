@@ -1,6 +1,6 @@
 -- The machine's answer is what document 01 says: the fillings of a run are those listed, the distinct remainders are those of a list of fitting ones, and their numbers are lengths. Assumes nothing.
 use mathlib.Core.Bool.{Bool, true, false}
-use mathlib.Core.List.{List, [], _∷_, map, List·Memᴰ, List·Memᴰ·head, List·Memᴰ·not-nil, List·Memᴰ·eq-of-singleton, List·Memᴰ·append-cases, Memᴰ·cast, Memᴰ·append-left, Memᴰ·append-right, Memᴰ·map, Memᴰ·of-map}
+use mathlib.Core.List.{List, [], _∷_, _++_, map, List·Memᴰ, List·Memᴰ·head, List·Memᴰ·not-nil, List·Memᴰ·eq-of-singleton, List·Memᴰ·append-cases, Memᴰ·cast, Memᴰ·append-left, Memᴰ·append-right, Memᴰ·map, Memᴰ·of-map}
 use mathlib.Core.Logic.{_↔_, _⊎_, inl, inr, ⊎-elim}
 use mathlib.Core.Path.{_≡_, refl, sym, ap, _∙_, subst}
 use Prim.Native.Nat.{ℕ, suc, _≤_}
@@ -14,14 +14,17 @@ use Rattle.records.specs.Sheet.{SheetValue}
 use Rattle.records.specs.Types.{All}
 use Rattle.tesl.specs.Lists.{any, filter, distinct, beginnings}
 use Rattle.tesl.specs.Run.{Instant, ticksOf, tagsOf, Filled, fillTicks, fillings, runFillings}
-use Rattle.tesl.specs.Fits.{unmet, countdowns, fits}
+use Rattle.tesl.specs.Fits.{mostTag, unmet, countdowns, fits}
 use Rattle.tesl.specs.Remainder.{Remainder, remainder, sameRemainder, sameObligation, sameCountdown, distinctCount, owes, counts, overfull, isClear}
 use Rattle.tesl.specs.Answer.{Standing, clear, owed, Answer, exhausted, broken, holding, remainders, tooMany, over, standing, judged, verdict, answerWithin}
+use Rattle.tesl.specs.Formula.{NoneFalls, EachHolds}
 use Rattle.theory.specs.Sets.{apart}
+use Rattle.theory.specs.Limits.{OnScale}
 use Rattle.theory.specs.Unmet.{Unmet, Counting, NoneOwed}
 use Rattle.theory.specs.Said.{Along, TickAs, FillsInstant, Fills, Fitting, sameLeft, Leaves, Live, Having, Owing, CountingDown, TooMany, Exhausts, Said}
 use Rattle.tesl.proofs.Tests.{or-l, or-r, or-e}
 use Rattle.tesl.proofs.Formula.{fits-holds}
+use Rattle.theory.proofs.Scale.{front-scale, filled-scale}
 use Rattle.theory.proofs.Lists.{any-map, member-any, any-member}
 use Rattle.theory.proofs.Members.{mem-flatMap, of-flatMap, distinct-map, mem-filter, of-filter, of-distinct, each-of, of-each, no-more, some-of, of-beginnings, a-beginning}
 use Rattle.theory.proofs.Sets.{Equivalence, distinct-set, distinct-apart}
@@ -90,15 +93,26 @@ fills-listed run f = (fills run f, listed run f)
 listed : SheetValue → List Instant → List (List Filled)
 listed s run = filter (fits s) (runFillings run)
 
-fitting-listed : (s : SheetValue) (run : List Instant) (f : List Filled) → List·Memᴰ f (listed s run) ↔ Fitting s run f
+-- what fills a run has its tags
+fills-tags : (run : List Instant) (f : List Filled) → Fills run f → map (λ (g : Filled). g .tags) f ≡ map tagsOf run
+fills-tags [] [] h = refl
+fills-tags [] (g ∷ f) h = absurd h
+fills-tags (i ∷ run) [] h = absurd h
+fills-tags (i ∷ run) (g ∷ f) h = λ j. h .0 .tags j ∷ fills-tags run f (h .1) j
+
+fitting-listed : (s : SheetValue) (run : List Instant) → OnScale mostTag run → (f : List Filled) → List·Memᴰ f (listed s run) ↔ Fitting s run f
 unfolding listed
-fitting-listed s run f = (
+fitting-listed s run on f = (
   λ m.
       let r = of-filter (fits s) (runFillings run) m in
-      let h = fits-holds s f .0 (r .1) in
-      record { fills = fills-listed run f .0 (r .0); none-falls = h .0; each-holds = h .1 },
-  λ h. mem-filter (fits s) (runFillings run) (fills-listed run f .1 (h .fills)) (fits-holds s f .1 (h .none-falls, h .each-holds)),
+      let u = fills-listed run f .0 (r .0) in
+      let h = exactly u .0 (r .1) in
+      record { fills = u; none-falls = h .0; each-holds = h .1 },
+  λ h. mem-filter (fits s) (runFillings run) (fills-listed run f .1 (h .fills)) (exactly (h .fills) .1 (h .none-falls, h .each-holds)),
 )
+  where
+    exactly : Fills run f → T (fits s f) ↔ (NoneFalls (s .clocks) f × EachHolds (s .lines) f)
+    exactly u = fits-holds s f (filled-scale run f (fills-tags run f u) on)
 
 -- a test of what h gives
 under : {A B : Type 0} {same : B → B → Bool} (h : A → B) → Equivalence same → Equivalence (λ x y. same (h x) (h y))
@@ -118,34 +132,34 @@ remainders-kept : (s : SheetValue) (run : List Instant) → remainders s run ≡
 unfolding remainders listed kept
 remainders-kept s run = distinct-map sameRemainder (remainder s) (listed s run)
 
-kept-fits : (s : SheetValue) (run : List Instant) → All (Fitting s run) (kept s run)
+kept-fits : (s : SheetValue) (run : List Instant) → OnScale mostTag run → All (Fitting s run) (kept s run)
 unfolding kept
-kept-fits s run = each-of (Fitting s run) (kept s run) (λ f m. fitting-listed s run f .0 (of-distinct (sameLeft s) (listed s run) m))
+kept-fits s run on = each-of (Fitting s run) (kept s run) (λ f m. fitting-listed s run on f .0 (of-distinct (sameLeft s) (listed s run) m))
 
 kept-apart : (s : SheetValue) (run : List Instant) → T (apart (sameLeft s) (kept s run))
 unfolding kept
 kept-apart s run = distinct-apart (sameLeft s) (left-equivalence s) (listed s run)
 
-kept-all : (s : SheetValue) (run : List Instant) (f : List Filled) → Fitting s run f → (g : List Filled) × List·Memᴰ g (kept s run) × T (sameLeft s f g)
+kept-all : (s : SheetValue) (run : List Instant) → OnScale mostTag run → (f : List Filled) → Fitting s run f → (g : List Filled) × List·Memᴰ g (kept s run) × T (sameLeft s f g)
 unfolding kept
-kept-all s run f h = any-member (sameLeft s f) (kept s run)
-    (subst T (sym (distinct-set (sameLeft s) (left-equivalence s) (listed s run) f)) (member-any (sameLeft s f) (fitting-listed s run f .1 h) (left-equivalence s .reflex f)))
+kept-all s run on f h = any-member (sameLeft s f) (kept s run)
+    (subst T (sym (distinct-set (sameLeft s) (left-equivalence s) (listed s run) f)) (member-any (sameLeft s f) (fitting-listed s run on f .1 h) (left-equivalence s .reflex f)))
 
-all-kept : (s : SheetValue) (run : List Instant) → Live s run (length (kept s run))
-all-kept s run = record {
-  leaves = record { these = kept s run; number = refl; each-fits = kept-fits s run; no-two = kept-apart s run };
-  no-other = kept-all s run;
+all-kept : (s : SheetValue) (run : List Instant) → OnScale mostTag run → Live s run (length (kept s run))
+all-kept s run on = record {
+  leaves = record { these = kept s run; number = refl; each-fits = kept-fits s run on; no-two = kept-apart s run };
+  no-other = kept-all s run on;
 }
 
 -- ---- numbers are lengths
 
-leaves-number : (s : SheetValue) (run : List Instant) (n : ℕ) → Leaves s run n ↔ (n ≤ length (kept s run))
-leaves-number s run n = (
+leaves-number : (s : SheetValue) (run : List Instant) → OnScale mostTag run → (n : ℕ) → Leaves s run n ↔ (n ≤ length (kept s run))
+leaves-number s run on n = (
   λ l.
-      let k = no-more (sameLeft s) (left-equivalence s) (l .these) (kept s run) (l .no-two) (λ f m. kept-all s run f (of-each (Fitting s run) (l .each-fits) m)) in
+      let k = no-more (sameLeft s) (left-equivalence s) (l .these) (kept s run) (l .no-two) (λ f m. kept-all s run on f (of-each (Fitting s run) (l .each-fits) m)) in
       omega (arith, l .number),
   λ k.
-      let r = some-of (sameLeft s) (Fitting s run) (kept s run) n k (kept-fits s run) (kept-apart s run) in
+      let r = some-of (sameLeft s) (Fitting s run) (kept s run) n k (kept-fits s run on) (kept-apart s run) in
       record { these = r .0; number = r .1; each-fits = r .2; no-two = r .3 },
 )
 
@@ -168,7 +182,7 @@ having-number same E s run Of list listed n = (
 
 owing-number : (s : SheetValue) (run : List Instant) (n : ℕ) → Owing s run n ↔ ((f : List Filled) × Fitting s run f × (n ≤ owes (remainder s f)))
 unfolding remainder owes
-owing-number s run n = having-number sameObligation owed-equivalence s run (Unmet (s .lines)) (unmet (s .lines)) (unmet-listed (s .lines)) n
+owing-number s run n = having-number sameObligation owed-equivalence s run (Unmet mostTag (s .lines)) (unmet mostTag (s .lines)) (unmet-listed mostTag (s .lines)) n
 
 counting-number : (s : SheetValue) (run : List Instant) (n : ℕ) → CountingDown s run n ↔ ((f : List Filled) × Fitting s run f × (n ≤ counts (remainder s f)))
 unfolding remainder counts
@@ -176,9 +190,9 @@ counting-number s run n = having-number sameCountdown count-equivalence s run (C
 
 -- ---- exhausted
 
-too-many : (room : ℕ) (s : SheetValue) (run : List Instant) → T (tooMany room (remainders s run)) ↔ TooMany room s run
+too-many : (room : ℕ) (s : SheetValue) (run : List Instant) → OnScale mostTag run → T (tooMany room (remainders s run)) ↔ TooMany room s run
 unfolding tooMany overfull
-too-many room s run = (found, tested)
+too-many room s run on = (found, tested)
   where
     ks : List (List Filled)
     ks = kept s run
@@ -194,11 +208,11 @@ too-many room s run = (found, tested)
 
     found : T (tooMany room rs) → TooMany room s run
     found t = or-e (ltb room (length rs)) (any overfull rs) t
-        (λ u. let l = ltb→lt room (length rs) u in inl (leaves-number s run _ .1 (omega (arith, as-many))))
+        (λ u. let l = ltb→lt room (length rs) u in inl (leaves-number s run on _ .1 (omega (arith, as-many))))
         (λ u.
         let m = any-member (λ (f : List Filled). overfull (remainder s f)) ks (subst T all-owed u) in
         let r = remainder s (m .0) in
-        let fits = of-each (Fitting s run) (kept-fits s run) (m .1) in
+        let fits = of-each (Fitting s run) (kept-fits s run on) (m .1) in
         inr (or-e (ltb 8 (owes r)) (ltb 8 (counts r)) (m .2)
         (λ v. let l = ltb→lt 8 (owes r) v in inl (owing-number s run _ .1 (m .0, fits, omega arith)))
         (λ v. let l = ltb→lt 8 (counts r) v in inr (counting-number s run _ .1 (m .0, fits, omega arith)))))
@@ -206,12 +220,12 @@ too-many room s run = (found, tested)
     -- a fitting filling with too many is one of those kept
     one-kept : (f : List Filled) → Fitting s run f → T (overfull (remainder s f)) → T (tooMany room rs)
     one-kept f h t =
-        let g = kept-all s run f h in
+        let g = kept-all s run on f h in
         or-r (ltb room (length rs)) (any overfull rs)
         (subst T (sym all-owed) (member-any (λ (f : List Filled). overfull (remainder s f)) (g .1) (overfull-respects (remainder s f) (remainder s (g .0)) (g .2) t)))
 
     tested : TooMany room s run → T (tooMany room rs)
-    tested (inl h) = let l = leaves-number s run _ .0 h in or-l (ltb room (length rs)) (any overfull rs) (lt→ltb room (length rs) (omega (arith, as-many)))
+    tested (inl h) = let l = leaves-number s run on _ .0 h in or-l (ltb room (length rs)) (any overfull rs) (lt→ltb room (length rs) (omega (arith, as-many)))
     tested (inr (inl h)) =
         let w = owing-number s run _ .0 h in
         let r = remainder s (w .0) in
@@ -221,25 +235,28 @@ too-many room s run = (found, tested)
         let r = remainder s (w .0) in
         one-kept (w .0) (w .1) (or-r (ltb 8 (owes r)) (ltb 8 (counts r)) (lt→ltb 8 (counts r) (omega (arith, w .2))))
 
-exhausts-exactly : (room : ℕ) (s : SheetValue) (run : List Instant) → T (over room s run) ↔ Exhausts room s run
+exhausts-exactly : (room : ℕ) (s : SheetValue) (run : List Instant) → OnScale mostTag run → T (over room s run) ↔ Exhausts room s run
 unfolding over
-exhausts-exactly room s run = (
-  λ t. let r = of-beginnings many run t in record { beginning = r .0; rest = r .1; begins = r .2; too-many = too-many room s (r .0) .0 (r .3) },
-  λ h. subst (λ (l : List Instant). T (any many (beginnings l))) (sym (h .begins)) (a-beginning many (h .beginning) (h .rest) (too-many room s (h .beginning) .1 (h .too-many))),
+exhausts-exactly room s run on = (
+  λ t. let r = of-beginnings many run t in record { beginning = r .0; rest = r .1; begins = r .2; too-many = too-many room s (r .0) (on-front (r .0) (r .1) (r .2)) .0 (r .3) },
+  λ h. subst (λ (l : List Instant). T (any many (beginnings l))) (sym (h .begins)) (a-beginning many (h .beginning) (h .rest) (too-many room s (h .beginning) (on-front (h .beginning) (h .rest) (h .begins)) .1 (h .too-many))),
 )
   where
     many : List Instant → Bool
     many b = tooMany room (remainders s b)
 
+    on-front : (front rest : List Instant) → run ≡ front ++ rest → OnScale mostTag front
+    on-front front rest e = front-scale front rest (subst (OnScale mostTag) e on)
+
 -- ---- clear
 
-clear-found : (s : SheetValue) (run : List Instant) → (standing (map (remainder s) (kept s run)) ≡ clear) ↔ ((f : List Filled) × Fitting s run f × NoneOwed (s .lines) f)
-clear-found s run = (
+clear-found : (s : SheetValue) (run : List Instant) → OnScale mostTag run → (standing (map (remainder s) (kept s run)) ≡ clear) ↔ ((f : List Filled) × Fitting s run f × NoneOwed mostTag (s .lines) f)
+clear-found s run on = (
   λ e.
       let m = any-member (λ (f : List Filled). isClear (remainder s f)) ks (subst T (any-map isClear (remainder s) ks) (clear-when (any isClear (map (remainder s) ks)) e)) in
-      (m .0, of-each (Fitting s run) (kept-fits s run) (m .1), clear-exactly s (m .0) .0 (m .2)),
+      (m .0, of-each (Fitting s run) (kept-fits s run on) (m .1), clear-exactly s (m .0) .0 (m .2)),
   λ h.
-      let g = kept-all s run (h .0) (h .1) in
+      let g = kept-all s run on (h .0) (h .1) in
       clear-of (any isClear (map (remainder s) ks)) (subst T (sym (any-map isClear (remainder s) ks))
       (member-any (λ (f : List Filled). isClear (remainder s f)) (g .1) (clear-respects (remainder s (h .0)) (remainder s (g .0)) (g .2) (clear-exactly s (h .0) .1 (h .2))))),
 )
@@ -249,14 +266,14 @@ clear-found s run = (
 
 -- ---- the answer
 
-pub answer-said : (room : ℕ) (s : SheetValue) (run : List Instant) → Said room s run (answerWithin room s run)
-unfolding answerWithin judged
-answer-said room s run =
+pub answer-said : (room : ℕ) (s : SheetValue) (run : List Instant) → OnScale mostTag run → Said room s run (answerWithin room s run)
+unfolding answerWithin judged kept all-kept
+answer-said room s run on =
     subst (λ (rs : List Remainder). Said room s run (verdict (over room s run) rs)) (sym (remainders-kept s run))
-    (by-test (over room s run) (kept s run) (exhausts-exactly room s run) (record { leaves = record { these = kept s run; number = refl; each-fits = kept-fits s run; no-two = kept-apart s run }; no-other = kept-all s run }) refl (clear-found s run))
+    (by-test (over room s run) (kept s run) (exhausts-exactly room s run on) (all-kept s run on) refl (clear-found s run on))
   where
     Clear : Standing → Type 0
-    Clear st = (st ≡ clear) ↔ ((f : List Filled) × Fitting s run f × NoneOwed (s .lines) f)
+    Clear st = (st ≡ clear) ↔ ((f : List Filled) × Fitting s run f × NoneOwed mostTag (s .lines) f)
 
     by-test : (b : Bool) (ks : List (List Filled)) → T b ↔ Exhausts room s run → (l : Live s run (length ks)) → l .leaves .these ≡ ks → Clear (standing (map (remainder s) ks))
         → Said room s run (verdict b (map (remainder s) ks))
@@ -308,5 +325,5 @@ said-once room s run (holding n t) (holding m u) h k =
     let e = standing-one t u (h .holds n t refl .1) (k .holds m u refl .1) in
     λ i. holding (l i) (e i)
 
-pub said-is : (room : ℕ) (s : SheetValue) (run : List Instant) (a : Answer) → Said room s run a → a ≡ answerWithin room s run
-said-is room s run a h = said-once room s run a (answerWithin room s run) h (answer-said room s run)
+pub said-is : (room : ℕ) (s : SheetValue) (run : List Instant) → OnScale mostTag run → (a : Answer) → Said room s run a → a ≡ answerWithin room s run
+said-is room s run on a h = said-once room s run a (answerWithin room s run) h (answer-said room s run on)

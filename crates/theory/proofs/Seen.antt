@@ -8,6 +8,7 @@ use Prim.Native.Nat.{ℕ, zero, suc, _≤_}
 use native.Mathlib.Nat.{le-refl}
 use native.Mathlib.Omega.{arith}
 use lib.Dec.{T, eqb, eqb→eq}
+use lib.IntN.{ℤ}
 use lib.ListN.{length}
 use lib.Seq.{take-length}
 use Rattle.records.specs.declared.line.Line.{Line}
@@ -18,15 +19,19 @@ use Rattle.records.specs.Sheet.{SheetValue}
 use Rattle.records.specs.Types.{All}
 use Rattle.tesl.specs.Lists.{all, any, filter, distinct, flatMap}
 use Rattle.tesl.specs.Run.{Instant, ticksOf, tagsOf, Filled, fillTicks, fillings, runFillings}
-use Rattle.tesl.specs.Fits.{ticksIn, Obligation, unmet, Countdown, countdowns, fits}
+use Rattle.tesl.specs.Fits.{ticksIn, mostTag, Obligation, unmet, Countdown, countdowns, fits}
 use Rattle.tesl.specs.Remainder.{remainder, sameRemainder, sameObligation, sameCountdown, distinctCount, owes, counts, isClear}
 use Rattle.tesl.specs.Answer.{Standing, clear, owed, exhausted, broken, holding, remainders, over, standing, judged, verdict, answerWithin}
 use Rattle.tesl.specs.Formula.{ticksBelow, Holds, NoneFalls, EachHolds}
 use Rattle.theory.specs.Unmet.{NoneOwed}
+use Rattle.theory.specs.Limits.{OnScale}
 use Rattle.theory.specs.Seen.{isSeen, Seen, ticked, seenRun, SeenJudged}
 use Rattle.tesl.proofs.Tests.{and-l, and-r, or-l, or-e, T→≡}
 use Rattle.tesl.proofs.FormulaOwed.{ticks-below}
+use Rattle.tesl.proofs.FormulaParts.{Part, EachPart, fits-by-line}
+use Rattle.tesl.proofs.FormulaLines.{weakly-law, strictly-law}
 use Rattle.tesl.proofs.Formula.{fits-holds}
+use Rattle.theory.proofs.Scale.{filled-scale}
 use Rattle.theory.proofs.Unmet.{none-owed}
 
 -- ---- precedence: the subtraction of a remainder's leads cuts nothing
@@ -53,23 +58,23 @@ weakly-ordered run A B (suc n) e h = omega (arith, all-ticks run A (suc n) e, al
 strictly-weakly : (run : List Filled) (A B : ℕ) → Holds (Strictly A B) run → Holds (Weakly A B) run
 strictly-weakly run A B h n b = omega (arith, h n b)
 
-line-ordered : (l : Line) (run : List Filled) → Holds l run → NotAhead run l
-line-ordered (Weakly A B) run h = weakly-ordered run A B (length run) refl h
-line-ordered (Strictly A B) run h = weakly-ordered run A B (length run) refl (strictly-weakly run A B h)
-line-ordered (Sporadic A B t) run h = tt
-line-ordered (Relation A B p q) run h = tt
-line-ordered (Implies A B) run h = tt
-line-ordered (Excludes A B) run h = tt
-line-ordered (Delayed A B D d) run h = tt
-line-ordered (Kills A B) run h = tt
-line-ordered (Counted A B D n) run h = tt
+line-ordered : (most : ℤ) (l : Line) (run : List Filled) → Part most l run → NotAhead run l
+line-ordered most (Weakly A B) run h = weakly-ordered run A B (length run) refl (weakly-law most run A B .0 h)
+line-ordered most (Strictly A B) run h = weakly-ordered run A B (length run) refl (strictly-weakly run A B (strictly-law most run A B .0 h))
+line-ordered most (Sporadic A B t) run h = tt
+line-ordered most (Relation A B p q) run h = tt
+line-ordered most (Implies A B) run h = tt
+line-ordered most (Excludes A B) run h = tt
+line-ordered most (Delayed A B D d) run h = tt
+line-ordered most (Kills A B) run h = tt
+line-ordered most (Counted A B D n) run h = tt
 
 pub never-ahead : (s : SheetValue) (run : List Filled) → T (fits s run) → All (NotAhead run) (s .lines)
-never-ahead s run t = each (s .lines) (((fits-holds s run) .0 t) .1)
+never-ahead s run t = each (s .lines) (fits-by-line s run .0 t .1)
   where
-    each : (ls : List Line) → EachHolds ls run → All (NotAhead run) ls
+    each : (ls : List Line) → EachPart mostTag ls run → All (NotAhead run) ls
     each [] h = tt
-    each (l ∷ ls) h = (line-ordered l run (h .0), each ls (h .1))
+    each (l ∷ ls) h = (line-ordered mostTag l run (h .0), each ls (h .1))
 
 -- ---- a run without unseen ticks, and its one filling
 
@@ -102,12 +107,12 @@ none-kept : {A : Type 0} (same : A → A → Bool) (xs : List A) → distinctCou
 none-kept same [] e = refl
 none-kept same (x ∷ xs) e = absurd (some-kept same x xs e)
 
-pub clear-exactly : (s : SheetValue) (f : List Filled) → T (isClear (remainder s f)) ↔ NoneOwed (s .lines) f
+pub clear-exactly : (s : SheetValue) (f : List Filled) → T (isClear (remainder s f)) ↔ NoneOwed mostTag (s .lines) f
 unfolding remainder owes counts isClear
-clear-exactly s f = Iff·trans (there, back) (none-owed (s .lines) f)
+clear-exactly s f = Iff·trans (there, back) (none-owed mostTag (s .lines) f)
   where
     os : List Obligation
-    os = unmet (s .lines) f
+    os = unmet mostTag (s .lines) f
 
     cs : List Countdown
     cs = countdowns (s .lines) f
@@ -152,9 +157,13 @@ fails : (b : Bool) → (T b → ⊥) → b ≡ false
 fails true n = absurd (n tt)
 fails false n = refl
 
-pub seen-judged : (room : ℕ) (s : SheetValue) (run : List Instant) → SeenJudged s run (answerWithin room s run)
+seen-tags : (run : List Instant) → map (λ (g : Filled). g .tags) (seenRun run) ≡ map tagsOf run
+seen-tags [] = refl
+seen-tags (i ∷ run) = ap (λ (ts : List (List ℤ)). tagsOf i ∷ ts) (seen-tags run)
+
+pub seen-judged : (room : ℕ) (s : SheetValue) (run : List Instant) → OnScale mostTag run → SeenJudged s run (answerWithin room s run)
 unfolding judged
-seen-judged room s run t n = record {
+seen-judged room s run on t n = record {
   breaks = (λ e h. let w = holds h in let z : _≡_ {A = ℕ} 0 1 = cc (w .1) in omega arith, breaks);
   else-holds = λ k. by-test (fits s f) (λ u. u) (λ u. u) k;
 }
@@ -162,22 +171,25 @@ seen-judged room s run t n = record {
     f : List Filled
     f = seenRun run
 
+    exactly : T (fits s f) ↔ (NoneFalls (s .clocks) f × EachHolds (s .lines) f)
+    exactly = fits-holds s f (filled-scale run f (seen-tags run) on)
+
     said : answerWithin room s run ≡ judged (cond (fits s f) (remainder s f ∷ []) [])
     said = not-exhausted s run room n ∙ ap judged (one-remainder s run f (one-filling run t))
 
     Holding : Type 0
-    Holding = (standing : Standing) × (answerWithin room s run ≡ holding 1 standing) × ((standing ≡ clear) ↔ NoneOwed (s .lines) f)
+    Holding = (standing : Standing) × (answerWithin room s run ≡ holding 1 standing) × ((standing ≡ clear) ↔ NoneOwed mostTag (s .lines) f)
 
     holds : NoneFalls (s .clocks) f × EachHolds (s .lines) f → Holding
     holds h = (
       standing (remainder s f ∷ []),
-      said ∙ ap (λ (b : Bool). judged (cond b (remainder s f ∷ []) [])) (T→≡ (fits s f) ((fits-holds s f) .1 h)),
+      said ∙ ap (λ (b : Bool). judged (cond b (remainder s f ∷ []) [])) (T→≡ (fits s f) (exactly .1 h)),
       Iff·trans (one-clear s f) (clear-exactly s f),
     )
 
     breaks : (NoneFalls (s .clocks) f × EachHolds (s .lines) f → ⊥) → answerWithin room s run ≡ broken
-    breaks none = said ∙ ap (λ (b : Bool). judged (cond b (remainder s f ∷ []) [])) (fails (fits s f) (λ u. none ((fits-holds s f) .0 u)))
+    breaks none = said ∙ ap (λ (b : Bool). judged (cond b (remainder s f ∷ []) [])) (fails (fits s f) (λ u. none (exactly .0 u)))
 
     by-test : (b : Bool) → (T b → T (fits s f)) → (T (fits s f) → T b) → answerWithin room s run ≢ broken → Holding
-    by-test true y _ k = holds ((fits-holds s f) .0 (y tt))
-    by-test false _ y k = absurd (k (breaks (λ h. y ((fits-holds s f) .1 h))))
+    by-test true y _ k = holds (exactly .0 (y tt))
+    by-test false _ y k = absurd (k (breaks (λ h. y (exactly .1 h))))

@@ -10,7 +10,7 @@ use Rattle.records.specs.declared.line.Line.{Line}
 use Rattle.records.specs.Sheet.{SheetValue}
 use Rattle.tesl.specs.Lists.{all, any, table, always}
 use Rattle.tesl.specs.Run.{Filled, ticksAt}
-use Rattle.tesl.specs.Fits.{lastTags, noneFalls, holdsAt, fitsAt, unmet, notLate, Countdown, countdowns, fits}
+use Rattle.tesl.specs.Fits.{lastTags, noneFalls, holdsAt, fitsAt, mostTag, unmet, notLate, Countdown, countdowns, fits}
 use Rattle.tesl.specs.Remainder.{leadOf, stops, remainder}
 use Rattle.theory.specs.Step.{lineOk, overlap, linesOk, nextLead, nextLeads, nextOwed, misses, noneMissed, next, stepOk, lineBelow, wellFormed}
 use Rattle.tesl.proofs.Tests.{and-l, and-r, and-i, or-l, or-r, or-e, T→≡}
@@ -61,7 +61,7 @@ pub remainder-snoc : (s : SheetValue) (run : List Filled) (f : Filled) → T (al
     → remainder s (run ++ (f ∷ [])) ≡ next s f (remainder s run)
 unfolding remainder next
 remainder-snoc s run f t = λ i. record {
-  owed = unmet-snoc (s .lines) run f i;
+  owed = unmet-snoc mostTag (s .lines) run f i;
   countdowns = countdowns-snoc (s .lines) run f i;
   leads = leads-snoc run f (s .lines) (always-ordered s run t) i;
   stopped = stopped-snoc s run f i;
@@ -169,7 +169,7 @@ pub fits-snoc : (s : SheetValue) (run : List Filled) (f : Filled) → T (wellFor
     → fits s (run ++ (f ∷ [])) ≡ (fits s run && stepOk s (lastTags run) f (remainder s run))
 unfolding fits stepOk remainder
 fits-snoc s run f w =
-    rw (always-snoc (fitsAt s) [] run f, lastOf-map-snoc (λ (g : Filled). g .tags) run f, unmet-snoc (s .lines) run f) (by-test (always (fitsAt s) [] run) (always-ordered s run))
+    rw (always-snoc (fitsAt s) [] run f, lastOf-map-snoc (λ (g : Filled). g .tags) run f, unmet-snoc mostTag (s .lines) run f) (by-test (always (fitsAt s) [] run) (always-ordered s run))
   where
     rising : Bool
     rising = noneFalls (s .clocks) (lastTags run) (f .tags)
@@ -181,13 +181,13 @@ fits-snoc s run f w =
     may = noneMissed f (remainder s run .countdowns) && (not (overlap (f .ticks) (remainder s run .stopped)) && linesOk (lineOk f) (s .lines) (remainder s run .leads))
 
     due : Bool
-    due = notLate (lastTags run) (unmet (s .lines) run)
+    due = notLate (lastTags run) (unmet mostTag (s .lines) run)
 
     dueNow : Bool
-    dueNow = notLate (some (f .tags)) (nextOwed (s .lines) f (unmet (s .lines) run))
+    dueNow = notLate (some (f .tags)) (nextOwed mostTag (s .lines) f (unmet mostTag (s .lines) run))
 
     by-test : (a : Bool) → (T a → T (all (ordered run) (s .lines))) → (a && (rising && hold) && dueNow) ≡ (a && due && (rising && may && dueNow))
     by-test false o = refl
     by-test true o =
         ap (λ (h : Bool). rising && h && dueNow) (lines-same s run f w (o tt))
-        ∙ implied rising may due dueNow (λ u v. earlier (s .clocks) (s .lines) (lastTags run) f (unmet (s .lines) run) (unmet-clocks (s .clocks) (s .lines) w run) u v)
+        ∙ implied rising may due dueNow (λ u v. earlier (s .clocks) mostTag (s .lines) (lastTags run) f (unmet mostTag (s .lines) run) (unmet-clocks (s .clocks) mostTag (s .lines) w run) u v)

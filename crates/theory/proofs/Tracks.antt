@@ -10,6 +10,7 @@ use lib.ListN.{length-append}
 use Rattle.records.specs.Sheet.{SheetValue}
 use Rattle.records.specs.Types.{IsInstant}
 use Rattle.tesl.specs.Run.{Instant, tagsOf}
+use Rattle.tesl.specs.Fits.{mostTag}
 use Rattle.tesl.specs.Remainder.{Remainder, remainder, sameRemainder}
 use Rattle.tesl.specs.Answer.{Answer, exhausted, judged, answerWithin}
 use mathlib.Core.Logic.{_≢_}
@@ -55,13 +56,13 @@ module _ (room : ℕ) (s : SheetValue) (run : List Instant) (i : Instant) (m : S
 
 -- ---- while it isn't exhausted, what it holds is within the limits
 pub tracks-within : (room : ℕ) (s : SheetValue) → SheetLimits s → (run : List Instant) → ListLimits s run → (m : State) → Tracks room s run m → m .said ≢ exhausted
-    → HeldLimits room (s .clocks) (m .instants) (m .live)
+    → HeldLimits mostTag room (s .clocks) (m .instants) (m .live)
 tracks-within room s l run r m h n =
     rw (h .instants) (held-within s (l .clocks-below) (l .values) room run (m .live) (r .values) (λ e. n (h .said ∙ e)) (h .live n))
 
 -- from any held ones within the limits, whether a run has them or not: what was found stays within them
 pub finding-within : (room : ℕ) (s : SheetValue) → SheetLimits s → (last : Option (List ℤ)) (i : Instant) → IsInstant i → (instants : ℕ) {rs new : List Remainder} {said : Answer}
-    → HeldLimits room (s .clocks) instants rs → Finding room s last i rs said new → said ≢ exhausted → HeldLimits room (s .clocks) (suc instants) new
+    → HeldLimits mostTag room (s .clocks) instants rs → Finding room s last i rs said new → said ≢ exhausted → HeldLimits mostTag room (s .clocks) (suc instants) new
 finding-within room s l last i h instants w (many among a c k) n = absurd (n refl)
 finding-within room s l last i h instants w (one-more among a c k x t u) n = absurd (n refl)
 finding-within room s l last i h instants w (owed x t k) n = absurd (n refl)

@@ -1,6 +1,6 @@
 -- The executable `unmet` lists the unmet obligations and no others: it filters those that sporadic lines are and those that each number of an instant begins, by what the numbers from there on meet.
 -- And `countdowns` lists the countdowns: those that each number of an instant begins, less the ticks from there on. Assumes nothing.
-use mathlib.Core.Bool.{Bool, true, false, not, cond}
+use mathlib.Core.Bool.{Bool, true, false, not, cond, _&&_}
 use mathlib.Core.List.{List, [], _∷_, List·Memᴰ, List·Memᴰ·head, List·Memᴰ·not-nil, List·Memᴰ·eq-of-singleton, List·Memᴰ·append-cases, Memᴰ·append-left, Memᴰ·append-right}
 use mathlib.Core.Logic.{_↔_, ⊎-elim}
 use mathlib.Core.Path.{_≡_, refl, sym, ap, _∙_, subst}
@@ -11,12 +11,13 @@ use lib.Dec.{T, ltb, ltb→lt, lt→ltb}
 use lib.IntN.{ℤ, pos, _+ℤ_}
 use lib.ListN.{length, take, drop, take-append-drop}
 use lib.Seq.{take-length}
+use lib.Signed.{leZ, _≤ℤ_, leZ-yes}
 use Rattle.records.specs.declared.line.Line.{Line}
 use Rattle.records.specs.declared.line.Line.the-variants.{Sporadic, Relation, Implies, Excludes, Delayed, Weakly, Strictly, Kills, Counted}
 use Rattle.tesl.specs.Lists.{any, flatMap}
 use Rattle.tesl.specs.Run.{Filled, ticksAt, tagAt}
 use Rattle.tesl.specs.Fits.{Obligation, meets, owedAtStart, owedFrom, unmetBy, unmetLater, unmet, ticksIn, Countdown, countedFrom, leftOf, leftBy, countdowns}
-use Rattle.tesl.specs.Formula.{instant, ticksBelow, noInstant}
+use Rattle.tesl.specs.Formula.{instant, tag, ticksBelow, noInstant}
 use Rattle.theory.specs.Unmet.{Unmet, sporadic, delayed, Counting, counted, NoneOwed}
 use Rattle.tesl.proofs.Tests.{T→≡}
 use Rattle.tesl.proofs.FormulaLists.{count-append}
@@ -38,24 +39,25 @@ start-of (Kills A B) o m = absurd (List·Memᴰ·not-nil m)
 start-of (Counted A B D n) o m = absurd (List·Memᴰ·not-nil m)
 
 -- the one that a delay line's tick begins
-begun-of : (f : Filled) (l : Line) (o : Obligation) → List·Memᴰ o (owedFrom f l)
-    → (A B D d : ℕ) × (l ≡ Delayed A B D d) × (ticksAt f A ≡ true) × (o ≡ record { clock = D; due = tagAt f B +ℤ pos d; on = B })
-begun-of f (Delayed A B D d) o m = let r = by-test (ticksAt f A) m in (A, B, D, d, refl, r .0, r .1)
+begun-of : (most : ℤ) (f : Filled) (l : Line) (o : Obligation) → List·Memᴰ o (owedFrom most f l)
+    → (A B D d : ℕ) × (l ≡ Delayed A B D d) × (ticksAt f A ≡ true) × ((tagAt f B +ℤ pos d) ≤ℤ most) × (o ≡ record { clock = D; due = tagAt f B +ℤ pos d; on = B })
+begun-of most f (Delayed A B D d) o m = let r = by-tests (ticksAt f A) (leZ (tagAt f B +ℤ pos d) most) m in (A, B, D, d, refl, r .0, leZ-yes (r .1), r .2)
   where
     begun : Obligation
     begun = record { clock = D; due = tagAt f B +ℤ pos d; on = B }
 
-    by-test : (b : Bool) → List·Memᴰ o (cond b (begun ∷ []) []) → (b ≡ true) × (o ≡ begun)
-    by-test true m = (refl, List·Memᴰ·eq-of-singleton m)
-    by-test false m = absurd (List·Memᴰ·not-nil m)
-begun-of f (Sporadic A B t) o m = absurd (List·Memᴰ·not-nil m)
-begun-of f (Relation A B p q) o m = absurd (List·Memᴰ·not-nil m)
-begun-of f (Implies A B) o m = absurd (List·Memᴰ·not-nil m)
-begun-of f (Excludes A B) o m = absurd (List·Memᴰ·not-nil m)
-begun-of f (Weakly A B) o m = absurd (List·Memᴰ·not-nil m)
-begun-of f (Strictly A B) o m = absurd (List·Memᴰ·not-nil m)
-begun-of f (Kills A B) o m = absurd (List·Memᴰ·not-nil m)
-begun-of f (Counted A B D n) o m = absurd (List·Memᴰ·not-nil m)
+    by-tests : (b c : Bool) → List·Memᴰ o (cond (b && c) (begun ∷ []) []) → (b ≡ true) × T c × (o ≡ begun)
+    by-tests true true m = (refl, tt, List·Memᴰ·eq-of-singleton m)
+    by-tests true false m = absurd (List·Memᴰ·not-nil m)
+    by-tests false c m = absurd (List·Memᴰ·not-nil m)
+begun-of most f (Sporadic A B t) o m = absurd (List·Memᴰ·not-nil m)
+begun-of most f (Relation A B p q) o m = absurd (List·Memᴰ·not-nil m)
+begun-of most f (Implies A B) o m = absurd (List·Memᴰ·not-nil m)
+begun-of most f (Excludes A B) o m = absurd (List·Memᴰ·not-nil m)
+begun-of most f (Weakly A B) o m = absurd (List·Memᴰ·not-nil m)
+begun-of most f (Strictly A B) o m = absurd (List·Memᴰ·not-nil m)
+begun-of most f (Kills A B) o m = absurd (List·Memᴰ·not-nil m)
+begun-of most f (Counted A B D n) o m = absurd (List·Memᴰ·not-nil m)
 
 -- ---- those that no instant from number k on meets
 
@@ -82,38 +84,38 @@ unmetBy-listed k run os o = (
 -- ---- those begun at the instant number n
 
 -- those that it begins and no later one meets
-abbrev begun : List Line → Filled → List Filled → List Obligation
-begun ls f later = unmetBy later (flatMap (owedFrom f) ls)
+abbrev begun : ℤ → List Line → Filled → List Filled → List Obligation
+begun most ls f later = unmetBy later (flatMap (owedFrom most f) ls)
 
 -- ---- the unmet obligations
 
-pub unmet-listed : (ls : List Line) (run : List Filled) (o : Obligation) → List·Memᴰ o (unmet ls run) ↔ Unmet ls run o
-unmet-listed ls run o = (λ m. ⊎-elim from-start from-later (List·Memᴰ·append-cases (unmetBy run (flatMap owedAtStart ls)) m), listed)
+pub unmet-listed : (most : ℤ) (ls : List Line) (run : List Filled) (o : Obligation) → List·Memᴰ o (unmet most ls run) ↔ Unmet most ls run o
+unmet-listed most ls run o = (λ m. ⊎-elim from-start from-later (List·Memᴰ·append-cases (unmetBy run (flatMap owedAtStart ls)) m), listed)
   where
-    from-start : List·Memᴰ o (unmetBy run (flatMap owedAtStart ls)) → Unmet ls run o
+    from-start : List·Memᴰ o (unmetBy run (flatMap owedAtStart ls)) → Unmet most ls run o
     from-start m =
         let u = unmetBy-listed 0 run (flatMap owedAtStart ls) o .0 m in
         let r = of-flatMap owedAtStart ls (u .0) in
         let b = start-of (r .0) o (r .2) in
         sporadic (b .0) (b .1) (b .2) (subst (λ (l : Line). List·Memᴰ l ls) (b .3) (r .1)) (b .4) (λ i w. u .1 (i, omega arith, w .0, w .1, w .2))
 
-    from-later : List·Memᴰ o (unmetLater ls run) → Unmet ls run o
+    from-later : List·Memᴰ o (unmetLater most ls run) → Unmet most ls run o
     from-later m =
-        let n = of-byLater (begun ls) noInstant run m in
+        let n = of-byLater (begun most ls) noInstant run m in
         let f = instant run (n .0) in
-        let u = unmetBy-listed (suc (n .0)) run (flatMap (owedFrom f) ls) o .0 (n .2) in
-        let r = of-flatMap (owedFrom f) ls (u .0) in
-        let b = begun-of f (r .0) o (r .2) in
-        delayed (b .0) (b .1) (b .2) (b .3) (subst (λ (l : Line). List·Memᴰ l ls) (b .4) (r .1)) (n .0) (n .1) (b .5) (b .6) (λ i l w. u .1 (i, l, w .0, w .1, w .2))
+        let u = unmetBy-listed (suc (n .0)) run (flatMap (owedFrom most f) ls) o .0 (n .2) in
+        let r = of-flatMap (owedFrom most f) ls (u .0) in
+        let b = begun-of most f (r .0) o (r .2) in
+        delayed (b .0) (b .1) (b .2) (b .3) (subst (λ (l : Line). List·Memᴰ l ls) (b .4) (r .1)) (n .0) (n .1) (b .5) (b .6) (b .7) (λ i l w. u .1 (i, l, w .0, w .1, w .2))
 
-    listed : Unmet ls run o → List·Memᴰ o (unmet ls run)
+    listed : Unmet most ls run o → List·Memᴰ o (unmet most ls run)
     listed (sporadic A B t l e none) =
-        Memᴰ·append-left (unmetLater ls run)
+        Memᴰ·append-left (unmetLater most ls run)
         (unmetBy-listed 0 run (flatMap owedAtStart ls) o .1 (mem-flatMap owedAtStart l (List·Memᴰ·head e), λ w. none (w .0) (w .2, w .3, w .4)))
-    listed (delayed A B D d l n k t e none) =
+    listed (delayed A B D d l n k t h e none) =
         Memᴰ·append-right (unmetBy run (flatMap owedAtStart ls))
-        (mem-byLater (begun ls) noInstant run n k (unmetBy-listed (suc n) run (flatMap (owedFrom (instant run n)) ls) o .1
-        (mem-flatMap (owedFrom (instant run n)) l (rw t (List·Memᴰ·head e)), λ w. none (w .0) (w .1) (w .2, w .3, w .4))))
+        (mem-byLater (begun most ls) noInstant run n k (unmetBy-listed (suc n) run (flatMap (owedFrom most (instant run n)) ls) o .1
+        (mem-flatMap (owedFrom most (instant run n)) l (rw (t, T→≡ (leZ (tag run B n +ℤ pos d) most) (h .le)) (List·Memᴰ·head e)), λ w. none (w .0) (w .1) (w .2, w .3, w .4))))
 
 -- ---- the countdowns
 
@@ -192,11 +194,11 @@ nothing [] h = refl
 nothing (x ∷ xs) h = absurd (h x (List·Memᴰ·head refl))
 
 -- none is owed exactly when none is listed
-pub none-owed : (ls : List Line) (run : List Filled) → ((unmet ls run ≡ []) × (countdowns ls run ≡ [])) ↔ NoneOwed ls run
-none-owed ls run = (
+pub none-owed : (most : ℤ) (ls : List Line) (run : List Filled) → ((unmet most ls run ≡ []) × (countdowns ls run ≡ [])) ↔ NoneOwed most ls run
+none-owed most ls run = (
   λ e. record {
-    unmet = λ o u. List·Memᴰ·not-nil (subst (List·Memᴰ o) (e .0) (unmet-listed ls run o .1 u));
+    unmet = λ o u. List·Memᴰ·not-nil (subst (List·Memᴰ o) (e .0) (unmet-listed most ls run o .1 u));
     counting = λ c u. List·Memᴰ·not-nil (subst (List·Memᴰ c) (e .1) (countdowns-listed ls run c .1 u));
   },
-  λ n. (nothing (unmet ls run) (λ o m. n .unmet o (unmet-listed ls run o .0 m)), nothing (countdowns ls run) (λ c m. n .counting c (countdowns-listed ls run c .0 m))),
+  λ n. (nothing (unmet most ls run) (λ o m. n .unmet o (unmet-listed most ls run o .0 m)), nothing (countdowns ls run) (λ c m. n .counting c (countdowns-listed ls run c .0 m))),
 )

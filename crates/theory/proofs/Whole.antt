@@ -6,7 +6,7 @@ use lib.Dec.{T, leb, ltb, leb→le, le→leb, ltb→lt, nltb→le, eqb-refl}
 use lib.IntN.{ℤ, pos, negsuc, _+ℤ_, subℕ}
 use lib.Signed.{leZ}
 use Rattle.records.specs.Types.{IsTag}
-use Rattle.tesl.specs.Fits.{eqZ}
+use Rattle.tesl.specs.Fits.{eqZ, mostTag}
 use Rattle.theory.specs.Limits.{dueOk}
 use Rattle.tesl.proofs.Tests.{and-i}
 
@@ -23,10 +23,10 @@ leZ-trans (negsuc a) (pos b) (negsuc c) h k = absurd k
 leZ-trans (negsuc a) (negsuc b) (pos c) h k = tt
 leZ-trans (negsuc a) (negsuc b) (negsuc c) h k = le→leb c a (let p = leb→le b a h in let q = leb→le c b k in omega arith)
 
--- ---- dues: a tag, and a tag and a delay, −32,768 to 98,302
+-- ---- dues: a tag; and a tag and a delay, from −32,768 on
 
-pub tag-due : (z : ℤ) → IsTag z → T (dueOk z)
-tag-due (pos n) h = le→leb n 98302 (omega arith)
+pub tag-due : (z : ℤ) → IsTag z → T (dueOk mostTag z)
+tag-due (pos n) h = le→leb n 32767 (omega arith)
 tag-due (negsuc n) h = and-i (leb n 32767) true (le→leb n 32767 (omega arith)) tt
 
 -- a − b, by cases on which is larger
@@ -37,8 +37,6 @@ subℕ-ind P a b f g =
       | false ↦ λ u v. g (v tt)
     ] (ltb→lt a b) (nltb→le a b)
 
-pub delay-due : (z : ℤ) (d : ℕ) → IsTag z → d < 65536 → T (dueOk (z +ℤ pos d))
-delay-due (pos n) d t h = le→leb (n + d) 98302 (omega arith)
-delay-due (negsuc n) d t h = subℕ-ind (λ z. T (dueOk z)) d (suc n)
-    (λ l. and-i (leb (suc n - suc d) 32767) true (le→leb (suc n - suc d) 32767 (omega arith)) tt)
-    (λ l. le→leb (d - suc n) 98302 (omega arith))
+pub delay-due : (z : ℤ) (d : ℕ) → IsTag z → T (leZ (negsuc 32767) (z +ℤ pos d))
+delay-due (pos n) d t = tt
+delay-due (negsuc n) d t = subℕ-ind (λ z. T (leZ (negsuc 32767) z)) d (suc n) (λ l. le→leb (suc n - suc d) 32767 (omega arith)) (λ l. tt)

@@ -1,14 +1,15 @@
--- The limits of a monitor (refusal 11), as numbers: of its sheet, of the list of instants, of a remainder of c clocks with `held` instants, and of those held. Assumes nothing.
+-- The limits of a monitor (refusal 11), as numbers: of its sheet, of the list of instants, of a remainder of c clocks with `held` instants, and of those held; `most` is the end of the scale. Assumes nothing.
 use mathlib.Core.Bool.{Bool, not, _&&_}
 use mathlib.Core.List.{List, map}
 use mathlib.Core.Path.{_≡_}
 use Prim.Native.Nat.{ℕ, _≤_}
 use lib.Dec.{T, leb, ltb}
-use lib.IntN.{ℤ, pos, negsuc}
+use lib.IntN.{ℤ, negsuc}
 use lib.ListN.{length}
-use lib.Signed.{leZ}
+use lib.Signed.{leZ, _≤ℤ_}
 use Rattle.records.specs.Line.{kindOf, sporadics}
 use Rattle.records.specs.Sheet.{SheetValue}
+use Rattle.records.specs.Instant.{Cell}
 use Rattle.records.specs.Types.{All, IsLineValue, IsInstant}
 use Rattle.tesl.specs.Lists.{all, any}
 use Rattle.tesl.specs.Run.{Instant}
@@ -31,11 +32,15 @@ pub record ListLimits (s : SheetValue) (run : List Instant) : Type 0 where
   pub sizes : All (λ (i : Instant). length i ≡ s .clocks) run
   pub values : All IsInstant run
 
+-- none of its tags exceeds the end of the scale
+abbrev pub OnScale : ℤ → List Instant → Type 0
+OnScale most run = All (λ (i : Instant). All (λ (c : Cell). c .tag ≤ℤ most) i) run
+
 -- ---- a remainder
 
--- dues −32,768 to 98,302
-abbrev pub dueOk : ℤ → Bool
-dueOk z = leZ (negsuc 32767) z && leZ z (pos 98302)
+-- dues −32,768 to the end of the scale
+abbrev pub dueOk : ℤ → ℤ → Bool
+dueOk most z = leZ (negsuc 32767) z && leZ z most
 
 -- an obligation's clocks below c
 abbrev pub clocksOk : ℕ → Obligation → Bool
@@ -46,12 +51,12 @@ abbrev pub countdownOk : ℕ → Countdown → Bool
 countdownOk c x = (ltb (x .clock) c && ltb (x .on) c) && (leb 1 (x .wanted) && leb (x .wanted) 255)
 
 -- ticks minus ticks 0 to the instants held; the numbers of obligations and of countdowns are apart
-unfoldable pub withinLimits : ℕ → ℕ → Remainder → Bool
-withinLimits c held r =
-    all (clocksOk c) (r .owed) && all (λ (o : Obligation). dueOk (o .due)) (r .owed) && (all (countdownOk c) (r .countdowns) && all (λ (n : ℕ). leb n held) (r .leads))
+unfoldable pub withinLimits : ℤ → ℕ → ℕ → Remainder → Bool
+withinLimits most c held r =
+    all (clocksOk c) (r .owed) && all (λ (o : Obligation). dueOk most (o .due)) (r .owed) && (all (countdownOk c) (r .countdowns) && all (λ (n : ℕ). leb n held) (r .leads))
 
 -- ---- those held: live 0 to `room`, obligations 0 to 8 each, countdowns 0 to 8 each
-pub record HeldLimits (room c held : ℕ) (rs : List Remainder) : Type 0 where
+pub record HeldLimits (most : ℤ) (room c held : ℕ) (rs : List Remainder) : Type 0 where
   pub live : length rs ≤ room
   pub owe : T (not (any overfull rs))
-  pub within : T (all (withinLimits c held) rs)
+  pub within : T (all (withinLimits most c held) rs)

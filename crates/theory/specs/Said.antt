@@ -12,6 +12,7 @@ use Rattle.records.specs.declared.instant.Tick.the-variants.{Idle, Ticks, Unsee
 use Rattle.records.specs.Sheet.{SheetValue}
 use Rattle.records.specs.Types.{All}
 use Rattle.tesl.specs.Run.{Instant, ticksOf, tagsOf, Filled}
+use Rattle.tesl.specs.Fits.{mostTag}
 use Rattle.tesl.specs.Remainder.{remainder, sameObligation, sameCountdown, sameRemainder}
 use Rattle.tesl.specs.Answer.{Standing, clear, Answer, exhausted, broken, holding}
 use Rattle.tesl.specs.Formula.{NoneFalls, EachHolds}
@@ -78,7 +79,7 @@ pub record Having {A : Type 0} (same : A → A → Bool) (Of : List Filled → A
 
 -- n obligations: a fitting filling and n of its unmet obligations; and n countdowns
 abbrev pub Owing : SheetValue → List Instant → ℕ → Type 0
-Owing s run n = Having sameObligation (Unmet (s .lines)) s run n
+Owing s run n = Having sameObligation (Unmet mostTag (s .lines)) s run n
 
 abbrev pub CountingDown : SheetValue → List Instant → ℕ → Type 0
 CountingDown s run n = Having sameCountdown (Counting (s .lines)) s run n
@@ -96,7 +97,7 @@ pub record Exhausts (room : ℕ) (s : SheetValue) (run : List Instant) : Type 0 
   pub begins : run ≡ beginning ++ rest
   pub too-many : TooMany room s beginning
 
--- a is the answer for the run with room for so many distinct remainders; `answerWithin` is, and nothing else: `answer-said` and `said-is`, proofs/Said.antt
+-- a is the answer for the run with room for so many distinct remainders; of a run on the scale, as every run that was read is, `answerWithin` is, and nothing else: `answer-said` and `said-is`, proofs/Said.antt
 pub record Said (room : ℕ) (s : SheetValue) (run : List Instant) (a : Answer) : Type 0 where
   -- exhausted exactly when some beginning has too many
   pub exhausts : (a ≡ exhausted) ↔ Exhausts room s run
@@ -104,4 +105,4 @@ pub record Said (room : ℕ) (s : SheetValue) (run : List Instant) (a : Answer) 
   pub breaks : a ≢ exhausted → (a ≡ broken) ↔ ((f : List Filled) → Fitting s run f → ⊥)
   -- else holding with the number of distinct remainders, clear exactly when one of them owes nothing
   pub holds : (live : ℕ) (standing : Standing) → a ≡ holding live standing
-      → Live s run live × ((standing ≡ clear) ↔ ((f : List Filled) × Fitting s run f × NoneOwed (s .lines) f))
+      → Live s run live × ((standing ≡ clear) ↔ ((f : List Filled) × Fitting s run f × NoneOwed mostTag (s .lines) f))

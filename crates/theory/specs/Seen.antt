@@ -9,6 +9,7 @@ use Rattle.records.specs.declared.instant.Tick.the-variants.{Idle, Ticks, Unsee
 use Rattle.records.specs.Sheet.{SheetValue}
 use Rattle.tesl.specs.Lists.{all}
 use Rattle.tesl.specs.Run.{Instant, ticksOf, tagsOf, Filled}
+use Rattle.tesl.specs.Fits.{mostTag}
 use Rattle.tesl.specs.Answer.{Standing, clear, Answer, exhausted, broken, holding}
 use Rattle.tesl.specs.Formula.{NoneFalls, EachHolds}
 use Rattle.theory.specs.Unmet.{NoneOwed}
@@ -36,7 +37,7 @@ pub record JudgedAs (s : SheetValue) (run : List Instant) (a : Answer) : Type 0 
   -- broken exactly when a tag falls or a line does not hold
   pub breaks : (a ≡ broken) ↔ (NoneFalls (s .clocks) (seenRun run) × EachHolds (s .lines) (seenRun run) → ⊥)
   -- else holding with live 1, clear exactly when nothing is owed
-  pub else-holds : a ≢ broken → (standing : Standing) × (a ≡ holding 1 standing) × ((standing ≡ clear) ↔ NoneOwed (s .lines) (seenRun run))
+  pub else-holds : a ≢ broken → (standing : Standing) × (a ≡ holding 1 standing) × ((standing ≡ clear) ↔ NoneOwed mostTag (s .lines) (seenRun run))
 
 -- demand 2 of one answer
 abbrev pub SeenJudged : SheetValue → List Instant → Answer → Type 0

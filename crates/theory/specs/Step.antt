@@ -12,7 +12,7 @@ use Rattle.records.specs.Line.{clocksBelow, kindOf, bodyOf, ofPrecedes}
 use Rattle.records.specs.Sheet.{SheetValue}
 use Rattle.tesl.specs.Lists.{all, any, filter, flatMap, lastOf, table}
 use Rattle.tesl.specs.Run.{Instant, tagsOf, Filled, ticksAt, tagAt, fillings}
-use Rattle.tesl.specs.Fits.{eqZ, noneFalls, Obligation, meets, owedFrom, notLate, Countdown, countedFrom, leftBy}
+use Rattle.tesl.specs.Fits.{eqZ, noneFalls, mostTag, Obligation, meets, owedFrom, notLate, Countdown, countedFrom, leftBy}
 use Rattle.tesl.specs.Remainder.{Remainder, stops}
 
 abbrev pub bit : Bool → ℕ
@@ -63,8 +63,8 @@ abbrev pub nextLeads : (Line → ℕ → ℕ) → List Line → List ℕ → Lis
 nextLeads after ls leads = nextStates 0 after ls leads
 
 -- those that f doesn't meet, then those that f begins
-abbrev pub nextOwed : List Line → Filled → List Obligation → List Obligation
-nextOwed ls f os = filter (λ (o : Obligation). not (meets f o)) os ++ flatMap (owedFrom f) ls
+abbrev pub nextOwed : ℤ → List Line → Filled → List Obligation → List Obligation
+nextOwed most ls f os = filter (λ (o : Obligation). not (meets f o)) os ++ flatMap (owedFrom most f) ls
 
 -- ---- countdowns
 
@@ -89,7 +89,7 @@ nextCountdowns ls f cs = leftBy (f ∷ []) cs ++ begunCountdowns ls f
 -- ---- a remainder after f
 unfoldable pub next : SheetValue → Filled → Remainder → Remainder
 next s f r = record {
-  owed = nextOwed (s .lines) f (r .owed);
+  owed = nextOwed mostTag (s .lines) f (r .owed);
   countdowns = nextCountdowns (s .lines) f (r .countdowns);
   leads = nextLeads (nextLead f) (s .lines) (r .leads);
   stopped = table (s .clocks) (λ k. getD (r .stopped) k false || any (stops (f ∷ []) k) (s .lines));
@@ -100,7 +100,7 @@ unfoldable pub stepOk : SheetValue → Option (List ℤ) → Filled → Remainde
 stepOk s last f r =
     noneFalls (s .clocks) last (f .tags)
     && (noneMissed f (r .countdowns) && (not (overlap (f .ticks) (r .stopped)) && linesOk (lineOk f) (s .lines) (r .leads)))
-    && notLate (some (f .tags)) (nextOwed (s .lines) f (r .owed))
+    && notLate (some (f .tags)) (nextOwed mostTag (s .lines) f (r .owed))
 
 -- the tags of a run's last instant
 abbrev pub lastTagsOf : List Instant → Option (List ℤ)

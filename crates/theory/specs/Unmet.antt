@@ -5,6 +5,7 @@ use mathlib.Core.Path.{_≡_}
 use Prim.Native.Nat.{ℕ, suc, _+_, _-_, _<_}
 use lib.IntN.{ℤ, pos, _+ℤ_}
 use lib.ListN.{length}
+use lib.Signed.{_≤ℤ_}
 use Rattle.records.specs.declared.line.Line.{Line}
 use Rattle.records.specs.declared.line.Line.the-variants.{Sporadic, Delayed, Counted}
 use Rattle.tesl.specs.Run.{Filled}
@@ -15,23 +16,24 @@ use Rattle.tesl.specs.Formula.{Ticking, tag, ticksBelow}
 abbrev pub MetAt : List Filled → Obligation → ℕ → Type 0
 MetAt run o m = (m < length run) × Ticking run (o .clock) m × (tag run (o .on) m ≡ o .due)
 
--- an unmet obligation of a filled run; `unmet` lists these and no others: `unmet-listed`, proofs/Unmet.antt
-pub data Unmet (ls : List Line) (run : List Filled) (o : Obligation) : Type 0 where
+-- an unmet obligation of a filled run, on a scale with the end `most`; `unmet` lists these and no others: `unmet-listed`, proofs/Unmet.antt
+pub data Unmet (most : ℤ) (ls : List Line) (run : List Filled) (o : Obligation) : Type 0 where
   -- a sporadic line is one from the start, with clock A, due t, on B; no instant meets it
   sporadic : (A B : ℕ) (t : ℤ) → List·Memᴰ (Sporadic A B t) ls
       → o ≡ record { clock = A; due = t; on = B }
       → ((m : ℕ) → MetAt run o m → ⊥)
-      → Unmet ls run o
-  -- each tick of A of a delay line, here at instant n, begins one: clock D, due tag(B) + d, on B; no later instant meets it
+      → Unmet most ls run o
+  -- each tick of A of a delay line, here at instant n, begins one: clock D, due tag(B) + d, on B, unless its due would exceed the greatest tag; no later instant meets it
   delayed : (A B D d : ℕ) → List·Memᴰ (Delayed A B D d) ls
       → (n : ℕ) → n < length run → Ticking run A n
+      → (tag run B n +ℤ pos d) ≤ℤ most
       → o ≡ record { clock = D; due = tag run B n +ℤ pos d; on = B }
       → ((m : ℕ) → n < m → MetAt run o m → ⊥)
-      → Unmet ls run o
+      → Unmet most ls run o
 
 -- no obligation is unmet
-abbrev pub NoneUnmet : List Line → List Filled → Type 0
-NoneUnmet ls run = (o : Obligation) → Unmet ls run o → ⊥
+abbrev pub NoneUnmet : ℤ → List Line → List Filled → Type 0
+NoneUnmet most ls run = (o : Obligation) → Unmet most ls run o → ⊥
 
 -- a countdown of a filled run: A of a counted line ticks at instant i, B has ticked m times since, from the following instant on, and n - m more are wanted; `countdowns` lists these and no others: `countdowns-listed`, proofs/Unmet.antt
 pub data Counting (ls : List Line) (run : List Filled) (c : Countdown) : Type 0 where
@@ -42,6 +44,6 @@ pub data Counting (ls : List Line) (run : List Filled) (c : Countdown) : Type 0 
       → Counting ls run c
 
 -- none is owed, neither by a due nor by count
-pub record NoneOwed (ls : List Line) (run : List Filled) : Type 0 where
-  pub unmet : NoneUnmet ls run
+pub record NoneOwed (most : ℤ) (ls : List Line) (run : List Filled) : Type 0 where
+  pub unmet : NoneUnmet most ls run
   pub counting : (c : Countdown) → Counting ls run c → ⊥

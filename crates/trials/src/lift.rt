@@ -1,4 +1,4 @@
-// Document 01's lift examples L2 to L11, some at the limits, and some of counted lines; a row each, with the answers of opening and of every instant.
+// Document 01's lift examples L2 to L11, some at the limits, some of counted lines, and some at the end of the scale; a row each, with the answers of opening and of every instant.
 use crate::text::answer;
 use crate::text::say;
 use crate::trial::Trial;
@@ -22,6 +22,9 @@ use records::word::tag_of;
 // The tag 0, counted from the least tag.
 const ZERO: u64 = 32768;
 
+// The end of the scale.
+const MOST_TAG: u16 = 32767;
+
 // A tick byte.
 fn tick_of(x: u8) -> Tick {
     match x {
@@ -40,13 +43,21 @@ fn tag_of_byte(x: u8) -> i16 {
     tag_of(w + 65280)
 }
 
+// A tag of one byte: around 0, or so far below the end of the scale.
+fn tag_by(below_end: bool, x: u8) -> i16 {
+    if below_end {
+        return tag_of(MOST_TAG - (x as u16));
+    }
+    tag_of_byte(x)
+}
+
 // The instant at the front of some bytes: tick and tag of clock 0, then of clock 1.
-fn instant_of(b: &[u8]) -> Instant {
+fn instant_of(b: &[u8], below_end: bool) -> Instant {
     if b.len() < 4 {
         return idle_instant();
     }
-    let v = with_clock(idle_instant(), 0, tick_of(b[0]), tag_of_byte(b[1]));
-    with_clock(v, 1, tick_of(b[2]), tag_of_byte(b[3]))
+    let v = with_clock(idle_instant(), 0, tick_of(b[0]), tag_by(below_end, b[1]));
+    with_clock(v, 1, tick_of(b[2]), tag_by(below_end, b[3]))
 }
 
 fn start(name: &[u8], s: Sheet, tally: [u64; 40]) -> Trial {
@@ -68,16 +79,26 @@ fn then(t: Trial, v: Instant) -> Trial {
 }
 
 // A sheet and its instants, four bytes each.
-fn example(name: &[u8], s: Sheet, log: &[u8], tally: [u64; 40]) -> [u64; 40] {
+fn example_by(name: &[u8], s: Sheet, below_end: bool, log: &[u8], tally: [u64; 40]) -> [u64; 40] {
     let mut t = start(name, s, tally);
     let mut at = 0;
     while at < log.len() {
-        t = then(t, instant_of(&log[at..]));
+        t = then(t, instant_of(&log[at..], below_end));
         at += 4;
     }
     say(b"\n");
     let told = t.tally;
     told
+}
+
+// With tags around 0.
+fn example(name: &[u8], s: Sheet, log: &[u8], t: [u64; 40]) -> [u64; 40] {
+    example_by(name, s, false, log, t)
+}
+
+// With tags below the end of the scale.
+fn near_end(name: &[u8], s: Sheet, log: &[u8], t: [u64; 40]) -> [u64; 40] {
+    example_by(name, s, true, log, t)
 }
 
 // An example of two clocks and one line.
@@ -243,8 +264,47 @@ fn both(t: [u64; 40]) -> [u64; 40] {
     )
 }
 
+// The nine tags up to the end of the scale, where 0 has a tick byte.
+fn last_nine(tick: u8) -> [u8; 36] {
+    let mut log = [0u8; 36];
+    let mut i = 0;
+    while i < 9 {
+        log[4 * i] = tick;
+        log[4 * i + 1] = (8 - i) as u8;
+        i += 1;
+    }
+    log
+}
+
+// A delay that is due at the end begins an obligation; one that would be due past it begins none.
+fn scale_end(t: [u64; 40]) -> [u64; 40] {
+    let t = near_end(
+        b"begun at 32,767, d = 0, met there",
+        later(0),
+        b"\x01\x00\x00\x00\x00\x00\x01\x00",
+        t,
+    );
+    let t = near_end(b"begun at 32,767, d = 1", later(1), b"\x01\x00\x00\x00", t);
+    near_end(
+        b"a long lift, d = 100: a tick, its reading, a tick at 32,700",
+        later(100),
+        b"\x01\xA7\x00\x00\x00\x43\x01\x00\x01\x43\x00\x00",
+        t,
+    )
+}
+
+// With d = 8 the first of the nine is due at the end.
+fn nine_at_end(t: [u64; 40]) -> [u64; 40] {
+    let ticks = last_nine(1);
+    let unseen = last_nine(2);
+    let t = near_end(b"nine begun past the end", later(100), &ticks, t);
+    let t = near_end(b"nine unseen past the end", later(100), &unseen, t);
+    near_end(b"one of nine due at the end", later(8), &ticks, t)
+}
+
 pub fn all(t: [u64; 40]) -> [u64; 40] {
-    say(b"Lift examples, some at the limits, and counted lines\n");
+    say(b"Lift examples, some at the limits, counted lines, and the end of the scale\n");
     let t = l8_l11(l6_l7(l4_l5(l2_l3(t))));
-    both(counted(ninths(lives(t))))
+    let t = both(counted(ninths(lives(t))));
+    nine_at_end(scale_end(t))
 }

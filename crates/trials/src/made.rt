@@ -1,4 +1,5 @@
 // The made cases.
+use crate::scale::with_dues;
 use crate::tally;
 use crate::trial::Trial;
 use crate::trial::is_on_unseen;
@@ -124,9 +125,11 @@ fn begin(plan: Plan, last: u64, tally: [u64; 40]) -> Stand {
     }
 }
 
-// An instant by its unseen ticks.
-fn with_unseen(t: Trial, v: Instant) -> Trial {
+// An instant by its unseen ticks, and by the delays that it may begin.
+fn with_instant(t: Trial, v: Instant) -> Trial {
+    let sheet = t.sheet;
     let told = t.tally;
+    let told = with_dues(told, sheet, v);
     let told = count_if(is_on_unseen(t, v), told, tally::ON_UNSEEN);
     let told = count_if(0 < unseen_from(v, 4), told, tally::HIGH_UNSEEN);
     let told = count_if(unseen_from(v, 0) == 8, told, tally::ALL_UNSEEN);
@@ -144,7 +147,7 @@ fn step(plan: Plan, s: Stand) -> Stand {
     let t = s.trial;
     let v = course.instant;
     Stand {
-        trial: taken(with_refusals(with_unseen(t, v), v, d), v),
+        trial: taken(with_refusals(with_instant(t, v), v, d), v),
         course,
         last: drawn.last,
     }

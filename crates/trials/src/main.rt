@@ -2,6 +2,7 @@
 mod lift;
 mod made;
 mod report;
+mod scale;
 mod tally;
 mod text;
 mod trial;

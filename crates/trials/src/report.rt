@@ -35,11 +35,21 @@ fn answers(t: [u64; 40]) {
     line(t, b"sheets out of order, refused by 17", tally::BY_ORDER);
 }
 
-fn unseen(t: [u64; 40]) {
+fn instants(t: [u64; 40]) {
     line(
         t,
         b"instants with the on-clock of a countdown unseen",
         tally::ON_UNSEEN,
+    );
+    line(
+        t,
+        b"delays, seen or unseen, due at the end of the scale",
+        tally::DUE_AT_END,
+    );
+    line(
+        t,
+        b"delays, seen or unseen, due past it",
+        tally::DUE_PAST_END,
     );
 }
 
@@ -85,7 +95,7 @@ pub fn table(t: [u64; 40]) {
     say(b"Answers to opening and observing\n");
     answers(t);
     say(b"Instants of the made cases\n");
-    unseen(t);
+    instants(t);
     say(b"Limits met\n");
     lives(t);
     ends(t);
@@ -105,7 +115,7 @@ pub fn wide_table(t: [u64; 40]) {
         tally::HIGH_UNSEEN,
     );
     line(t, b"instants with eight clocks unseen", tally::ALL_UNSEEN);
-    unseen(t);
+    instants(t);
     kinds(t);
     answers(t);
     lives(t);

@@ -61,3 +61,7 @@ pub const BOTH_FULL: usize = 28;
 pub const NINTH_OBLIGATION: usize = 29;
 
 pub const NINTH_COUNTDOWN: usize = 30;
+
+pub const DUE_AT_END: usize = 31;
+
+pub const DUE_PAST_END: usize = 32;

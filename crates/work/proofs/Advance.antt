@@ -10,7 +10,7 @@ use lib.ListN.{length}
 use Rattle.records.specs.Sheet.{SheetValue}
 use Rattle.tesl.specs.Lists.{any, filter}
 use Rattle.tesl.specs.Run.{Filled}
-use Rattle.tesl.specs.Fits.{ticksIn, Obligation, meets, notLate, Countdown, leftOf, leftBy}
+use Rattle.tesl.specs.Fits.{ticksIn, mostTag, Obligation, meets, notLate, Countdown, leftOf, leftBy}
 use Rattle.tesl.specs.Remainder.{Remainder, sameObligation, sameCountdown, sameRemainder, owes, counts, overfull}
 use Rattle.tesl.proofs.Tests.{and-l, and-r, and-i, or-l, or-r, or-e}
 use Rattle.theory.specs.Sets.{apart}
@@ -105,13 +105,13 @@ with-begun (room h) (room k) = moves h k
 with-begun (room h) (full k) = nine-counting k
 with-begun (full h) k = nine-owed h
 
-advance-moves : (v : SheetValue) (f : Filled) (r : Remainder) → Moves v f r (goesOn v f r) (advanced v f (begunBy (v .lines) f) r)
+advance-moves : (v : SheetValue) (f : Filled) (r : Remainder) → Moves v f r (goesOn v f r) (advanced v f (begunBy mostTag (v .lines) f) r)
 unfolding advanced stillOwed stillCounting
 advance-moves v f r =
     by-tests (not (overlap (f .ticks) (r .stopped)) && linesOk (carriedHolds (f .ticks)) (v .lines) (r .leads)) (notLate (some (f .tags)) (left f (r .owed))) (noneMissed f (r .countdowns))
   where
     begun : Owings
-    begun = begunBy (v .lines) f
+    begun = begunBy mostTag (v .lines) f
 
     by-tests : (a b c : Bool)
         → Moves v f r (a && (b && c)) (cond a (withStillOwed v (f .ticks) begun r (together (cond b (some (left f (r .owed))) none) (cond c (some (leftBy (f ∷ []) (r .countdowns))) none))) fails)
@@ -160,5 +160,5 @@ module _ (v : SheetValue) (f : Filled) (r : Remainder) (clocks : length (r .stop
       (same-of (owing-next w) (owing-next these) (record { leads = refl; stopped = refl; owed = h .set; countdowns = k .set })))
       (eight-fit (owing-next w) (h .room few) (k .room few-counting)) (λ a. (h .once (a .0), k .once (a .1)))
 
-  pub steps : {ok : Bool} → ok ≡ goesOn v (padded f) r → Steps v f r ok (advanced v (padded f) (begunBy (v .lines) (padded f)) r)
-  steps e = subst (λ (ok : Bool). Steps v f r ok (advanced v (padded f) (begunBy (v .lines) (padded f)) r)) (sym e) (moves-steps (advance-moves v (padded f) r))
+  pub steps : {ok : Bool} → ok ≡ goesOn v (padded f) r → Steps v f r ok (advanced v (padded f) (begunBy mostTag (v .lines) (padded f)) r)
+  steps e = subst (λ (ok : Bool). Steps v f r ok (advanced v (padded f) (begunBy mostTag (v .lines) (padded f)) r)) (sym e) (moves-steps (advance-moves v (padded f) r))

@@ -12,6 +12,7 @@ use Rattle.records.specs.Types.{All}
 use Rattle.records.specs.Sheet.{SheetValue}
 use Rattle.tesl.specs.Lists.{all, any, flatMap}
 use Rattle.tesl.specs.Run.{Instant, ticksOf, tagsOf, Filled, fillings}
+use Rattle.tesl.specs.Fits.{mostTag}
 use Rattle.tesl.specs.Remainder.{Remainder, sameRemainder}
 use Rattle.theory.specs.Sets.{SameSet}
 use Rattle.theory.specs.Step.{next, stepOk}
@@ -124,7 +125,7 @@ module _ (room : ℕ) (v : SheetValue) (first : Bool) (was : List ℤ) (i : Inst
         (by-test (all (ticksHold (padded f .ticks)) (v .lines)) refl)
       where
         begun : Owings
-        begun = begunBy (v .lines) (padded f)
+        begun = begunBy mostTag (v .lines) (padded f)
 
         by-test : (b : Bool) → all (ticksHold (padded f .ticks)) (v .lines) ≡ b
             → Work (done ++ flatMap (one v last f) rs) (cond b (allAdvanced room v (padded f) begun rs found) found)

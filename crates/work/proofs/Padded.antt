@@ -15,7 +15,7 @@ use Rattle.records.specs.Lists.{filled}
 use Rattle.records.specs.Sheet.{SheetValue}
 use Rattle.tesl.specs.Lists.{all, any, flatMap, table}
 use Rattle.tesl.specs.Run.{Instant, ticksOf, tagsOf, Filled, tagIn, tagAt, fillTicks, fillings}
-use Rattle.tesl.specs.Fits.{Obligation, noneFalls, owedFrom, notLate}
+use Rattle.tesl.specs.Fits.{Obligation, noneFalls, mostTag, owedFrom, notLate}
 use Rattle.tesl.specs.Remainder.{Remainder, stops}
 use Rattle.tesl.proofs.FormulaLists.{all-append}
 use Rattle.theory.specs.Step.{overlap, linesOk, nextOwed, noneMissed, nextCountdowns, next, stepOk}
@@ -62,10 +62,10 @@ falls c false was f =
     (λ k h. ap₂ leZ (getD-take c was k (pos 0) h) (alike f .tags k))
 
 -- those that f begins are not late
-late : (ls : List Line) (f : Filled) (os : List Obligation) → notLate (some (f .tags)) (nextOwed ls f os) ≡ notLate (some (padded f .tags)) (left (padded f) os)
-late ls f os =
-    all-append _ (left f os) (flatMap (owedFrom f) ls)
-    ∙ rw (all-begun-later f ls) (and-true _)
+late : (most : ℤ) (ls : List Line) (f : Filled) (os : List Obligation) → notLate (some (f .tags)) (nextOwed most ls f os) ≡ notLate (some (padded f .tags)) (left (padded f) os)
+late most ls f os =
+    all-append _ (left f os) (flatMap (owedFrom most f) ls)
+    ∙ rw (all-begun-later most f ls) (and-true _)
     ∙ same-late (alike f) (left f os)
     ∙ ap (notLate (some (padded f .tags))) (same-left (alike f) os)
 
@@ -90,7 +90,7 @@ step-ok v first was f r =
       same-overlap (f .ticks) (g .ticks) (r .stopped) (alike f .ticks),
       same-lines (alike f) (v .lines) (r .leads),
       lines-ok (g .ticks) (g .tags) (v .lines) (r .leads),
-      late (v .lines) f (r .owed),
+      late mostTag (v .lines) f (r .owed),
     )
     (regroup (noneFalls (v .clocks) (tagsBefore first was) (g .tags)) (noneMissed g (r .countdowns)) (not (overlap (g .ticks) (r .stopped))) (all (tagsHold (g .tags)) (v .lines)) (all (ticksHold (g .ticks)) (v .lines))
     (linesOk (carriedHolds (g .ticks)) (v .lines) (r .leads)) (notLate (some (g .tags)) (left g (r .owed))))
@@ -107,7 +107,7 @@ stopped-next c ls f stopped e =
 
 -- what r owes after f, repeats and all
 abbrev pub afterwards : SheetValue → Filled → Remainder → Owings
-afterwards v f r = record { owed = left f (r .owed) ++ flatMap (owedFrom f) (v .lines); countdowns = nextCountdowns (v .lines) f (r .countdowns) }
+afterwards v f r = record { owed = left f (r .owed) ++ flatMap (owedFrom mostTag f) (v .lines); countdowns = nextCountdowns (v .lines) f (r .countdowns) }
 
 pub step-next : (v : SheetValue) (f : Filled) (r : Remainder) → length (r .stopped) ≡ v .clocks
     → next v f r ≡ carried v (padded f .ticks) (owing (afterwards v (padded f) r) r)
@@ -115,7 +115,7 @@ unfolding next
 step-next v f r h =
     let g = padded f in
     λ i. record {
-      owed = same-left (alike f) (r .owed) i ++ same-begun (alike f) (v .lines) i;
+      owed = same-left (alike f) (r .owed) i ++ same-begun (alike f) mostTag (v .lines) i;
       countdowns = same-counting (alike f) (r .countdowns) i ++ same-counted (alike f) (v .lines) i;
       leads = (same-leads (alike f) (v .lines) (r .leads) ∙ leads-after (g .ticks) (g .tags) (v .lines) (r .leads)) i;
       stopped = stopped-next (v .clocks) (v .lines) f (r .stopped) h i;

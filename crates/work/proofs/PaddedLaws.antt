@@ -93,24 +93,24 @@ due-later (negsuc n) d =
     elim (ltb d (suc n)) as (λ c. T (leZ (negsuc n) (cond c (negsuc (suc n - suc d)) (pos (d - suc n)))))
     [ true ↦ le→leb (suc n - suc d) n (omega arith) | false ↦ tt ]
 
-begun-later : (f : Filled) (l : Line) → notLate (some (f .tags)) (owedFrom f l) ≡ true
-begun-later f (Delayed A B D d) = by-test (ticksAt f A)
+begun-later : (most : ℤ) (f : Filled) (l : Line) → notLate (some (f .tags)) (owedFrom most f l) ≡ true
+begun-later most f (Delayed A B D d) = by-test (ticksAt f A && leZ (tagAt f B +ℤ pos d) most)
   where
     by-test : (t : Bool) → notLate (some (f .tags)) (cond t (record { clock = D; due = tagAt f B +ℤ pos d; on = B } ∷ []) []) ≡ true
     by-test true = ap (λ (b : Bool). b && true) (T→≡ (leZ (tagAt f B) (tagAt f B +ℤ pos d)) (due-later (tagAt f B) d))
     by-test false = refl
-begun-later f (Sporadic A B t) = refl
-begun-later f (Relation A B p q) = refl
-begun-later f (Implies A B) = refl
-begun-later f (Excludes A B) = refl
-begun-later f (Weakly A B) = refl
-begun-later f (Strictly A B) = refl
-begun-later f (Kills A B) = refl
-begun-later f (Counted A B D n) = refl
+begun-later most f (Sporadic A B t) = refl
+begun-later most f (Relation A B p q) = refl
+begun-later most f (Implies A B) = refl
+begun-later most f (Excludes A B) = refl
+begun-later most f (Weakly A B) = refl
+begun-later most f (Strictly A B) = refl
+begun-later most f (Kills A B) = refl
+begun-later most f (Counted A B D n) = refl
 
-pub all-begun-later : (f : Filled) (ls : List Line) → notLate (some (f .tags)) (flatMap (owedFrom f) ls) ≡ true
-all-begun-later f [] = refl
-all-begun-later f (l ∷ ls) = all-append _ (owedFrom f l) (flatMap (owedFrom f) ls) ∙ ap₂ _&&_ (begun-later f l) (all-begun-later f ls)
+pub all-begun-later : (most : ℤ) (f : Filled) (ls : List Line) → notLate (some (f .tags)) (flatMap (owedFrom most f) ls) ≡ true
+all-begun-later most f [] = refl
+all-begun-later most f (l ∷ ls) = all-append _ (owedFrom most f l) (flatMap (owedFrom most f) ls) ∙ ap₂ _&&_ (begun-later most f l) (all-begun-later most f ls)
 
 -- ---- two filled instants, alike at each clock
 
@@ -132,21 +132,21 @@ same-overlap (x ∷ xs) (y ∷ ys) (z ∷ zs) e = rw (e 0, same-overlap xs ys zs
 record Same (f g : Filled) (l : Line) : Type 0 where
   holds : (lead : ℕ) → lineOk f l lead ≡ lineOk g l lead
   leads : (lead : ℕ) → nextLead f l lead ≡ nextLead g l lead
-  begins : owedFrom f l ≡ owedFrom g l
+  begins : (most : ℤ) → owedFrom most f l ≡ owedFrom most g l
   counts : countedFrom f l ≡ countedFrom g l
   stop : (k : ℕ) → stops (f ∷ []) k l ≡ stops (g ∷ []) k l
 
 module _ {f g : Filled} (a : Alike f g) where
   same : (l : Line) → Same f g l
-  same (Relation A B p q) = record { holds = λ n. rw (a .tags A, a .tags B); leads = λ n. refl; begins = refl; counts = refl; stop = λ k. refl }
-  same (Implies A B) = record { holds = λ n. rw (a .ticks A, a .ticks B); leads = λ n. refl; begins = refl; counts = refl; stop = λ k. refl }
-  same (Excludes A B) = record { holds = λ n. rw (a .ticks A, a .ticks B); leads = λ n. refl; begins = refl; counts = refl; stop = λ k. refl }
-  same (Weakly A B) = record { holds = λ n. rw (a .ticks A, a .ticks B); leads = λ n. rw (a .ticks A, a .ticks B); begins = refl; counts = refl; stop = λ k. refl }
-  same (Strictly A B) = record { holds = λ n. rw (a .ticks B); leads = λ n. rw (a .ticks A, a .ticks B); begins = refl; counts = refl; stop = λ k. refl }
-  same (Kills A B) = record { holds = λ n. rw (a .ticks A, a .ticks B); leads = λ n. refl; begins = refl; counts = refl; stop = λ k. rw (a .ticks A) }
-  same (Sporadic A B t) = record { holds = λ n. refl; leads = λ n. refl; begins = refl; counts = refl; stop = λ k. refl }
-  same (Delayed A B D d) = record { holds = λ n. refl; leads = λ n. refl; begins = rw (a .ticks A, a .tags B); counts = refl; stop = λ k. refl }
-  same (Counted A B D n) = record { holds = λ k. refl; leads = λ k. refl; begins = refl; counts = rw (a .ticks A); stop = λ k. refl }
+  same (Relation A B p q) = record { holds = λ n. rw (a .tags A, a .tags B); leads = λ n. refl; begins = λ most. refl; counts = refl; stop = λ k. refl }
+  same (Implies A B) = record { holds = λ n. rw (a .ticks A, a .ticks B); leads = λ n. refl; begins = λ most. refl; counts = refl; stop = λ k. refl }
+  same (Excludes A B) = record { holds = λ n. rw (a .ticks A, a .ticks B); leads = λ n. refl; begins = λ most. refl; counts = refl; stop = λ k. refl }
+  same (Weakly A B) = record { holds = λ n. rw (a .ticks A, a .ticks B); leads = λ n. rw (a .ticks A, a .ticks B); begins = λ most. refl; counts = refl; stop = λ k. refl }
+  same (Strictly A B) = record { holds = λ n. rw (a .ticks B); leads = λ n. rw (a .ticks A, a .ticks B); begins = λ most. refl; counts = refl; stop = λ k. refl }
+  same (Kills A B) = record { holds = λ n. rw (a .ticks A, a .ticks B); leads = λ n. refl; begins = λ most. refl; counts = refl; stop = λ k. rw (a .ticks A) }
+  same (Sporadic A B t) = record { holds = λ n. refl; leads = λ n. refl; begins = λ most. refl; counts = refl; stop = λ k. refl }
+  same (Delayed A B D d) = record { holds = λ n. refl; leads = λ n. refl; begins = λ most. rw (a .ticks A, a .tags B); counts = refl; stop = λ k. refl }
+  same (Counted A B D n) = record { holds = λ k. refl; leads = λ k. refl; begins = λ most. refl; counts = rw (a .ticks A); stop = λ k. refl }
 
   pub same-lines : (ls : List Line) (leads : List ℕ) → linesOk (lineOk f) ls leads ≡ linesOk (lineOk g) ls leads
   same-lines ls leads = ap (λ (ok : Line → ℕ → Bool). linesOk ok ls leads) (fun-ext (λ l. fun-ext (same l .holds)))
@@ -154,8 +154,8 @@ module _ {f g : Filled} (a : Alike f g) where
   pub same-leads : (ls : List Line) (leads : List ℕ) → nextLeads (nextLead f) ls leads ≡ nextLeads (nextLead g) ls leads
   same-leads ls leads = ap (λ (after : Line → ℕ → ℕ). nextLeads after ls leads) (fun-ext (λ l. fun-ext (same l .leads)))
 
-  pub same-begun : (ls : List Line) → flatMap (owedFrom f) ls ≡ flatMap (owedFrom g) ls
-  same-begun ls = ap (λ (begun : Line → List Obligation). flatMap begun ls) (fun-ext (λ l. same l .begins))
+  pub same-begun : (most : ℤ) (ls : List Line) → flatMap (owedFrom most f) ls ≡ flatMap (owedFrom most g) ls
+  same-begun most ls = ap (λ (begun : Line → List Obligation). flatMap begun ls) (fun-ext (λ l. same l .begins most))
 
   pub same-counted : (ls : List Line) → begunCountdowns ls f ≡ begunCountdowns ls g
   same-counted ls = ap (λ (begun : Line → List Countdown). flatMap begun ls) (fun-ext (λ l. ap (leftBy []) (same l .counts)))

@@ -60,20 +60,20 @@ free-ticks ticks (Counted A B D n) h = refl
 pub rules-enough : (ls : List Line) (ticks : List Bool) → allowed (filter isRule ls) ticks ≡ all (ticksHold ticks) ls
 rules-enough ls ticks = all-part isRule (ticksHold ticks) (free-ticks ticks) ls
 
-free-begins : (f : Filled) (l : Line) → isDelay l ≡ false → owedFrom f l ≡ []
-free-begins f (Sporadic A B t) h = refl
-free-begins f (Relation A B p q) h = refl
-free-begins f (Implies A B) h = refl
-free-begins f (Excludes A B) h = refl
-free-begins f (Delayed A B D d) h = absurd (true≢false h)
-free-begins f (Weakly A B) h = refl
-free-begins f (Strictly A B) h = refl
-free-begins f (Kills A B) h = refl
-free-begins f (Counted A B D n) h = refl
+free-begins : (most : ℤ) (f : Filled) (l : Line) → isDelay l ≡ false → owedFrom most f l ≡ []
+free-begins most f (Sporadic A B t) h = refl
+free-begins most f (Relation A B p q) h = refl
+free-begins most f (Implies A B) h = refl
+free-begins most f (Excludes A B) h = refl
+free-begins most f (Delayed A B D d) h = absurd (true≢false h)
+free-begins most f (Weakly A B) h = refl
+free-begins most f (Strictly A B) h = refl
+free-begins most f (Kills A B) h = refl
+free-begins most f (Counted A B D n) h = refl
 
 -- only delay lines begin obligations
-pub delays-enough : (f : Filled) (ls : List Line) → flatMap (owedFrom f) (filter isDelay ls) ≡ flatMap (owedFrom f) ls
-delays-enough f ls = each-part isDelay (owedFrom f) (free-begins f) ls
+pub delays-enough : (most : ℤ) (f : Filled) (ls : List Line) → flatMap (owedFrom most f) (filter isDelay ls) ≡ flatMap (owedFrom most f) ls
+delays-enough most f ls = each-part isDelay (owedFrom most f) (free-begins most f) ls
 
 free-starts : (f : Filled) (l : Line) → isCounted l ≡ false → startedBy f l ≡ []
 free-starts f (Counted A B D n) h = absurd (true≢false h)

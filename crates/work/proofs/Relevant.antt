@@ -20,7 +20,7 @@ use Rattle.records.specs.Types.{All}
 use Rattle.records.proofs.Lists.{neither}
 use Rattle.tesl.specs.Lists.{all, any, flatMap, within, sameList}
 use Rattle.tesl.specs.Run.{Filled}
-use Rattle.tesl.specs.Fits.{Obligation, owedFrom, Countdown, countedFrom, leftBy}
+use Rattle.tesl.specs.Fits.{mostTag, Obligation, owedFrom, Countdown, countedFrom, leftBy}
 use Rattle.tesl.specs.Remainder.{Remainder, sameObligation, sameCountdown, sameRemainder}
 use Rattle.tesl.proofs.Tests.{and-l, and-r, and-i, or-l, or-r, or-e, T→≡, ≡→T}
 use Rattle.theory.specs.Step.{overlap, linesOk, nextLeads, noneMissed, begunCountdowns}
@@ -131,7 +131,7 @@ module _ (room : ℕ) where
     filling-takes tags rs ticks = by-test (all (ticksHold ticks) (v .lines))
       where
         begun : Owings
-        begun = begunBy (v .lines) (filledOf ticks tags)
+        begun = begunBy mostTag (v .lines) (filledOf ticks tags)
 
         by-test : (b : Bool) → Taking (λ p. cond b (allAdvanced room v (filledOf ticks tags) begun rs p) p)
         by-test true = all-advanced-takes (filledOf ticks tags) begun rs
@@ -191,7 +191,7 @@ module _ (k : ℕ) (t u : List Bool) (e : (a : ℕ) → eqb k a ≡ false → ti
   record Same (l : Line) : Type 0 where
     pub rule : ticksHold u l ≡ ticksHold t l
     pub holds : (lead : ℕ) → carriedHolds u l lead ≡ carriedHolds t l lead
-    pub begun : (tags : List ℤ) → owedFrom (filledOf u tags) l ≡ owedFrom (filledOf t tags) l
+    pub begun : (most : ℤ) (tags : List ℤ) → owedFrom most (filledOf u tags) l ≡ owedFrom most (filledOf t tags) l
     pub counts : (tags : List ℤ) → countedFrom (filledOf u tags) l ≡ countedFrom (filledOf t tags) l
     pub lead : (n : ℕ) → leadAfter u l n ≡ leadAfter t l n
     pub stop : (stopped : List Bool) → stoppedAfter u l stopped ≡ stoppedAfter t l stopped
@@ -204,15 +204,15 @@ module _ (k : ℕ) (t u : List Bool) (e : (a : ℕ) → eqb k a ≡ false → ti
     two = e B (neither (eqb k B) (neither (eqb k A) h .1) .0)
 
   same : (l : Line) → any (eqb k) (namedBy l) ≡ false → Same l
-  same (Implies A B) h = record { rule = rw (one A B h, two A B h); holds = λ n. refl; begun = λ tags. refl; counts = λ tags. refl; lead = λ n. refl; stop = λ s. refl }
-  same (Excludes A B) h = record { rule = rw (one A B h, two A B h); holds = λ n. refl; begun = λ tags. refl; counts = λ tags. refl; lead = λ n. refl; stop = λ s. refl }
-  same (Weakly A B) h = record { rule = refl; holds = λ n. rw (one A B h, two A B h); begun = λ tags. refl; counts = λ tags. refl; lead = λ n. rw (one A B h, two A B h); stop = λ s. refl }
-  same (Strictly A B) h = record { rule = refl; holds = λ n. rw (two A B h); begun = λ tags. refl; counts = λ tags. refl; lead = λ n. rw (one A B h, two A B h); stop = λ s. refl }
-  same (Kills A B) h = record { rule = rw (one A B h, two A B h); holds = λ n. refl; begun = λ tags. refl; counts = λ tags. refl; lead = λ n. refl; stop = λ s. rw (one A B h) }
-  same (Delayed A B D d) h = record { rule = refl; holds = λ n. refl; begun = λ tags. rw (e A (neither (eqb k A) h .0)); counts = λ tags. refl; lead = λ n. refl; stop = λ s. refl }
-  same (Counted A B D n) h = record { rule = refl; holds = λ n. refl; begun = λ tags. refl; counts = λ tags. rw (e A (neither (eqb k A) h .0)); lead = λ n. refl; stop = λ s. refl }
-  same (Sporadic A B d) h = record { rule = refl; holds = λ n. refl; begun = λ tags. refl; counts = λ tags. refl; lead = λ n. refl; stop = λ s. refl }
-  same (Relation A B p q) h = record { rule = refl; holds = λ n. refl; begun = λ tags. refl; counts = λ tags. refl; lead = λ n. refl; stop = λ s. refl }
+  same (Implies A B) h = record { rule = rw (one A B h, two A B h); holds = λ n. refl; begun = λ most tags. refl; counts = λ tags. refl; lead = λ n. refl; stop = λ s. refl }
+  same (Excludes A B) h = record { rule = rw (one A B h, two A B h); holds = λ n. refl; begun = λ most tags. refl; counts = λ tags. refl; lead = λ n. refl; stop = λ s. refl }
+  same (Weakly A B) h = record { rule = refl; holds = λ n. rw (one A B h, two A B h); begun = λ most tags. refl; counts = λ tags. refl; lead = λ n. rw (one A B h, two A B h); stop = λ s. refl }
+  same (Strictly A B) h = record { rule = refl; holds = λ n. rw (two A B h); begun = λ most tags. refl; counts = λ tags. refl; lead = λ n. rw (one A B h, two A B h); stop = λ s. refl }
+  same (Kills A B) h = record { rule = rw (one A B h, two A B h); holds = λ n. refl; begun = λ most tags. refl; counts = λ tags. refl; lead = λ n. refl; stop = λ s. rw (one A B h) }
+  same (Delayed A B D d) h = record { rule = refl; holds = λ n. refl; begun = λ most tags. rw (e A (neither (eqb k A) h .0)); counts = λ tags. refl; lead = λ n. refl; stop = λ s. refl }
+  same (Counted A B D n) h = record { rule = refl; holds = λ n. refl; begun = λ most tags. refl; counts = λ tags. rw (e A (neither (eqb k A) h .0)); lead = λ n. refl; stop = λ s. refl }
+  same (Sporadic A B d) h = record { rule = refl; holds = λ n. refl; begun = λ most tags. refl; counts = λ tags. refl; lead = λ n. refl; stop = λ s. refl }
+  same (Relation A B p q) h = record { rule = refl; holds = λ n. refl; begun = λ most tags. refl; counts = λ tags. refl; lead = λ n. refl; stop = λ s. refl }
 
   same-all : (ls : List Line) → any (eqb k) (flatMap namedBy ls) ≡ false → All Same ls
   same-all [] h = tt
@@ -227,9 +227,9 @@ module _ (k : ℕ) (t u : List Bool) (e : (a : ℕ) → eqb k a ≡ false → ti
   holds-same (l ∷ ls) [] h = rw (h .0 .holds 0, holds-same ls [] (h .1))
   holds-same (l ∷ ls) (n ∷ leads) h = rw (h .0 .holds n, holds-same ls leads (h .1))
 
-  begun-same : (tags : List ℤ) (ls : List Line) → All Same ls → flatMap (owedFrom (filledOf u tags)) ls ≡ flatMap (owedFrom (filledOf t tags)) ls
-  begun-same tags [] h = refl
-  begun-same tags (l ∷ ls) h = rw (h .0 .begun tags, begun-same tags ls (h .1))
+  begun-same : (most : ℤ) (tags : List ℤ) (ls : List Line) → All Same ls → flatMap (owedFrom most (filledOf u tags)) ls ≡ flatMap (owedFrom most (filledOf t tags)) ls
+  begun-same most tags [] h = refl
+  begun-same most tags (l ∷ ls) h = rw (h .0 .begun most tags, begun-same most tags ls (h .1))
 
   counted-same : (tags : List ℤ) (ls : List Line) → All Same ls → begunCountdowns ls (filledOf u tags) ≡ begunCountdowns ls (filledOf t tags)
   counted-same tags [] h = refl
@@ -307,10 +307,10 @@ module _ (k : ℕ) (t u : List Bool) (e : (a : ℕ) → eqb k a ≡ false → ti
 
       filling-less : (room : ℕ) (rs : List Remainder) (p q : Found) → any (eqb k) (flatMap clocksOf rs) ≡ false → Holds room (filling room v tags rs p t) q → filling room v tags rs q u ≡ q
       unfolding filling
-      filling-less room rs p q n w = rw (rules-same (v .lines) h, begun-same tags (v .lines) h, counted-same tags (v .lines) h) (by-test (all (ticksHold t) (v .lines)) w)
+      filling-less room rs p q n w = rw (rules-same (v .lines) h, begun-same mostTag tags (v .lines) h, counted-same tags (v .lines) h) (by-test (all (ticksHold t) (v .lines)) w)
         where
           begun : Owings
-          begun = begunBy (v .lines) (filledOf t tags)
+          begun = begunBy mostTag (v .lines) (filledOf t tags)
 
           by-test : (b : Bool) → Holds room (cond b (allAdvanced room v (filledOf t tags) begun rs p) p) q → cond b (allAdvanced room v (filledOf u tags) begun rs q) q ≡ q
           by-test true w = all-advanced-less room begun rs p q n w

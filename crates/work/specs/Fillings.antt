@@ -9,6 +9,7 @@ use Rattle.records.specs.declared.instant.Tick.{Tick}
 use Rattle.records.specs.declared.instant.Tick.the-variants.{Idle, Ticks, Unseen}
 use Rattle.records.specs.Lists.{listed}
 use Rattle.records.specs.Sheet.{SheetValue}
+use Rattle.tesl.specs.Fits.{mostTag}
 use Rattle.tesl.specs.Remainder.{Remainder}
 use Rattle.work.specs.View.{filledOf}
 use Rattle.work.specs.Owed.{begunBy}
@@ -43,4 +44,4 @@ takenBy g (ticks ∷ more) r = takenBy g more (g r ticks)
 
 -- each of rs goes on by a filling that the rules allow
 abbrev pub byFilling : ℕ → SheetValue → List ℤ → List Remainder → Option (List Remainder) → List Bool → Option (List Remainder)
-byFilling room v tags rs found ticks = allAdvanced room v (filledOf ticks tags) (begunBy (v .lines) (filledOf ticks tags)) rs found
+byFilling room v tags rs found ticks = allAdvanced room v (filledOf ticks tags) (begunBy mostTag (v .lines) (filledOf ticks tags)) rs found

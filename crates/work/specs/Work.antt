@@ -11,7 +11,7 @@ use Rattle.records.specs.declared.instant.Tick.the-variants.{Idle, Ticks, Unsee
 use Rattle.records.specs.Sheet.{SheetValue}
 use Rattle.tesl.specs.Lists.{all, sameList}
 use Rattle.tesl.specs.Run.{Filled}
-use Rattle.tesl.specs.Fits.{noneFalls}
+use Rattle.tesl.specs.Fits.{noneFalls, mostTag}
 use Rattle.tesl.specs.Remainder.{Remainder, sameObligation, sameCountdown}
 use Rattle.theory.specs.Adding.{onward, addedTo, sameByCount}
 use Rattle.theory.specs.Step.{overlap, linesOk, nextLeads}
@@ -75,7 +75,7 @@ allAdvanced room v f begun (r ∷ rs) found = allAdvanced room v f begun rs (too
 unfoldable pub filling : ℕ → SheetValue → List ℤ → List Remainder → Option (List Remainder) → List Bool → Option (List Remainder)
 filling room v tags rs found ticks =
     let f = filledOf ticks tags in
-    cond (all (ticksHold ticks) (v .lines)) (allAdvanced room v f (begunBy (v .lines) f) rs found) found
+    cond (all (ticksHold ticks) (v .lines)) (allAdvanced room v f (begunBy mostTag (v .lines) f) rs found) found
 
 -- the fillings of the clocks from k on, idle before tick; g takes each
 abbrev pub fillFrom : {R : Type 0} → (R → List Bool → R) → ℕ → List Tick → List Bool → R → R

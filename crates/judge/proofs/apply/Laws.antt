@@ -11,6 +11,7 @@ use Rattle.records.specs.Lists.{listedFrom, listed}
 use Rattle.records.specs.Sheet.{SheetValue}
 use Rattle.tesl.specs.Lists.{any}
 use Rattle.tesl.specs.Run.{Filled}
+use Rattle.tesl.specs.Fits.{mostTag}
 use Rattle.tesl.specs.Remainder.{Remainder}
 use Rattle.theory.specs.Adding.{addedTo}
 use Rattle.work.specs.Advanced.{Advanced, fails, over, onto}
@@ -65,8 +66,8 @@ module _ (room : ℕ) (v : SheetValue) (f : Filled) (begun : Owings) where
   none-more (r ∷ rs) = rw (took-none room (advanced v f begun r)) (none-more rs)
 
   -- each of those begun once is all of them
-  pub applied-start : begun ≡ eachOnce (begunBy (v .lines) f) → (row : ℕ → Remainder) (n : ℕ) (found : Option (List Remainder)) → allAdvanced room v f (begunBy (v .lines) f) (listed row n) found ≡ all (listedFrom row 0 (n - 0)) found
-  applied-start e row n found = let z : n - 0 ≡ n = omega arith in rw (z, e) (sym (all-advanced-once v f (begunBy (v .lines) f) room (listed row n) found))
+  pub applied-start : begun ≡ eachOnce (begunBy mostTag (v .lines) f) → (row : ℕ → Remainder) (n : ℕ) (found : Option (List Remainder)) → allAdvanced room v f (begunBy mostTag (v .lines) f) (listed row n) found ≡ all (listedFrom row 0 (n - 0)) found
+  applied-start e row n found = let z : n - 0 ≡ n = omega arith in rw (z, e) (sym (all-advanced-once v f (begunBy mostTag (v .lines) f) room (listed row n) found))
 
   pub applied-end : {rs : List Remainder} {found : Option (List Remainder)} → rs ≡ [] → all rs found ≡ found
   unfolding allAdvanced

@@ -9,6 +9,7 @@ use lib.IntN.{ℤ}
 use Rattle.records.specs.Lists.{listedFrom}
 use Rattle.records.specs.Sheet.{SheetValue}
 use Rattle.records.proofs.Lists.{listed-cons, listed-end}
+use Rattle.tesl.specs.Fits.{mostTag}
 use Rattle.tesl.specs.Remainder.{Remainder}
 use Rattle.work.specs.Owed.{begunBy}
 use Rattle.work.specs.View.{filledOf}
@@ -28,7 +29,7 @@ module _ (v : SheetValue) (tags : List ℤ) (rs : List Remainder) (list : List B
 
   taken-none : (more : List (List Bool)) → takenBy (byFilling 32 v tags rs) more none ≡ none
   taken-none [] = refl
-  taken-none (ticks ∷ more) = rw (none-more 32 v (filledOf ticks tags) (begunBy (v .lines) (filledOf ticks tags)) rs) (taken-none more)
+  taken-none (ticks ∷ more) = rw (none-more 32 v (filledOf ticks tags) (begunBy mostTag (v .lines) (filledOf ticks tags)) rs) (taken-none more)
 
   module _ (i : ℕ) (found : Option (List Remainder)) {whole : Option (List Remainder)} (w : whole ≡ takenFrom i found) where
     pub taken-end : m ≤ i → found ≡ whole

@@ -29,23 +29,23 @@ row-inside {j} {delays} {row} h r = by-test (ltb j delays) refl
     by-test true e = omega (arith, r .0 (ltb-true j delays e))
     by-test false e = omega (arith, r .1 (ltb-false j delays e))
 
-module _ (ticks : List Bool) (tags : List ℤ) (lines : List ℕ) where
+module _ (most : ℤ) (ticks : List Bool) (tags : List ℤ) (lines : List ℕ) where
   -- line j of a part
   abbrev lineIn : ℕ → ℕ → Line
   lineIn from j = planLine lines (from + j)
 
-  once-none : (from : ℕ) → [] ≡ storedOnce ticks tags lines from 0
-  once-none from = sym (ap (onceEach sameStored) (begun-start (storedBy ticks tags) (lineIn from) 0 ∙ begun-end (storedBy ticks tags) (lineIn from) 0 0 (omega arith)))
+  once-none : (from : ℕ) → [] ≡ storedOnce most ticks tags lines from 0
+  once-none from = sym (ap (onceEach sameStored) (begun-start (storedBy most ticks tags) (lineIn from) 0 ∙ begun-end (storedBy most ticks tags) (lineIn from) 0 0 (omega arith)))
 
   -- a part of n lines: what is begun from place `first` on, with what its lines from j on begin, is what all begin, each once
   pub record Part (from n : ℕ) (begun : List code.Obligation) (first count j : ℕ) : Type 0 where
     pub turns : j ≤ n
-    pub gathered : storedOnce ticks tags lines from n ≡ insertAll sameStored (drop first (take count begun)) (begunFrom (storedBy ticks tags) (lineIn from) n j)
+    pub gathered : storedOnce most ticks tags lines from n ≡ insertAll sameStored (drop first (take count begun)) (begunFrom (storedBy most ticks tags) (lineIn from) n j)
 
   part-start : (from n : ℕ) (begun : List code.Obligation) (first : ℕ) → Part from n begun first first 0
   part-start from n begun first = record { turns = omega arith; gathered = ap (onceEach sameStored) (begun-start _ (lineIn from) n) ∙ rw (none-from begun first first (omega arith)) }
 
-  part-end : {from n : ℕ} {begun : List code.Obligation} {first count j : ℕ} → Part from n begun first count j → n ≤ j → drop first (take count begun) ≡ storedOnce ticks tags lines from n
+  part-end : {from n : ℕ} {begun : List code.Obligation} {first count j : ℕ} → Part from n begun first count j → n ≤ j → drop first (take count begun) ≡ storedOnce most ticks tags lines from n
   part-end {j = j} w h = gathering-end _ _ _ _ j _ (w .gathered) h
 
   -- ---- the turns of both parts
@@ -56,7 +56,7 @@ module _ (ticks : List Bool) (tags : List ℤ) (lines : List ℕ) where
 
     pub record InCounted (begun : List code.Obligation) (first count j : ℕ) : Type 0 where
       pub past : delays < j
-      pub kept : take first begun ≡ storedOnce ticks tags lines delaysFrom delays
+      pub kept : take first begun ≡ storedOnce most ticks tags lines delaysFrom delays
       pub part : Part countedRows counted begun first count (j - delays)
 
     abbrev InPart : List code.Obligation → ℕ → ℕ → ℕ → Type 0
@@ -66,7 +66,7 @@ module _ (ticks : List Bool) (tags : List ℤ) (lines : List ℕ) where
       pub ordered : first ≤ count
       pub fewer : count ≤ j
       pub size : length begun ≡ 16
-      pub reads : (k : ℕ) → k < j → k < delays → ReadsOwed ticks tags (lineIn delaysFrom k)
+      pub reads : (k : ℕ) → k < j → k < delays → ReadsOwed most ticks tags (lineIn delaysFrom k)
       pub parts : InPart begun first count j
 
     pub gathering-start : (begun : List code.Obligation) → length begun ≡ 16 → Gathering begun 0 0 0
@@ -94,7 +94,7 @@ module _ (ticks : List Bool) (tags : List ℤ) (lines : List ℕ) where
               at-seam e =
                   let k : j - delays ≡ 0 = omega arith in
                   let next : (j + 1) - delays ≡ 0 + 1 = omega arith in
-                  let whole : take count begun ≡ storedOnce ticks tags lines delaysFrom delays = subst (λ (i : ℕ). drop i (take count begun) ≡ storedOnce ticks tags lines delaysFrom delays) (d .zero) (part-end (d .part) (omega arith)) in
+                  let whole : take count begun ≡ storedOnce most ticks tags lines delaysFrom delays = subst (λ (i : ℕ). drop i (take count begun) ≡ storedOnce most ticks tags lines delaysFrom delays) (d .zero) (part-end (d .part) (omega arith)) in
                   record {
                     from = countedRows;
                     n = counted;
@@ -136,11 +136,11 @@ module _ (ticks : List Bool) (tags : List ℤ) (lines : List ℕ) where
                 back = λ ys m same p. inr (record { past = omega arith; kept = same ∙ ap (λ (i : ℕ). take i begun) e ∙ d .kept; part = subst (Part countedRows counted ys first m) (sym next) p });
               }
 
-      module _ {l : Line} (e : l ≡ planLine lines row) (reads : ReadsOwed ticks tags l) where
-        all-read : (k : ℕ) → k < j + 1 → k < delays → ReadsOwed ticks tags (lineIn delaysFrom k)
+      module _ {l : Line} (e : l ≡ planLine lines row) (reads : ReadsOwed most ticks tags l) where
+        all-read : (k : ℕ) → k < j + 1 → k < delays → ReadsOwed most ticks tags (lineIn delaysFrom k)
         all-read k g d =
             ⊎-elim
-            (λ (s : k ≡ j). subst (ReadsOwed ticks tags) (e ∙ ap (planLine lines) (r .0 (omega arith) ∙ ap (λ (i : ℕ). delaysFrom + i) (sym s))) reads)
+            (λ (s : k ≡ j). subst (ReadsOwed most ticks tags) (e ∙ ap (planLine lines) (r .0 (omega arith) ∙ ap (λ (i : ℕ). delaysFrom + i) (sym s))) reads)
             (λ (s : k < j). w .reads k s d)
             (eq-or-lt-of-le (omega arith))
 
@@ -151,10 +151,10 @@ module _ (ticks : List Bool) (tags : List ℤ) (lines : List ℕ) where
         still : Part (turn .from) (turn .n) begun first count (turn .k + 1) → Gathering begun first count (j + 1)
         still p = record { ordered = turn .ordered; fewer = omega (arith, w .fewer); size = w .size; reads = all-read; parts = turn .back begun count refl p }
 
-        pub gathering-none : [] ≡ storedBy ticks tags l → Gathering begun first count (j + 1)
+        pub gathering-none : [] ≡ storedBy most ticks tags l → Gathering begun first count (j + 1)
         gathering-none g = still (record { turns = omega (arith, turn .here); gathered = gathering-nothing _ _ _ _ (turn .k) _ (turn .part .gathered) (turn .here) here g })
 
-        module _ (o : code.Obligation) (g : o ∷ [] ≡ storedBy ticks tags l) (t : Bool) (a : t ≡ any (sameStored o) (drop first (take count begun))) where
+        module _ (o : code.Obligation) (g : o ∷ [] ≡ storedBy most ticks tags l) (t : Bool) (a : t ≡ any (sameStored o) (drop first (take count begun))) where
           pub gathering-there : t ≡ true → Gathering begun first count (j + 1)
           gathering-there u = still (record { turns = omega (arith, turn .here); gathered = gathering-again _ _ _ _ (turn .k) _ (turn .part .gathered) (turn .here) here o g t a u })
 
@@ -175,10 +175,10 @@ module _ (ticks : List Bool) (tags : List ℤ) (lines : List ℕ) where
 
     -- ---- both parts
     pub gathered-both : {begun : List code.Obligation} {first count j owed : ℕ} → Gathering begun first count j → j ≡ delays + counted → delays + counted ≤ 16
-        → (counted ≡ 0 → owed ≡ count) × (0 < counted → owed ≡ first) → LinesBegin lines delays counted ticks tags owed count begun
+        → (counted ≡ 0 → owed ≡ count) × (0 < counted → owed ≡ first) → LinesBegin most lines delays counted ticks tags owed count begun
     gathered-both {begun} {first} {count} {j} {owed} w e few f = ⊎-elim in-delays in-counted (w .parts)
       where
-        in-delays : InDelays begun first count j → LinesBegin lines delays counted ticks tags owed count begun
+        in-delays : InDelays begun first count j → LinesBegin most lines delays counted ticks tags owed count begun
         in-delays d =
             let t = d .part .turns in
             let none : counted ≡ 0 = omega arith in
@@ -186,12 +186,12 @@ module _ (ticks : List Bool) (tags : List ℤ) (lines : List ℕ) where
             record {
               ordered = omega (arith, all);
               few = omega (arith, w .fewer);
-              obligations = ap (λ (i : ℕ). take i begun) all ∙ subst (λ (i : ℕ). drop i (take count begun) ≡ storedOnce ticks tags lines delaysFrom delays) (d .zero) (part-end (d .part) (omega arith));
-              countdowns = ap (λ (i : ℕ). drop i (take count begun)) all ∙ none-from begun count count (omega arith) ∙ once-none countedRows ∙ ap (storedOnce ticks tags lines countedRows) (sym none);
+              obligations = ap (λ (i : ℕ). take i begun) all ∙ subst (λ (i : ℕ). drop i (take count begun) ≡ storedOnce most ticks tags lines delaysFrom delays) (d .zero) (part-end (d .part) (omega arith));
+              countdowns = ap (λ (i : ℕ). drop i (take count begun)) all ∙ none-from begun count count (omega arith) ∙ once-none countedRows ∙ ap (storedOnce most ticks tags lines countedRows) (sym none);
               reads = λ k h. w .reads k (omega arith) h;
             }
 
-        in-counted : InCounted begun first count j → LinesBegin lines delays counted ticks tags owed count begun
+        in-counted : InCounted begun first count j → LinesBegin most lines delays counted ticks tags owed count begun
         in-counted d =
             let p = d .past in
             let some = f .1 (omega arith) in

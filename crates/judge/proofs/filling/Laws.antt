@@ -40,26 +40,26 @@ count-read true B D n = by-test (eqb n 0) refl
         let same : n ≡ n - 0 = omega arith in
         ap (λ (k : ℕ). wanting k ∷ []) same ∙ sym (rw (T→≡ (ltb 0 n) (lt→ltb 0 n (omega (arith, h)))))
 
-pub reads-counted : (ticks : List Bool) (tags : List ℤ) (l : Line) → isCounted l ≡ true → map countdownOf (storedBy ticks tags l) ≡ startedBy (filledOf ticks tags) l
-reads-counted ticks tags (Counted A B D n) h = count-read (ticksAt (filledOf ticks tags) A) B D n
-reads-counted ticks tags (Sporadic A B t) h = absurd (true≢false (sym h))
-reads-counted ticks tags (Relation A B p q) h = absurd (true≢false (sym h))
-reads-counted ticks tags (Implies A B) h = absurd (true≢false (sym h))
-reads-counted ticks tags (Excludes A B) h = absurd (true≢false (sym h))
-reads-counted ticks tags (Delayed A B D d) h = absurd (true≢false (sym h))
-reads-counted ticks tags (Weakly A B) h = absurd (true≢false (sym h))
-reads-counted ticks tags (Strictly A B) h = absurd (true≢false (sym h))
-reads-counted ticks tags (Kills A B) h = absurd (true≢false (sym h))
+pub reads-counted : (most : ℤ) (ticks : List Bool) (tags : List ℤ) (l : Line) → isCounted l ≡ true → map countdownOf (storedBy most ticks tags l) ≡ startedBy (filledOf ticks tags) l
+reads-counted most ticks tags (Counted A B D n) h = count-read (ticksAt (filledOf ticks tags) A) B D n
+reads-counted most ticks tags (Sporadic A B t) h = absurd (true≢false (sym h))
+reads-counted most ticks tags (Relation A B p q) h = absurd (true≢false (sym h))
+reads-counted most ticks tags (Implies A B) h = absurd (true≢false (sym h))
+reads-counted most ticks tags (Excludes A B) h = absurd (true≢false (sym h))
+reads-counted most ticks tags (Delayed A B D d) h = absurd (true≢false (sym h))
+reads-counted most ticks tags (Weakly A B) h = absurd (true≢false (sym h))
+reads-counted most ticks tags (Strictly A B) h = absurd (true≢false (sym h))
+reads-counted most ticks tags (Kills A B) h = absurd (true≢false (sym h))
 
 -- ---- the lines of a part, of one kind
 
 module _ {E : Type 0} (read : code.Obligation → E) (same : E → E → Bool) (agree : (a b : code.Obligation) → same (read a) (read b) ≡ sameStored a b) (begins : Line → List E) (kind : Line → Bool) where
-  pub part-begins : (ticks : List Bool) (tags : List ℤ) (lines : List ℕ) (from n : ℕ) (ls : List Line) {begun : List code.Obligation}
-      → begun ≡ storedOnce ticks tags lines from n → planLines lines from n ≡ filter kind ls
-      → ((j : ℕ) → j < n → kind (planLine lines (from + j)) ≡ true → map read (storedBy ticks tags (planLine lines (from + j))) ≡ begins (planLine lines (from + j)))
+  pub part-begins : (most : ℤ) (ticks : List Bool) (tags : List ℤ) (lines : List ℕ) (from n : ℕ) (ls : List Line) {begun : List code.Obligation}
+      → begun ≡ storedOnce most ticks tags lines from n → planLines lines from n ≡ filter kind ls
+      → ((j : ℕ) → j < n → kind (planLine lines (from + j)) ≡ true → map read (storedBy most ticks tags (planLine lines (from + j))) ≡ begins (planLine lines (from + j)))
       → map read begun ≡ onceEach same (flatMap begins (filter kind ls))
-  part-begins ticks tags lines from n ls b planned reads =
+  part-begins most ticks tags lines from n ls b planned reads =
       let at : ℕ → Line = λ j. planLine lines (from + j) in
       ap (map read) b
-      ∙ sym (once-each-read read sameStored same agree (flatMap (storedBy ticks tags) (planLines lines from n)))
-      ∙ ap (onceEach same) (begun-read read (storedBy ticks tags) begins at n (λ j h. reads j h (of-kind kind at n ls planned j h)) ∙ ap (flatMap begins) planned)
+      ∙ sym (once-each-read read sameStored same agree (flatMap (storedBy most ticks tags) (planLines lines from n)))
+      ∙ ap (onceEach same) (begun-read read (storedBy most ticks tags) begins at n (λ j h. reads j h (of-kind kind at n ls planned j h)) ∙ ap (flatMap begins) planned)

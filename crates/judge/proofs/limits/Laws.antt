@@ -15,9 +15,10 @@ use Rattle.tesl.specs.Lists.{all}
 use Rattle.theory.specs.Step.{linesOk, nextLeads}
 use Rattle.work.specs.View.{inUse}
 use Rattle.work.specs.Lines.{leadIn}
+use Rattle.tesl.specs.Fits.{mostTag}
 use Rattle.judge.specs.declared.obligation.Obligation as code
 use Rattle.judge.specs.declared.remainder.Remainder as arrays
-use Rattle.judge.specs.Word.{dueOf}
+use Rattle.judge.specs.Word.{dueOf, dueNumber}
 use Rattle.judge.specs.View.{obligationOf, countdownOf, viewOf}
 use Rattle.judge.specs.Limits.{obligationWithin, countdownWithin, storedWithin, leastDue, mostDue, leastWanted, mostWanted, setWithin, remainderWithin}
 use Rattle.judge.proofs.obligation.Laws.{due-le}
@@ -25,11 +26,11 @@ use Rattle.judge.proofs.lines.Laws.{okFrom, ok-start}
 
 -- ---- obligations
 module _ (c : ℕ) where
-  pub stored-within : (o : code.Obligation) → storedWithin c leastDue mostDue o ≡ obligationWithin c (obligationOf o)
-  unfolding storedWithin obligationWithin dueOf
+  pub stored-within : (o : code.Obligation) → storedWithin c leastDue mostDue o ≡ obligationWithin mostTag c (obligationOf o)
+  unfolding storedWithin obligationWithin dueOf dueNumber leastDue mostDue
   stored-within o = ap (λ (b : Bool). (ltb (o .clock) c && ltb (o .on) c) && b) (ap₂ _&&_ (sym (due-le leastDue (o .number))) (sym (due-le (o .number) mostDue)))
 
-  pub all-stored : (os : List code.Obligation) → all (storedWithin c leastDue mostDue) os ≡ all (obligationWithin c) (map obligationOf os)
+  pub all-stored : (os : List code.Obligation) → all (storedWithin c leastDue mostDue) os ≡ all (obligationWithin mostTag c) (map obligationOf os)
   all-stored [] = refl
   all-stored (o ∷ os) = ap₂ _&&_ (stored-within o) (all-stored os)
 

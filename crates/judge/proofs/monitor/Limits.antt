@@ -13,7 +13,7 @@ use Rattle.records.specs.Sheet.{SheetValue, lineAt, sheetValueChecks}
 use Rattle.records.specs.Types.{All, IsSheet}
 use Rattle.records.proofs.Lists.{both, taken-passed, length-listed}
 use Rattle.tesl.specs.Lists.{all}
-use Rattle.tesl.specs.Fits.{Obligation}
+use Rattle.tesl.specs.Fits.{mostTag, Obligation}
 use Rattle.tesl.specs.Remainder.{Remainder}
 use Rattle.tesl.proofs.Tests.{and-l, and-r, ≡→T, T→≡}
 use Rattle.theory.specs.Limits.{SheetLimits, clocksOk, dueOk, countdownOk, withinLimits}
@@ -59,34 +59,34 @@ sheet-limits v h t = passed v (decide (sheetValueChecks Any v) v) refl (T→≡ 
 -- ---- a remainder
 
 -- the limits of an obligation are those of its clocks and of its due
-both-limits : (c : ℕ) (os : List Obligation) → all (obligationWithin c) os ≡ (all (clocksOk c) os && all (λ (o : Obligation). dueOk (o .due)) os)
+both-limits : (c : ℕ) (os : List Obligation) → all (obligationWithin mostTag c) os ≡ (all (clocksOk c) os && all (λ (o : Obligation). dueOk mostTag (o .due)) os)
 unfolding obligationWithin
-both-limits c os = all-parts (clocksOk c) (λ o. dueOk (o .due)) os
+both-limits c os = all-parts (clocksOk c) (λ o. dueOk mostTag (o .due)) os
 
 six : (a b c d e : Bool) → (a && b && (c && d && e)) ≡ (a && c && (b && (d && e)))
 six false b c d e = refl
 six true b false d e = and-false b
 six true b true d e = refl
 
-remainder-limits : (v : SheetValue) (n : ℕ) (r : arrays.Remainder) → remainderWithin v n r ≡ (fewOwed r && withinLimits (v .clocks) n (viewOf v r))
+remainder-limits : (v : SheetValue) (n : ℕ) (r : arrays.Remainder) → remainderWithin v n r ≡ (fewOwed r && withinLimits mostTag (v .clocks) n (viewOf v r))
 unfolding remainderWithin withinLimits countdownWithin
 remainder-limits v n r =
-    six (leb (r .owed) 8) (all (obligationWithin (v .clocks)) (owedOf r)) (leb (r .counting) 8) (all (countdownWithin (v .clocks)) (countdownsOf r)) (all (λ (k : ℕ). leb k n) (viewOf v r .leads))
+    six (leb (r .owed) 8) (all (obligationWithin mostTag (v .clocks)) (owedOf r)) (leb (r .counting) 8) (all (countdownWithin (v .clocks)) (countdownsOf r)) (all (λ (k : ℕ). leb k n) (viewOf v r .leads))
     ∙ ap (λ (b : Bool). fewOwed r && (b && (all (countdownWithin (v .clocks)) (countdownsOf r) && all (λ (k : ℕ). leb k n) (viewOf v r .leads)))) (both-limits (v .clocks) (owedOf r))
 
 -- ---- those held
 
 -- of the first ones of an array: how many each owes, and the limits of each view
 each-limits : (v : SheetValue) (n : ℕ) (rs : List arrays.Remainder)
-    → all (remainderWithin v n) rs ≡ (all fewOwed rs && all (withinLimits (v .clocks) n) (map (viewOf v) rs))
+    → all (remainderWithin v n) rs ≡ (all fewOwed rs && all (withinLimits mostTag (v .clocks) n) (map (viewOf v) rs))
 each-limits v n rs =
     ap (λ (p : arrays.Remainder → Bool). all p rs) (fun-ext (remainder-limits v n))
-    ∙ all-parts fewOwed (λ r. withinLimits (v .clocks) n (viewOf v r)) rs
-    ∙ ap (λ (b : Bool). all fewOwed rs && b) (sym (all-map (withinLimits (v .clocks) n) (viewOf v) rs))
+    ∙ all-parts fewOwed (λ r. withinLimits mostTag (v .clocks) n (viewOf v r)) rs
+    ∙ ap (λ (b : Bool). all fewOwed rs && b) (sym (all-map (withinLimits mostTag (v .clocks) n) (viewOf v) rs))
 
 -- within the limits: room for what is counted, and each view within them
 pub held-limits : (v : SheetValue) (n : ℕ) (count : Status) (rs : List arrays.Remainder)
-    → heldWithin v n count rs ≡ (sizedIn count rs && all (withinLimits (v .clocks) n) (heldList (heldIn v count rs)))
+    → heldWithin v n count rs ≡ (sizedIn count rs && all (withinLimits mostTag (v .clocks) n) (heldList (heldIn v count rs)))
 unfolding heldWithin
 held-limits v n Exhausted rs = refl
 held-limits v n (Live k) rs = ap (λ (b : Bool). leb k 32 && b) (each-limits v n (take k rs)) ∙ sym (and-assoc (leb k 32) _ _)
@@ -97,7 +97,7 @@ pub record Limits (m : Monitor) : Type 0 where
   pub sheet : SheetLimits (sheetBy m)
   pub instants : m .instants ≤ 4000
   pub fits : T (sized (m .held))
-  pub views : T (all (withinLimits (m .sheet .clocks) (m .instants)) (heldList (heldBy m)))
+  pub views : T (all (withinLimits mostTag (m .sheet .clocks) (m .instants)) (heldList (heldBy m)))
 
 pub limits-of : (m : Monitor) → IsSheet (sheetBy m) → monitorWithin m ≡ true → Limits m
 unfolding monitorWithin
@@ -109,22 +109,22 @@ limits-of m h e =
     record { sheet = sheet-limits v h (≡→T (a .0)); instants = leb→le (m .instants) 4000 (≡→T (b .0)); fits = ≡→T (c .0); views = ≡→T (c .1) }
 
 pub within-limits : (m : Monitor) → T (sheetWithin (sheetBy m)) → m .instants ≤ 4000 → T (sized (m .held))
-    → T (all (withinLimits (m .sheet .clocks) (m .instants)) (heldList (heldBy m))) → monitorWithin m ≡ true
+    → T (all (withinLimits mostTag (m .sheet .clocks) (m .instants)) (heldList (heldBy m))) → monitorWithin m ≡ true
 unfolding monitorWithin
 within-limits m s i f w =
     let v = sheetBy m in
-    rw (T→≡ (sheetWithin v) s, T→≡ (leb (m .instants) 4000) (le→leb (m .instants) 4000 i), held-limits v (m .instants) (m .held .count) (m .held .remainders), T→≡ (sized (m .held)) f, T→≡ (all (withinLimits (m .sheet .clocks) (m .instants)) (heldList (heldBy m))) w)
+    rw (T→≡ (sheetWithin v) s, T→≡ (leb (m .instants) 4000) (le→leb (m .instants) 4000 i), held-limits v (m .instants) (m .held .count) (m .held .remainders), T→≡ (sized (m .held)) f, T→≡ (all (withinLimits mostTag (m .sheet .clocks) (m .instants)) (heldList (heldBy m))) w)
 
 -- ---- what within the limits the work asks
 
-small-leads : (c n : ℕ) → n ≤ 4000 → (r : Remainder) → T (withinLimits c n r) → T (smallLeads r)
+small-leads : (c n : ℕ) → n ≤ 4000 → (r : Remainder) → T (withinLimits mostTag c n r) → T (smallLeads r)
 unfolding withinLimits
 small-leads c n h r t = all-imp (λ (k : ℕ). leb k n) (λ (k : ℕ). ltb k 65535) (r .leads) (λ k u. let b = leb→le k n u in lt→ltb k 65535 (omega arith))
     (and-r (all (countdownOk c) (r .countdowns)) (all (λ (k : ℕ). leb k n) (r .leads))
-    (and-r (all (clocksOk c) (r .owed) && all (λ (o : Obligation). dueOk (o .due)) (r .owed)) (all (countdownOk c) (r .countdowns) && all (λ (k : ℕ). leb k n) (r .leads)) t))
+    (and-r (all (clocksOk c) (r .owed) && all (λ (o : Obligation). dueOk mostTag (o .due)) (r .owed)) (all (countdownOk c) (r .countdowns) && all (λ (k : ℕ). leb k n) (r .leads)) t))
 
 pub leads-small : (m : Monitor) → Limits m → T (all smallLeads (heldList (heldBy m)))
-leads-small m l = all-imp (withinLimits (m .sheet .clocks) (m .instants)) smallLeads (heldList (heldBy m)) (small-leads (m .sheet .clocks) (m .instants) (l .instants)) (l .views)
+leads-small m l = all-imp (withinLimits mostTag (m .sheet .clocks) (m .instants)) smallLeads (heldList (heldBy m)) (small-leads (m .sheet .clocks) (m .instants) (l .instants)) (l .views)
 
 pub workable : (m : Monitor) → Limits m → m .instants < 4000 → Workable m
 workable m l h = record {

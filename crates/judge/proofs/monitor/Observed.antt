@@ -20,6 +20,7 @@ use Rattle.records.proofs.instant.Read.{places-in-use}
 use Rattle.records.specs.Types.{All, IsInstant}
 use Rattle.tesl.specs.Lists.{all}
 use Rattle.tesl.specs.Run.{Instant, ticksOf, tagsOf}
+use Rattle.tesl.specs.Fits.{mostTag}
 use Rattle.tesl.specs.Remainder.{Remainder, sameRemainder}
 use Rattle.tesl.specs.Answer.{exhausted, judged, mostLive}
 use Rattle.theory.specs.Sets.{Covers}
@@ -73,7 +74,7 @@ module _ (room : ℕ) where
   every-found e = every (e .once) (e .live) (e .owe)
 
   views-after : (v : SheetValue) → SheetLimits v → (last : Option (List ℤ)) (i : Instant) → IsInstant i → (n : ℕ) (h after : Option (List Remainder)) → Works v last i h after
-      → T (all (withinLimits (v .clocks) n) (heldList h)) → T (all (withinLimits (v .clocks) (suc n)) (heldList after))
+      → T (all (withinLimits mostTag (v .clocks) n) (heldList h)) → T (all (withinLimits mostTag (v .clocks) (suc n)) (heldList after))
   unfolding Works
   views-after v l last i value n none after w b = rw w tt
   views-after v l last i value n (some rs) none w b = tt
@@ -108,8 +109,8 @@ module _ (m : Monitor) (l : Limits m) (sheet : T (sheetWithin (sheetBy m))) (roo
 
   limits-after : monitorWithin (r .monitor) ≡ true
   limits-after = within-limits (r .monitor) (rw (a .sheet) sheet) (let n = a .instants in omega arith) (a .fits)
-      (subst (λ (s : Sheet). T (all (withinLimits (s .clocks) (r .monitor .instants)) (heldList (heldBy (r .monitor))))) (sym (a .sheet))
-      (subst (λ (n : ℕ). T (all (withinLimits (m .sheet .clocks) n) (heldList (heldBy (r .monitor))))) (sym (a .instants))
+      (subst (λ (s : Sheet). T (all (withinLimits mostTag (s .clocks) (r .monitor .instants)) (heldList (heldBy (r .monitor))))) (sym (a .sheet))
+      (subst (λ (n : ℕ). T (all (withinLimits mostTag (m .sheet .clocks) n) (heldList (heldBy (r .monitor))))) (sym (a .instants))
       (views-after mostLive (sheetBy m) (l .sheet) (lastBy m) i value (m .instants) (heldBy m) (heldBy (r .monitor)) found (l .views))))
 
   last-after : lastBy (r .monitor) ≡ some (tagsOf i)

@@ -21,7 +21,7 @@ use Rattle.records.proofs.sheet.Read.{sheet-refused}
 use Rattle.records.proofs.sheet.Writing.{refused-done}
 use Rattle.records.proofs.sheet.RoundTrip.{read-writes, sheetOf-value}
 use Rattle.tesl.specs.Lists.{all, any, flatMap}
-use Rattle.tesl.specs.Fits.{Obligation, owedAtStart, unmet}
+use Rattle.tesl.specs.Fits.{mostTag, Obligation, owedAtStart, unmet}
 use Rattle.tesl.specs.Remainder.{Remainder, remainder, sameObligation, sameRemainder, owes}
 use Rattle.tesl.specs.Answer.{answer, mostLive}
 use Rattle.tesl.proofs.Tests.{and-i}
@@ -62,7 +62,7 @@ module _ (s : SheetValue) (l : SheetLimits s) where
   abbrev start : List Obligation
   start = flatMap owedAtStart (s .lines)
 
-  start-unmet : unmet (s .lines) [] ≡ start
+  start-unmet : unmet mostTag (s .lines) [] ≡ start
   start-unmet = append-nil _ ∙ filter-true start
 
   record First : Type 0 where
@@ -75,7 +75,7 @@ module _ (s : SheetValue) (l : SheetLimits s) where
   unfolding remainder owes
   first-of (room {xs = xs} h) e = record { owed = xs; found = e; these = h .set; once = h .once tt }
   first-of (full h) e =
-      let many = number-more sameObligation owed-equivalence 8 (h .among) (unmet (s .lines) []) (h .once tt) (λ o t. subst (λ (os : List Obligation). T (any (sameObligation o) os)) (sym start-unmet) (h .covered o t)) (h .many) in
+      let many = number-more sameObligation owed-equivalence 8 (h .among) (unmet mostTag (s .lines) []) (h .once tt) (λ o t. subst (λ (os : List Obligation). T (any (sameObligation o) os)) (sym start-unmet) (h .covered o t)) (h .many) in
       absurd (omega (arith, opening-owes s l))
 
   first : First
@@ -106,10 +106,10 @@ module _ (b : List ℕ) (bytes : IsBytes b) (s : SheetValue) (e : readSheet b �
         subst (λ (v : SheetValue). T (sheetWithin v)) (sym same)
         (subst (λ (o : Outcome SheetValue). T (isTaken o)) (sym (passed-taken (sheetValueChecks Any s) s (passed-any Rising s (taken-passed (sheetValueChecks Rising s) (read-writes Rising 24 b bytes e .checks) .0)))) tt)
 
-    views : T (all (withinLimits (m .sheet .clocks) (m .instants)) (heldList (heldBy m)))
+    views : T (all (withinLimits mostTag (m .sheet .clocks) (m .instants)) (heldList (heldBy m)))
     views = rw (holds, ap (λ (v : SheetValue). v .clocks) same, none)
-        (and-i (withinLimits (s .clocks) 0 (held s l)) true
-        (subst T (sym (same-within (s .clocks) 0 (held s l) (remainder s []) (held-same s l))) (start-within s (l .clocks-below) (l .values))) tt)
+        (and-i (withinLimits mostTag (s .clocks) 0 (held s l)) true
+        (subst T (sym (same-within mostTag (s .clocks) 0 (held s l) (remainder s []) (held-same s l))) (start-within s (l .clocks-below) (l .values))) tt)
 
     follows : Follows s [] m
     unfolding held

@@ -83,8 +83,18 @@ module _ (r n : ℕ) {tag : ℤ} (e : dueOf r ≡ tag) where
 pub held-due : {z t u : ℤ} (d : ℕ) → mag t < 32768 → z ≡ toZ w16 (ofZ w16 t) +ℤ pos d → t ≡ u → z ≡ u +ℤ pos d
 held-due d h e f = e ∙ ap (λ (x : ℤ). x +ℤ pos d) (back h f)
 
-pub held-now : {z t u : ℤ} → mag t < 32768 → z ≡ toZ w16 (ofZ w16 t) +ℤ pos 0 → t ≡ u → z ≡ u
-held-now {u = u} h e f = held-due 0 h e f ∙ +ℤ-idr u
+-- of `tag_number`, handed a tag
+pub held-number : {z t u : ℤ} → mag t < 32768 → z ≡ toZ w16 (ofZ w16 t) → t ≡ u → z ≡ u
+held-number h e f = e ∙ back h f
+
+-- the number of a tag has 16 bits
+number-small : (t : ℤ) → mag t < 32768 → dueNumber t < 65536
+unfolding dueNumber
+number-small (pos a) h = omega arith
+number-small (negsuc a) h = rw (le-ltb 32768 (suc a) (omega arith)) (omega arith)
+
+pub tag-small : (n : ℕ) (t : ℤ) → mag t < 32768 → dueOf n ≡ t → n < 65536
+tag-small n t h e = omega (arith, number-small t h, sym (number-due n) ∙ ap dueNumber e)
 
 -- obligations are the same where they are stored the same
 pub same-read : (a b : code.Obligation) → sameObligation (obligationOf a) (obligationOf b) ≡ sameStored a b

@@ -19,6 +19,7 @@ use Rattle.records.specs.Sheet.{SheetValue, sheetValue, lineAt}
 use Rattle.records.specs.Types.{All, IsSheet}
 use Rattle.records.proofs.Lists.{both, length-listed}
 use Rattle.tesl.specs.Lists.{all}
+use Rattle.tesl.specs.Fits.{mostTag}
 use Rattle.tesl.specs.Remainder.{Remainder}
 use Rattle.tesl.specs.Run as tesl
 use Rattle.tesl.proofs.Tests.{and-l, and-r, and-i, ≡→T}
@@ -159,7 +160,7 @@ module _ (s : Sheet) (n : ℕ) (tags : List ℤ) (h k : Held) (same : heldOf (sh
       let b = both (leb n 4000) (a .1) in
       let c = both (sized h) (sym (held-limits v n (h .count) (h .remainders)) ∙ b .1) in
       within-limits (holding k) (≡→T (a .0)) (leb→le n 4000 (≡→T (b .0))) fits
-      (subst (λ (o : Option (List Remainder)). T (all (withinLimits (s .clocks) n) (heldList o))) (sym same) (≡→T (c .1)))
+      (subst (λ (o : Option (List Remainder)). T (all (withinLimits mostTag (s .clocks) n) (heldList o))) (sym same) (≡→T (c .1)))
 
   pub follows-same : {v : SheetValue} {run : List tesl.Instant} → Follows v run (holding h) → Follows v run (holding k)
   follows-same f = record {

@@ -1,6 +1,6 @@
 -- Words stored in a row: what was stored is read there, and every other word stays. Assumes nothing.
 use mathlib.Core.List.{List, [], _∷_, _++_}
-use mathlib.Core.Path.{_≡_, refl, ap, ap₂, _∙_}
+use mathlib.Core.Path.{_≡_, refl, ap, _∙_}
 use Prim.Native.Nat.{ℕ, zero, suc, _+_, _*_, _<_, _≤_}
 use native.Mathlib.Omega.{arith}
 use lib.ListN.{length, getD, set, length-set}
@@ -64,9 +64,9 @@ module _ {first n : ℕ} {a b : List ℕ} (s : RowsStay first n a b) where
 
 -- ---- a place of a part
 
--- place k of a part whose words are the same
-pub obligation-same : (a b : List ℕ) (h part k : ℕ) → word b h (partWords * part + 1 + k) ≡ word a h (partWords * part + 1 + k) → word b h (partWords * part + 9 + k) ≡ word a h (partWords * part + 9 + k) → rowObligation b h part k ≡ rowObligation a h part k
-obligation-same a b h part k c n = ap₂ storedIn c n
+-- place k of a part whose word is the same
+pub obligation-same : (a b : List ℕ) (h part k : ℕ) → word b h (partWords * part + 1 + k) ≡ word a h (partWords * part + 1 + k) → rowObligation b h part k ≡ rowObligation a h part k
+obligation-same a b h part k e = ap storedIn e
 
 -- the words of a part of row h are the same
 pub record PartSame (h part : ℕ) (a b : List ℕ) : Type 0 where
@@ -77,7 +77,7 @@ module _ {h part : ℕ} {a b : List ℕ} (s : PartSame h part a b) where
   count-same = s .same (partWords * part) (omega arith) (omega arith)
 
   pub place-same : (k : ℕ) → k < 8 → rowObligation b h part k ≡ rowObligation a h part k
-  place-same k l = obligation-same a b h part k (s .same (partWords * part + 1 + k) (omega arith) (omega arith)) (s .same (partWords * part + 9 + k) (omega arith) (omega arith))
+  place-same k l = obligation-same a b h part k (s .same (partWords * part + 1 + k) (omega arith) (omega arith))
 
   pub set-same : rowCount a h part ≤ 8 → rowSet b h part ≡ rowSet a h part
   set-same few = ap (listed (rowObligation b h part)) count-same ∙ listed-same (rowCount a h part) (λ k l. place-same k (omega arith))
@@ -86,28 +86,16 @@ module _ {h part : ℕ} {a b : List ℕ} (s : PartSame h part a b) where
 pub part-stays : {i lo hi : ℕ} {a b : List ℕ} → Stays i lo hi a b → (h part : ℕ) → part < parts → ((p : ℕ) → partWords * part ≤ p → p < partWords * part + partWords → h ≡ i → lo ≤ p → p < hi → ⊥) → PartSame h part a b
 part-stays s h part l f = record { same = λ p x y. s .same h p (omega arith) (f p x y) }
 
-module _ (a : List ℕ) (i part j c n : ℕ) (size : length a ≡ words) (row : i < height) (inside : part < parts) (place : j < 8) where
-  abbrev first : List ℕ
-  first = set a (width * i + (partWords * part + 1 + j)) c
+module _ (a : List ℕ) (i part j w : ℕ) (size : length a ≡ words) (row : i < height) (inside : part < parts) (place : j < 8) where
+  abbrev after : List ℕ
+  after = set a (width * i + (partWords * part + 1 + j)) w
 
-  abbrev second : List ℕ
-  second = set first (width * i + (partWords * part + 9 + j)) n
-
-  other : (p : ℕ) → p < width → (p ≡ partWords * part + 1 + j → ⊥) → (p ≡ partWords * part + 9 + j → ⊥) → word second i p ≡ word a i p
-  other p h f g =
-      stored-other first i (partWords * part + 9 + j) n i p (omega arith) h (λ z. g) ∙ stored-other a i (partWords * part + 1 + j) c i p (omega arith) h (λ z. f)
-
-  pub obligation-put : {o : code.Obligation} → storedIn c n ≡ o → PutObligation i part j o a second
+  pub obligation-put : {o : code.Obligation} → storedIn w ≡ o → PutObligation i part j o a after
   obligation-put e =
       record {
-        stays = stays-put (stays-put (stays-all i (partWords * part + 1) (partWords * part + partWords) a) (partWords * part + 1 + j) c (omega arith) (omega arith) (omega arith)) (partWords * part + 9 + j) n (omega arith) (omega arith) (omega arith);
-        here = ap₂ storedIn
-            (stored-other first i (partWords * part + 9 + j) n i (partWords * part + 1 + j) (omega arith) (omega arith) (λ z e. omega arith) ∙ stored a i (partWords * part + 1 + j) c (omega arith))
-            (stored first i (partWords * part + 9 + j) n (omega (arith, length-set a (width * i + (partWords * part + 1 + j)) c)))
-            ∙ e;
-        others = λ k l f. obligation-same a second i part k
-            (other (partWords * part + 1 + k) (omega arith) (λ e. f (omega arith)) (λ e. omega arith))
-            (other (partWords * part + 9 + k) (omega arith) (λ e. omega arith) (λ e. f (omega arith)));
+        stays = stays-put (stays-all i (partWords * part + 1) (partWords * part + partWords) a) (partWords * part + 1 + j) w (omega arith) (omega arith) (omega arith);
+        here = ap storedIn (stored a i (partWords * part + 1 + j) w (omega arith)) ∙ e;
+        others = λ k l f. obligation-same a after i part k (stored-other a i (partWords * part + 1 + j) w i (partWords * part + 1 + k) (omega arith) (omega arith) (λ z q. f (omega arith)));
       }
 
 -- ---- a set
@@ -127,9 +115,7 @@ module _ (a : List ℕ) (i part n : ℕ) (size : length a ≡ words) (row : i < 
   pub set-put : n ≤ 8 → rowSet counted i part ≡ listed (rowObligation a i part) n
   set-put h =
       ap (listed (rowObligation counted i part)) count-put
-      ∙ listed-same n (λ k l. obligation-same a counted i part k
-      (stored-other a i (partWords * part) n i (partWords * part + 1 + k) (omega arith) (omega arith) (λ z e. omega arith))
-      (stored-other a i (partWords * part) n i (partWords * part + 9 + k) (omega arith) (omega arith) (λ z e. omega arith)))
+      ∙ listed-same n (λ k l. obligation-same a counted i part k (stored-other a i (partWords * part) n i (partWords * part + 1 + k) (omega arith) (omega arith) (λ z e. omega arith)))
 
 -- ---- all sets of a row
 
@@ -148,8 +134,4 @@ module _ (a b : List ℕ) (h : ℕ) (same : (p : ℕ) → p < leadsPart → word
   set-words part l few = set-same {h = h} {part = part} {a = a} {b = b} (record { same = λ p x y. same p (omega arith) }) few
 
   pub nothing-words : NothingInParts a h → NothingInParts b h
-  nothing-words n =
-      record {
-        clocks = λ part j l m k. same (partWords * part + 1 + j) (omega arith) ∙ n .clocks part j l (omega (arith, counts-words part l)) k;
-        numbers = λ part j l m k. same (partWords * part + 9 + j) (omega arith) ∙ n .numbers part j l (omega (arith, counts-words part l)) k;
-      }
+  nothing-words n = record { places = λ part j l m k. same (partWords * part + 1 + j) (omega arith) ∙ n .places part j l (omega (arith, counts-words part l)) k }

@@ -45,20 +45,13 @@ rows-cleared first n c =
     }
 
 -- ---- a part
-module _ {i part n : ℕ} {a b c : List ℕ} (inside : part < parts) (few : n ≤ 8) (x : ClearedPart i (partWords * part + 1 + n) (partWords * part + 9) a b) (y : ClearedPart i (partWords * part + 9 + n) (partWords * part + partWords) b c) where
-  word-as-before : (q : ℕ) → q < width → (partWords * part + 1 + n ≤ q → q < partWords * part + 9 → ⊥) → (partWords * part + 9 + n ≤ q → q < partWords * part + partWords → ⊥) → word c i q ≡ word a i q
-  word-as-before q l e f = y .stays .same i q l (λ r. f) ∙ x .stays .same i q l (λ r. e)
-
-  pub owed-cleared : ClearedOwed i part n a c
-  owed-cleared =
-      record {
-        stays = stays-on (stays-wide (x .stays) (partWords * part + 1) (partWords * part + partWords) (omega arith) (omega arith)) (stays-wide (y .stays) (partWords * part + 1) (partWords * part + partWords) (omega arith) (omega arith));
-        places = λ j l. obligation-same a c i part j
-            (word-as-before (partWords * part + 1 + j) (omega arith) (λ u w. omega arith) (λ u w. omega arith))
-            (word-as-before (partWords * part + 9 + j) (omega arith) (λ u w. omega arith) (λ u w. omega arith));
-        clocks = λ j l m. y .stays .same i (partWords * part + 1 + j) (omega arith) (λ r u w. omega arith) ∙ x .zero (partWords * part + 1 + j) (omega arith) (omega arith);
-        numbers = λ j l m. y .zero (partWords * part + 9 + j) (omega arith) (omega arith);
-      }
+pub owed-cleared : {i part n : ℕ} {a b : List ℕ} → part < parts → n ≤ 8 → ClearedPart i (partWords * part + 1 + n) (partWords * part + partWords) a b → ClearedOwed i part n a b
+owed-cleared {i} {part} {n} {a} {b} inside few x =
+    record {
+      stays = stays-wide (x .stays) (partWords * part + 1) (partWords * part + partWords) (omega arith) (omega arith);
+      places = λ j l. obligation-same a b i part j (x .stays .same i (partWords * part + 1 + j) (omega arith) (λ r u w. omega arith));
+      rest = λ j l m. x .zero (partWords * part + 1 + j) (omega arith) (omega arith);
+    }
 
 -- ---- the sets: the first `part` are cleared
 pub record Sets (i : ℕ) (was rows : List ℕ) (part : ℕ) : Type 0 where
@@ -66,8 +59,7 @@ pub record Sets (i : ℕ) (was rows : List ℕ) (part : ℕ) : Type 0 where
   pub stays : Stays i 0 (partWords * part) was rows
   pub count : CountsSame i was rows
   pub set : (p : ℕ) → p < part → rowSet rows i p ≡ rowSet was i p
-  pub clocks : (p j : ℕ) → p < part → rowCount rows i p ≤ j → j < 8 → word rows i (partWords * p + 1 + j) ≡ 0
-  pub numbers : (p j : ℕ) → p < part → rowCount rows i p ≤ j → j < 8 → word rows i (partWords * p + 9 + j) ≡ 0
+  pub rest : (p j : ℕ) → p < part → rowCount rows i p ≤ j → j < 8 → word rows i (partWords * p + 1 + j) ≡ 0
 
 module _ {i : ℕ} {was : List ℕ} where
   pub sets-start : Sets i was was 0
@@ -76,8 +68,7 @@ module _ {i : ℕ} {was : List ℕ} where
     stays = stays-all i 0 0 was;
     count = λ p l. refl;
     set = λ p l. absurd (omega arith);
-    clocks = λ p j l. absurd (omega arith);
-    numbers = λ p j l. absurd (omega arith);
+    rest = λ p j l. absurd (omega arith);
   }
 
   module _ {rows : List ℕ} {part : ℕ} (w : Sets i was rows part) where
@@ -109,13 +100,9 @@ module _ {i : ℕ} {was : List ℕ} where
             (λ (q : p ≡ part). rw q here)
             (λ (q : p < part). set-same {h = i} {part = p} {a = rows} {b = after} (record { same = λ x u v. before p x q u v }) (sets-few few p (omega arith)) ∙ w .set p q)
             (eq-or-lt-of-le (omega arith));
-        clocks = λ p j l m k. let c = counts p (omega arith) in ⊎-elim
-            (λ (q : p ≡ part). rw q (o .clocks j (omega (arith, counts part h, ap (rowCount after i) q)) k))
-            (λ (q : p < part). before p (partWords * p + 1 + j) q (omega arith) (omega arith) ∙ w .clocks p j q (omega arith) k)
-            (eq-or-lt-of-le (omega arith));
-        numbers = λ p j l m k. let c = counts p (omega arith) in ⊎-elim
-            (λ (q : p ≡ part). rw q (o .numbers j (omega (arith, counts part h, ap (rowCount after i) q)) k))
-            (λ (q : p < part). before p (partWords * p + 9 + j) q (omega arith) (omega arith) ∙ w .numbers p j q (omega arith) k)
+        rest = λ p j l m k. let c = counts p (omega arith) in ⊎-elim
+            (λ (q : p ≡ part). rw q (o .rest j (omega (arith, counts part h, ap (rowCount after i) q)) k))
+            (λ (q : p < part). before p (partWords * p + 1 + j) q (omega arith) (omega arith) ∙ w .rest p j q (omega arith) k)
             (eq-or-lt-of-le (omega arith));
       }
 
@@ -125,7 +112,7 @@ module _ {i : ℕ} {was : List ℕ} where
       stays = stays-wide (w .stays) 0 leadsPart (omega (arith, w .turns)) (omega (arith, w .turns));
       count = w .count;
       set = λ p l. w .set p (omega arith);
-      nothing = record { clocks = λ p j l m k. w .clocks p j (omega arith) m k; numbers = λ p j l m k. w .numbers p j (omega arith) m k };
+      nothing = record { places = λ p j l m k. w .rest p j (omega arith) m k };
     }
 
 -- ---- leads: of the first k those without a flag are zero

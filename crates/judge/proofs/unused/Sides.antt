@@ -48,10 +48,7 @@ nothing-same a b i same n =
 pub nothing-zero : (p : Plan) (rows : List ℕ) (i : ℕ) → ((q : ℕ) → q < width → word rows i q ≡ 0) → NothingInRow p rows i
 nothing-zero p rows i zero =
     record {
-      sets = record {
-        clocks = λ part j l m k. zero (partWords * part + 1 + j) (omega arith);
-        numbers = λ part j l m k. zero (partWords * part + 9 + j) (omega arith);
-      };
+      sets = record { places = λ part j l m k. zero (partWords * part + 1 + j) (omega arith) };
       leads = λ k l f. zero (leadsPart + k) (omega arith);
       rest = λ q l m. zero q m;
     }

@@ -4,19 +4,20 @@ use Prim.Native.Nat.{_+_, _-_, _≤_}
 use native.Mathlib.Omega.{arith}
 use lib.ListN.{replicate, length-replicate}
 use borrow.Author.Needs.{needs}
+use Rattle.judge.specs.Word.{dueOf}
 use Rattle.judge.specs.View.{newObligation, blankObligation}
 use Rattle.judge.proofs.delays.Parts.{row-inside, Gathering, gathering-start, gathering-none, gathering-there, gathering-new, gathered-both}
 use Rattle.judge.proofs.delays.begin_delays.Statement.{statement}
 use Rattle.judge.proofs.delays.begin_delays.Tie as tie
 
 abbrev Inv-loop : tie.InvT-loop
-Inv-loop lines delays counted ticks tags begun₀ first₀ count₀ j₀ all begun first count j = (j ≤ delays + counted) × Gathering ticks tags lines delays counted begun first count j
+Inv-loop lines delays counted ticks tags most begun₀ first₀ count₀ j₀ all begun first count j = (j ≤ delays + counted) × Gathering (dueOf most) ticks tags lines delays counted begun first count j
 
 abbrev μ-loop : tie.MeasureT-loop
-μ-loop lines delays counted ticks tags begun₀ first₀ count₀ j₀ all begun first count j = delays + counted - j
+μ-loop lines delays counted ticks tags most begun₀ first₀ count₀ j₀ all begun first count j = delays + counted - j
 
 loop-holds : tie.Need-loop-holds Inv-loop μ-loop
-loop-holds c = (omega arith, gathering-start _ _ _ _ _ (replicate 16 blankObligation) (length-replicate 16 blankObligation))
+loop-holds c = (omega arith, gathering-start _ _ _ _ _ _ (replicate 16 blankObligation) (length-replicate 16 blankObligation))
 
 line-there : tie.Need-plan-line-requires Inv-loop μ-loop
 line-there c κs = row-inside (omega arith) (c .line-row .ensures)
@@ -32,7 +33,7 @@ loop-again : tie.Need-loop-again Inv-loop μ-loop
 loop-again c =
     let b = c .before .before in
     let p = b .before in
-    (omega arith, gathering-none _ _ _ _ _ (at b .loop .inv .1) (omega arith) (p .before .before .first-in-part .ensures) (p .before .line-row .ensures) (p .plan-line .ensures) (b .begins .ensures .owed) (sym (ap newObligation (c .enum-told .given .1)) ∙ b .begins .ensures .stored))
+    (omega arith, gathering-none _ _ _ _ _ _ (at b .loop .inv .1) (omega arith) (p .before .before .first-in-part .ensures) (p .before .line-row .ensures) (p .plan-line .ensures) (b .begins .ensures .owed) (sym (ap newObligation (c .enum-told .given .1)) ∙ b .begins .ensures .stored))
 
 loop-again-2 : tie.Need-loop-again-2 Inv-loop μ-loop
 loop-again-2 c =
@@ -41,7 +42,7 @@ loop-again-2 c =
     let o = k .o .given in
     let b = k .before .before in
     let p = b .before in
-    (omega arith, gathering-there _ _ _ _ _ (at b .loop .inv .1) (omega arith) (p .before .before .first-in-part .ensures) (p .before .line-row .ensures) (p .plan-line .ensures) (b .begins .ensures .owed) (o .0 .0) (sym (ap newObligation (o .1)) ∙ b .begins .ensures .stored) (t .result) (t .ensures) (c .if1 .taken))
+    (omega arith, gathering-there _ _ _ _ _ _ (at b .loop .inv .1) (omega arith) (p .before .before .first-in-part .ensures) (p .before .line-row .ensures) (p .plan-line .ensures) (b .begins .ensures .owed) (o .0 .0) (sym (ap newObligation (o .1)) ∙ b .begins .ensures .stored) (t .result) (t .ensures) (c .if1 .taken))
 
 loop-again-3 : tie.Need-loop-again-3 Inv-loop μ-loop
 loop-again-3 c =
@@ -50,12 +51,12 @@ loop-again-3 c =
     let o = k .o .given in
     let b = k .before .before in
     let p = b .before in
-    (omega arith, gathering-new _ _ _ _ _ (at b .loop .inv .1) (omega arith) (p .before .before .first-in-part .ensures) (p .before .line-row .ensures) (p .plan-line .ensures) (b .begins .ensures .owed) (o .0 .0) (sym (ap newObligation (o .1)) ∙ b .begins .ensures .stored) (t .result) (t .ensures) (omega (arith, at b .loop .inv .1 .fewer)) (c .if1 .left))
+    (omega arith, gathering-new _ _ _ _ _ _ (at b .loop .inv .1) (omega arith) (p .before .before .first-in-part .ensures) (p .before .line-row .ensures) (p .plan-line .ensures) (b .begins .ensures .owed) (o .0 .0) (sym (ap newObligation (o .1)) ∙ b .begins .ensures .stored) (t .result) (t .ensures) (omega (arith, at b .loop .inv .1 .fewer)) (c .if1 .left))
 
 returns : tie.Need-returns Inv-loop μ-loop
 returns c =
     let at = c .before .before in
-    gathered-both _ _ _ _ _ (at .loop .inv .1) (omega arith) (at .before .pre) (c .owed-of .ensures)
+    gathered-both _ _ _ _ _ _ (at .loop .inv .1) (omega arith) (at .before .pre) (c .owed-of .ensures)
 
 pub begin-delays-spec : {M : Type 1} → statement M
 begin-delays-spec =

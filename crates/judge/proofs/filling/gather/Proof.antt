@@ -3,7 +3,7 @@ use mathlib.Core.Path.{refl, ap, _∙_}
 use mathlib.Core.Bool.{false}
 use lib.ListN.{replicate}
 use borrow.Author.Needs.{needs}
-use Rattle.tesl.specs.Fits.{owedFrom}
+use Rattle.tesl.specs.Fits.{mostTag, owedFrom}
 use Rattle.tesl.specs.Remainder.{sameObligation, sameCountdown}
 use Rattle.theory.specs.Adding.{onceEach}
 use Rattle.theory.specs.Step.{startedBy}
@@ -12,6 +12,7 @@ use Rattle.work.specs.Lines.{allStopped}
 use Rattle.work.specs.Carried.{needOf, gainOf, lossOf}
 use Rattle.work.specs.Parts.{isDelay, isCounted}
 use Rattle.work.proofs.Parts.{delays-enough, counted-enough}
+use Rattle.judge.specs.Word.{dueOf}
 use Rattle.judge.specs.View.{obligationOf, countdownOf}
 use Rattle.judge.specs.Plan.{delaysFrom, countedRows, planLine}
 use Rattle.judge.proofs.obligation.Laws.{same-read, same-counted}
@@ -20,6 +21,7 @@ use Rattle.judge.proofs.filling.gather.Statement.{statement}
 use Rattle.judge.proofs.filling.gather.Tie as tie
 
 returns : tie.Need-returns
+unfolding dueOf
 returns c =
     let e = c .before .before .before .before in
     let l = e .before in
@@ -37,8 +39,8 @@ returns c =
         few-clocks = planned .few-clocks;
         leading = planned .leading;
         begins = λ i. record {
-          owed = (part-begins obligationOf sameObligation same-read (owedFrom f) isDelay (a .ticks) (a .tags) (a .lines .now) delaysFrom (a .plan .delays) (v .lines) (b .obligations) (planned .delays) (b .reads) ∙ ap (onceEach sameObligation) (delays-enough f (v .lines))) i;
-          countdowns = (part-begins countdownOf sameCountdown same-counted (startedBy f) isCounted (a .ticks) (a .tags) (a .lines .now) countedRows (a .plan .counted) (v .lines) (b .countdowns) (planned .counted) (λ j h. reads-counted (a .ticks) (a .tags) (planLine (a .lines .now) _)) ∙ ap (onceEach sameCountdown) (counted-enough f (v .lines))) i;
+          owed = (part-begins obligationOf sameObligation same-read (owedFrom mostTag f) isDelay mostTag (a .ticks) (a .tags) (a .lines .now) delaysFrom (a .plan .delays) (v .lines) (b .obligations) (planned .delays) (b .reads) ∙ ap (onceEach sameObligation) (delays-enough mostTag f (v .lines))) i;
+          countdowns = (part-begins countdownOf sameCountdown same-counted (startedBy f) isCounted mostTag (a .ticks) (a .tags) (a .lines .now) countedRows (a .plan .counted) (v .lines) (b .countdowns) (planned .counted) (λ j h. reads-counted mostTag (a .ticks) (a .tags) (planLine (a .lines .now) _)) ∙ ap (onceEach sameCountdown) (counted-enough f (v .lines))) i;
         };
         ends = s .all-stops .ensures ∙ ap (λ ls. allStopped (a .ticks) ls (replicate 8 false)) (planned .rules);
         needed = λ k h. l .lead-changes .ensures .needed k h ∙ ap (needOf (a .ticks)) (planned .all k h);

@@ -2,6 +2,8 @@
 use borrow.Author.Needs.{needs}
 use borrow.Author.Tests.{not-true, not-false}
 use Rattle.records.specs.Sheet.{sheetValue}
+use Rattle.judge.specs.Word.{dueNumber}
+use Rattle.judge.specs.Limits.{leastDue, mostDue}
 use Rattle.judge.proofs.limits.Laws.{not-owed, not-counted, by-leads}
 use Rattle.judge.proofs.limits.remainder_within.Statement.{statement}
 use Rattle.judge.proofs.limits.remainder_within.Tie as tie
@@ -10,12 +12,14 @@ abbrev start : tie.After-set-within → tie.Start
 start c = c .before .before
 
 returns : tie.Need-returns
+unfolding leastDue mostDue dueNumber
 returns c =
     let w = c .before in
     let a = start w .args in
     not-owed (sheetValue (a .s)) (a .instants) (a .r) (w .set-within .ensures) (not-true (w .set-within .result) (c .if1 .taken))
 
 returns-2 : tie.Need-returns-2
+unfolding leastDue mostDue dueNumber
 returns-2 c =
     let k = c .before in
     let t = k .before .before in
@@ -24,6 +28,7 @@ returns-2 c =
     not-counted (sheetValue (a .s)) (a .instants) (a .r) (w .set-within .ensures) (not-false (w .set-within .result) (t .if1 .left)) (k .set-within2 .ensures) (not-true (k .set-within2 .result) (c .if2 .taken))
 
 returns-3 : tie.Need-returns-3
+unfolding leastDue mostDue dueNumber
 returns-3 c =
     let e = c .before .before in
     let k = e .before in

@@ -1,36 +1,56 @@
 -- `begins` meets its contract: each kind by its arm. Assumes nothing.
-use mathlib.Core.Bool.{true≢false}
-use mathlib.Core.Path.{sym, _∙_}
+use mathlib.Core.Bool.{true, true≢false}
+use mathlib.Core.Path.{_≡_, sym, _∙_}
+use lib.IntN.{pos, _+ℤ_}
 use borrow.Author.Needs.{needs}
-use Rattle.judge.proofs.obligation.Laws.{number-due, held-due}
+use Rattle.tesl.specs.Run.{tagIn}
+use Rattle.work.specs.Questions.{tickIn}
+use Rattle.judge.specs.Word.{dueOf}
+use Rattle.judge.proofs.obligation.Laws.{held-due}
+use Rattle.judge.proofs.line.Laws.{begins-on-scale, begins-beyond}
 use Rattle.judge.proofs.line.begins.Statement.{statement}
 use Rattle.judge.proofs.line.begins.Tie as tie
 
+-- ---- a delay line whose A ticks
+
+module _ (d : tie.After-due-number) where
+  abbrev asked : tie.After-ticks-at
+  asked = d .before .before .before
+
+  abbrev told : tie.After-l
+  told = asked .before .before
+
+  ticking : tickIn (told .before .before .args .ticks) (told .l .given .0 .0) ≡ true
+  ticking = sym (asked .ticks-at .ensures) ∙ d .before .before .if1 .taken
+
+  is-due : tagIn (told .before .before .args .tags) (told .l .given .0 .1 .0) +ℤ pos (told .l .given .0 .1 .1 .1 .0) ≡ dueOf (d .due-number .result)
+  is-due = let t = d .before .tag-at in sym (held-due (told .l .given .0 .1 .1 .1 .0) (t .ok) (d .due-number .ensures) (t .ensures))
+
 returns : tie.Need-returns
-returns c =
-    let t = c .before in
-    let k = t .before in
-    let l = k .before .before .before .l .given in
-    let ticks = sym (k .before .ticks-at .ensures) in
-    let due = sym (held-due (l .0 .1 .1 .1 .0) (t .tag-at .ok) (c .due-number .ensures) (t .tag-at .ensures)) in
-    let n = number-due (c .due-number .result) in
-    record { stored = rw (l .1, ticks, k .if1 .taken, due, n); owed = λ d. rw (l .1, ticks, k .if1 .taken, due, n) }
+returns c = let d = c .before in begins-on-scale (told d .l .given .1) _ _ (ticking d) _ (is-due d) _ (c .if2 .taken)
 
 returns-2 : tie.Need-returns-2
-returns-2 c =
+returns-2 c = let d = c .before in begins-beyond (told d .l .given .1) _ _ (ticking d) _ (is-due d) _ (c .if2 .left)
+
+-- ---- where its A doesn't tick
+
+returns-3 : tie.Need-returns-3
+returns-3 c =
     let l = c .before .before .before .l .given .1 in
     let ticks = sym (c .before .ticks-at .ensures) in
     record { stored = rw (l, ticks, c .if1 .left); owed = λ d. rw (l, ticks, c .if1 .left) }
 
-returns-10 : tie.Need-returns-10
-returns-10 c =
+-- ---- a counted line
+
+returns-11 : tie.Need-returns-11
+returns-11 c =
     let l = c .before .before .before .l2 .given .1 in
     record { stored = c .begins-count .ensures ∙ rw (l, c .before .ticks-at2 .ensures); owed = λ d. absurd (true≢false (sym d ∙ rw l)) }
 
 pub begins-spec : {M : Type 1} → statement M
 begins-spec =
-    tie.close (tie.spec (λ c. search needs) (λ c κs. search needs) (λ c κs. search needs) (λ c κs. search needs) (λ c. search needs)
-    (λ c. search needs) (λ c. search needs) (λ c. search needs) (λ c. search needs) (λ c. search needs) (λ c. search needs) (λ c. search needs) (λ c κs. search needs) (λ c κs. search needs) returns returns-2
+    tie.close (tie.spec (λ c. search needs) (λ c κs. search needs) (λ c κs. search needs) (λ c κs. search needs) (λ c. search needs) (λ c. search needs)
+    (λ c. search needs) (λ c. search needs) (λ c. search needs) (λ c. search needs) (λ c. search needs) (λ c. search needs) (λ c. search needs) (λ c κs. search needs) (λ c κs. search needs) returns returns-2 returns-3
     (λ c. record { stored = search needs; owed = λ d. search needs }) (λ c. record { stored = search needs; owed = λ d. search needs }) (λ c. record { stored = search needs; owed = λ d. search needs })
     (λ c. record { stored = search needs; owed = λ d. search needs }) (λ c. record { stored = search needs; owed = λ d. search needs }) (λ c. record { stored = search needs; owed = λ d. search needs })
-    (λ c. record { stored = search needs; owed = λ d. search needs }) returns-10)
+    (λ c. record { stored = search needs; owed = λ d. search needs }) returns-11)

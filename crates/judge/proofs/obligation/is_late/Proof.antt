@@ -1,6 +1,6 @@
 -- `is_late` meets its contract: below is not at or above. Assumes nothing.
 use borrow.Author.Needs.{needs}
-use Rattle.judge.proofs.obligation.Laws.{held-now, number-late}
+use Rattle.judge.proofs.obligation.Laws.{held-number, number-late}
 use Rattle.judge.proofs.obligation.is_late.Statement.{statement}
 use Rattle.judge.proofs.obligation.is_late.Tie as tie
 
@@ -8,7 +8,7 @@ returns : tie.Need-returns
 returns c =
     let d = c .before in
     let t = d .before .tag-at in
-    number-late (d .due-number .result) (d .before .before .args .o .number) (held-now (t .ok) (d .due-number .ensures) (t .ensures))
+    number-late (d .tag-number .result) (d .before .before .args .o .number) (held-number (t .ok) (d .tag-number .ensures) (t .ensures))
 
 pub is-late-spec : {M : Type 1} → statement M
 is-late-spec = tie.close (tie.spec (λ c κs. search needs) (λ c κs. search needs) returns)

@@ -1,17 +1,21 @@
 -- `row_within` meets its contract: one test after the other. Assumes nothing.
 use borrow.Author.Needs.{needs}
 use borrow.Author.Tests.{not-true, not-false}
+use Rattle.judge.specs.Word.{dueNumber}
+use Rattle.judge.specs.Limits.{leastDue, mostDue}
 use Rattle.judge.proofs.rows_limits.Laws.{row-owed, row-counted, row-leads}
 use Rattle.judge.proofs.rows_limits.row_within.Statement.{statement}
 use Rattle.judge.proofs.rows_limits.row_within.Tie as tie
 
 returns : tie.Need-returns
+unfolding leastDue mostDue dueNumber
 returns c =
     let w = c .before in
     let a = w .before .before .args in
     row-owed (a .instants) (a .rows .now) (a .i) (w .row-set-within .ensures) (not-true _ (c .if1 .taken))
 
 returns-2 : tie.Need-returns-2
+unfolding leastDue mostDue dueNumber
 returns-2 c =
     let k = c .before in
     let t = k .before in
@@ -20,6 +24,7 @@ returns-2 c =
     row-counted (a .instants) (a .rows .now) (a .i) (w .row-set-within .ensures) (not-false _ (t .if1 .left)) (k .row-set-within2 .ensures) (not-true _ (c .if2 .taken))
 
 returns-3 : tie.Need-returns-3
+unfolding leastDue mostDue dueNumber
 returns-3 c =
     let e = c .before .before in
     let k = e .before in

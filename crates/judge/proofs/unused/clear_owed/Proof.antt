@@ -1,4 +1,4 @@
--- `clear_owed` meets its contract: clocks and numbers are cleared in turn. Assumes nothing.
+-- `clear_owed` meets its contract: the places behind those in use are cleared. Assumes nothing.
 use borrow.Author.Needs.{needs}
 use Rattle.judge.proofs.unused.Laws.{owed-cleared}
 use Rattle.judge.proofs.unused.clear_owed.Statement.{statement}
@@ -6,10 +6,9 @@ use Rattle.judge.proofs.unused.clear_owed.Tie as tie
 
 returns : tie.Need-returns
 returns c =
-    let first = c .before .before in
-    let p = first .before .before .pre in
-    owed-cleared (p .1 .0) (p .1 .1) (first .clear-part .ensures) (c .clear-part2 .ensures)
+    let p = c .before .before .pre in
+    owed-cleared (p .1 .0) (p .1 .1) (c .clear-part .ensures)
 
 pub clear-owed-spec : {M : Type 1} → statement M
 clear-owed-spec =
-    tie.close (tie.spec (λ c. search needs) (λ c. search needs) (λ c. search needs) (λ c. search needs) (λ c κs. search needs) (λ c. search needs) (λ c. search needs) (λ c. search needs) (λ c κs. search needs) returns)
+    tie.close (tie.spec (λ c. search needs) (λ c. search needs) (λ c. search needs) (λ c. search needs) (λ c κs. search needs) returns)

@@ -1,16 +1,16 @@
--- `trials::lift::example` is safe and ends: each turn leaves fewer bytes. Assumes nothing.
+-- `trials::lift::example_by` is safe and ends: each turn leaves fewer bytes. Assumes nothing.
 use borrow.Author.Needs.{needs}
 use native.Mathlib.Omega.{arith}
 use Prim.Native.Nat.{_-_}
 use lib.ListN.{length}
-use Rattle.trials.proofs.lift.example.Statement.{statement}
-use Rattle.trials.proofs.lift.example.Tie as tie
+use Rattle.trials.proofs.lift.example_by.Statement.{statement}
+use Rattle.trials.proofs.lift.example_by.Tie as tie
 
 abbrev Inv-loop : tie.InvT-loop
-Inv-loop name log t₀ at₀ t8 t at = Unit
+Inv-loop name below_end log t₀ at₀ t8 t at = Unit
 
 abbrev μ-loop : tie.MeasureT-loop
-μ-loop name log t₀ at₀ t8 t at = length log - at
+μ-loop name below_end log t₀ at₀ t8 t at = length log - at
 
 start-requires : tie.Need-start-requires Inv-loop μ-loop
 start-requires c κs = search needs
@@ -34,7 +34,7 @@ then-requires : tie.Need-then-requires Inv-loop μ-loop
 then-requires c κs = search needs
 
 add-at : tie.Need-add-at Inv-loop μ-loop
-add-at c = omega (arith, c .before .before .before .loop-test .taken, c .before .before .before .before .before .before .before .before .good .1 .1 .0 .1)
+add-at c = omega (arith, c .before .before .before .loop-test .taken, c .before .before .before .before .before .before .before .before .good .1 .1 .1 .0 .1)
 
 loop-less : tie.Need-loop-less Inv-loop μ-loop
 loop-less c = search needs
@@ -51,8 +51,8 @@ say-requires c κs = search needs
 returns : tie.Need-returns Inv-loop μ-loop
 returns c = search needs
 
-pub example-spec : {M : Type 1} → statement M
-example-spec =
+pub example-by-spec : {M : Type 1} → statement M
+example-by-spec =
     tie.close
     (tie.spec
     Inv-loop
