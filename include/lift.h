@@ -3,15 +3,16 @@
  *
  * Sheets, logs, instants and refusal numbers are document 01's; with document
  * 02 the lines of a sheet stand in rising order (17), in which the program
- * sort writes them, and kind 24 is a delay counted in ticks, whose count is
- * not 0 (18). There are two ways to use it: live, instant by instant, with a
+ * sort writes them, kind 24 is a delay counted in ticks, whose count is not 0
+ * (18), and a delay that would be due past the greatest tag, 32,767, owes
+ * nothing. There are two ways to use it: live, instant by instant, with a
  * state that the caller lends, and over a whole log. Every call takes every
  * input.
  *
  * The library keeps nothing between calls, takes no heap and writes nowhere
  * but into the state or the buffer that it is lent. Of stack, lift_observe
- * takes 6.6 KB, lift_owing 20.4 KB, the other live calls 3.1 KB and a call over
- * a log at most 52.7 KB, as bench/run measures.
+ * takes 6.4 KB, lift_owing 14.6 KB, the other live calls 3.1 KB and a call over
+ * a log at most 42.6 KB, as bench/run measures.
  *
  * Every pointer must be valid for its length. A length of 0 needs a pointer
  * that is not null all the same; what it points to is not looked at. What is

@@ -104,15 +104,15 @@ pub(crate) fn is_duplicate(
         return false;
     }
     let x = first + n;
-    let most = larger_set(rows, x);
-    let count = row_count(rows, x, most);
-    let least = COUNTDOWNS - most;
-    let fewer = row_count(rows, x, least);
+    let larger = larger_set(rows, x);
+    let count = row_count(rows, x, larger);
+    let smaller = COUNTDOWNS - larger;
+    let fewer = row_count(rows, x, smaller);
     let mut k = 0;
     'held: while k < n {
         let i = first + k;
         k += 1;
-        if row_count(rows, i, most) != count {
+        if row_count(rows, i, larger) != count {
             continue;
         }
         if !same_leads(rows, i, x, leaders, precede) {
@@ -121,7 +121,7 @@ pub(crate) fn is_duplicate(
         if !same_stopped(rows, i, x, clocks) {
             continue;
         }
-        if row_count(rows, i, least) != fewer {
+        if row_count(rows, i, smaller) != fewer {
             continue;
         }
         if count == 0 {

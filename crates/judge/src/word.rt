@@ -3,6 +3,11 @@ ghost use mathlib.Core.Path.{_≡_};
 ghost use Prim.Native.Nat.{_/_, _%_, _≤_};
 ghost use Rattle.judge.specs.Word.{flagOf};
 
+// How many values a byte has, and half a word.
+const BYTE: u32 = 256;
+
+const HALF: u32 = 65536;
+
 pub(crate) fn count_in(w: u32) -> usize
     ensures { λ r. ⌜ r ≡ w ⌝ }
 {
@@ -19,34 +24,34 @@ pub(crate) fn count_word(n: usize) -> u32
 pub(crate) fn byte_in(w: u32) -> u8
     ensures { λ r. ⌜ r ≡ w % 256 ⌝ }
 {
-    (w % 256) as u8
+    (w % BYTE) as u8
 }
 
 // The byte beside it.
 pub(crate) fn next_byte_in(w: u32) -> u8
     ensures { λ r. ⌜ r ≡ w / 256 % 256 ⌝ }
 {
-    (w / 256 % 256) as u8
+    (w / BYTE % BYTE) as u8
 }
 
 // The upper half.
 pub(crate) fn upper_in(w: u32) -> u16
     ensures { λ r. ⌜ r ≡ w / 65536 ⌝ }
 {
-    (w / 65536) as u16
+    (w / HALF) as u16
 }
 
 // Two bytes, and a number in the upper half.
 pub(crate) fn packed_word(x: u8, y: u8, upper: u16) -> u32
     ensures { λ r. ⌜ (r % 256 ≡ x) × ((r / 256 % 256 ≡ y) × (r / 65536 ≡ upper)) ⌝ }
 {
-    (x as u32) + 256 * (y as u32) + 65536 * (upper as u32)
+    (x as u32) + BYTE * (y as u32) + HALF * (upper as u32)
 }
 
 pub(crate) fn number_in(w: u32) -> u16
     ensures { λ r. ⌜ r ≡ w % 65536 ⌝ }
 {
-    (w % 65536) as u16
+    (w % HALF) as u16
 }
 
 pub(crate) fn lead_word(x: u16) -> u32

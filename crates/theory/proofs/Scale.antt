@@ -12,7 +12,7 @@ use Rattle.records.specs.Outcome.{Outcome, taken, refused, _⇒_}
 use Rattle.records.specs.Word.{signed, tagOf}
 use Rattle.records.specs.Record.{Piece, whole, torn, pieces}
 use Rattle.records.specs.Sheet.{SheetValue, clockCount}
-use Rattle.records.specs.Instant.{Cell, RawCell, cellOf, rawCells, cellsIn, instantIn, oneInstantChecks, readInstant}
+use Rattle.records.specs.Instant.{Cell, RawCell, cellOf, rawCells, instantIn, oneInstantChecks, readInstant}
 use Rattle.records.specs.Types.{All}
 use Rattle.records.proofs.Lists.{taken-passed}
 use Rattle.tesl.specs.Run.{Instant, tagsOf, Filled, tagIn}

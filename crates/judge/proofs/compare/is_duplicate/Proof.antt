@@ -17,16 +17,16 @@ use Rattle.judge.proofs.compare.is_duplicate.Statement.{statement}
 use Rattle.judge.proofs.compare.is_duplicate.Tie as tie
 
 abbrev Inv-loop : tie.InvT-loop
-Inv-loop rows first n clocks leaders precede x most count least fewer k i part₀ part = (part ≤ parts) × (below part (setSame rows x i) ≡ true)
+Inv-loop rows first n clocks leaders precede x larger count smaller fewer k i part₀ part = (part ≤ parts) × (below part (setSame rows x i) ≡ true)
 
 abbrev μ-loop : tie.MeasureT-loop
-μ-loop rows first n clocks leaders precede x most count least fewer k i part₀ part = parts - part
+μ-loop rows first n clocks leaders precede x larger count smaller fewer k i part₀ part = parts - part
 
 abbrev Inv-held : tie.InvT-held
-Inv-held rows first n clocks leaders precede x most count least fewer k₀ k = (k ≤ n) × (noneSame clocks leaders precede rows x first k ≡ true)
+Inv-held rows first n clocks leaders precede x larger count smaller fewer k₀ k = (k ≤ n) × (noneSame clocks leaders precede rows x first k ≡ true)
 
 abbrev μ-held : tie.MeasureT-held
-μ-held rows first n clocks leaders precede x most count least fewer k₀ k = n - k
+μ-held rows first n clocks leaders precede x larger count smaller fewer k₀ k = n - k
 
 -- the k-th row is row x
 abbrev same : tie.Start Inv-loop μ-loop Inv-held μ-held → ℕ → Bool
