@@ -12,14 +12,13 @@ use Rattle.records.specs.Outcome.{Outcome, taken, refused, _⇒_}
 use Rattle.records.specs.Word.{signed, tagOf}
 use Rattle.records.specs.Record.{Piece, whole, torn, pieces}
 use Rattle.records.specs.Sheet.{SheetValue, clockCount}
-use Rattle.records.specs.Instant.{Cell, RawCell, cellOf, rawCells, instantIn, oneInstantChecks, readInstant}
-use Rattle.records.specs.Types.{All}
+use Rattle.records.specs.Instant.{RawCell, cellOf, rawCells, instantIn, oneInstantChecks, readInstant}
 use Rattle.records.proofs.Lists.{taken-passed}
 use Rattle.tesl.specs.Run.{Instant, tagsOf, Filled, tagIn}
 use Rattle.tesl.specs.Fits.{mostTag}
 use Rattle.tesl.specs.Machine.{accepts, listAfter}
 use Rattle.tesl.specs.Formula.{WithinScale}
-use Rattle.theory.specs.Limits.{OnScale}
+use Rattle.theory.specs.Limits.{TagsWithin, OnScale}
 use Rattle.theory.proofs.Lists.{each-snoc}
 use Rattle.theory.proofs.Accepted.{taken-read}
 
@@ -33,19 +32,19 @@ tag-scale w = by-test (ltb w 32768) (ltb→lt w 32768)
     by-test true l = let h = l tt in leZ-yes (le→leb w 32767 (omega arith))
     by-test false l = leZ-yes tt
 
-cells-scale : (cs : List RawCell) → All (λ (c : Cell). c .tag ≤ℤ mostTag) (map cellOf cs)
+cells-scale : (cs : List RawCell) → TagsWithin mostTag (map cellOf cs)
 cells-scale [] = tt
 cells-scale (c ∷ cs) = (tag-scale (c .word), cells-scale cs)
 
-piece-scale : (ps : List Piece) → All (λ (c : Cell). c .tag ≤ℤ mostTag) (instantIn ps)
+piece-scale : (ps : List Piece) → TagsWithin mostTag (instantIn ps)
 piece-scale [] = tt
 piece-scale (torn ∷ ps) = tt
 piece-scale (whole kind body ∷ ps) = cells-scale (rawCells body)
 
-read-scale : (c : ℕ) (bytes : List ℕ) {i : Instant} → readInstant c bytes ≡ taken i → All (λ (c : Cell). c .tag ≤ℤ mostTag) i
+read-scale : (c : ℕ) (bytes : List ℕ) {i : Instant} → readInstant c bytes ≡ taken i → TagsWithin mostTag i
 unfolding readInstant
 read-scale c bytes e =
-    subst (All (λ (c : Cell). c .tag ≤ℤ mostTag)) (taken-passed ((not (clockCount c) ⇒ 4) ∷ oneInstantChecks c (pieces bytes)) e .1) (piece-scale (pieces bytes))
+    subst (TagsWithin mostTag) (taken-passed ((not (clockCount c) ⇒ 4) ∷ oneInstantChecks c (pieces bytes)) e .1) (piece-scale (pieces bytes))
 
 -- the machine's list stays on the scale, whatever a call is handed
 pub list-scale : (s : SheetValue) (run : List Instant) (bytes : List ℕ) → OnScale mostTag run → OnScale mostTag (listAfter run (accepts s run bytes))
@@ -53,7 +52,7 @@ list-scale s run bytes h = by-outcome (accepts s run bytes) refl
   where
     by-outcome : (o : Outcome Instant) → accepts s run bytes ≡ o → OnScale mostTag (listAfter run o)
     by-outcome (refused n) e = h
-    by-outcome (taken i) e = each-snoc (λ (i : Instant). All (λ (c : Cell). c .tag ≤ℤ mostTag) i) run h (read-scale (s .clocks) bytes (taken-read s run bytes e .0))
+    by-outcome (taken i) e = each-snoc (TagsWithin mostTag) run h (read-scale (s .clocks) bytes (taken-read s run bytes e .0))
 
 -- a beginning of it does
 pub front-scale : (front rest : List Instant) → OnScale mostTag (front ++ rest) → OnScale mostTag front
@@ -62,7 +61,7 @@ front-scale (i ∷ front) rest h = (h .0, front-scale front rest (h .1))
 
 -- ---- what fills a run has its tags
 
-instant-scale : (i : Instant) → All (λ (c : Cell). c .tag ≤ℤ mostTag) i → (K : ℕ) → tagIn (tagsOf i) K ≤ℤ mostTag
+instant-scale : (i : Instant) → TagsWithin mostTag i → (K : ℕ) → tagIn (tagsOf i) K ≤ℤ mostTag
 instant-scale [] h K = leZ-yes tt
 instant-scale (c ∷ i) h zero = h .0
 instant-scale (c ∷ i) h (suc K) = instant-scale i (h .1) K

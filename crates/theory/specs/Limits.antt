@@ -32,9 +32,12 @@ pub record ListLimits (s : SheetValue) (run : List Instant) : Type 0 where
   pub sizes : All (λ (i : Instant). length i ≡ s .clocks) run
   pub values : All IsInstant run
 
--- none of its tags exceeds the end of the scale
+-- none of an instant's tags exceeds the end of the scale, and none of the list's
+abbrev pub TagsWithin : ℤ → Instant → Type 0
+TagsWithin most i = All (λ (c : Cell). c .tag ≤ℤ most) i
+
 abbrev pub OnScale : ℤ → List Instant → Type 0
-OnScale most run = All (λ (i : Instant). All (λ (c : Cell). c .tag ≤ℤ most) i) run
+OnScale most run = All (TagsWithin most) run
 
 -- ---- a remainder
 
