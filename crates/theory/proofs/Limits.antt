@@ -4,7 +4,7 @@ use mathlib.Core.List.{List, [], _∷_, _++_, map}
 use mathlib.Core.Logic.{_≢_}
 use mathlib.Core.Option.{Option}
 use mathlib.Core.Path.{_≡_, sym, _∙_, subst}
-use Prim.Native.Nat.{ℕ, zero, suc, _-_, _<_}
+use Prim.Native.Nat.{ℕ, suc, _-_, _<_}
 use native.Mathlib.Omega.{arith}
 use lib.Dec.{T, T-not, not-T, leb, ltb, leb→le, le→leb, ltb→lt}
 use lib.IntN.{ℤ}
@@ -13,9 +13,9 @@ use Rattle.records.specs.declared.line.Line.{Line}
 use Rattle.records.specs.Sheet.{SheetValue}
 use Rattle.records.specs.Types.{All, IsTag, IsLineValue, IsInstant}
 use Rattle.tesl.specs.Lists.{all, any}
-use Rattle.tesl.specs.Run.{Instant, ticksOf, tagsOf, Filled, tagIn, tagAt, fillTicks, fillings, runFillings}
+use Rattle.tesl.specs.Run.{Instant, ticksOf, tagsOf, Filled, tagAt, fillTicks, fillings, runFillings}
 use Rattle.tesl.specs.Fits.{mostTag, Obligation, unmet, Countdown, ticksIn, leftOf, leftBy, fits}
-use Rattle.tesl.specs.Remainder.{Remainder, leadOf, remainder, sameRemainder, owes}
+use Rattle.tesl.specs.Remainder.{Remainder, leadOf, remainder, sameRemainder}
 use Rattle.tesl.specs.Answer.{exhausted, remainders, answerWithin}
 use Rattle.theory.specs.Step.{nextLead, nextLeads, nextOwed, startedBy, begunCountdowns, nextCountdowns, next, stepOk, lastTagsOf, nexts, lineBelow, wellFormed}
 use Rattle.theory.specs.Limits.{dueOk, clocksOk, countdownOk, withinLimits, HeldLimits}
@@ -29,6 +29,7 @@ use Rattle.theory.proofs.Sets.{any-covers, any-set, distinct-set}
 use Rattle.theory.proofs.Respect.{owed-equality, count-equality, all-equal, remainder-equivalence, alike}
 use Rattle.theory.proofs.Fillings.{found, any-nexts, found-snoc}
 use Rattle.theory.proofs.Answers.{held-few}
+use Rattle.theory.proofs.Scale.{each-tag}
 
 -- ---- one step
 
@@ -136,11 +137,6 @@ module _ (s : SheetValue) (wf : T (wellFormed s)) (values : All IsLineValue (s .
 
   -- ---- the remainders of a run
 
-  instant-tags : (i : Instant) → IsInstant i → (k : ℕ) → IsTag (tagIn (tagsOf i) k)
-  instant-tags [] h k = omega arith
-  instant-tags (c ∷ i) h zero = h .0
-  instant-tags (c ∷ i) h (suc k) = instant-tags i (h .1) k
-
   beyond : ℕ → Remainder → Bool
   beyond held r = not (withinLimits mostTag (s .clocks) held r)
 
@@ -154,7 +150,7 @@ module _ (s : SheetValue) (wf : T (wellFormed s)) (values : All IsLineValue (s .
   nexts-within last i h held r t = not-T (withinLimits mostTag (s .clocks) held r) (λ w.
       none-any (λ (b : List Bool). late (filledBy b)) (fillTicks (ticksOf i))
       (λ b u. T-not (withinLimits mostTag (s .clocks) (suc held) (next s (filledBy b) r)) (and-r (stepOk s last (filledBy b) r) (beyond (suc held) (next s (filledBy b) r)) u)
-      (next-within (filledBy b) (instant-tags i h) held r w))
+      (next-within (filledBy b) (each-tag IsTag (omega arith) i h) held r w))
       (subst T (any-nexts s last i (beyond (suc held)) r ∙ any-map late filledBy (fillTicks (ticksOf i))) t))
     where
       filledBy : List Bool → Filled

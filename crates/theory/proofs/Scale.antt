@@ -12,7 +12,8 @@ use Rattle.records.specs.Outcome.{Outcome, taken, refused, _⇒_}
 use Rattle.records.specs.Word.{signed, tagOf}
 use Rattle.records.specs.Record.{Piece, whole, torn, pieces}
 use Rattle.records.specs.Sheet.{SheetValue, clockCount}
-use Rattle.records.specs.Instant.{RawCell, cellOf, rawCells, instantIn, oneInstantChecks, readInstant}
+use Rattle.records.specs.Instant.{Cell, RawCell, cellOf, rawCells, instantIn, oneInstantChecks, readInstant}
+use Rattle.records.specs.Types.{All}
 use Rattle.records.proofs.Lists.{taken-passed}
 use Rattle.tesl.specs.Run.{Instant, tagsOf, Filled, tagIn}
 use Rattle.tesl.specs.Fits.{mostTag}
@@ -61,13 +62,14 @@ front-scale (i ∷ front) rest h = (h .0, front-scale front rest (h .1))
 
 -- ---- what fills a run has its tags
 
-instant-scale : (i : Instant) → TagsWithin mostTag i → (K : ℕ) → tagIn (tagsOf i) K ≤ℤ mostTag
-instant-scale [] h K = leZ-yes tt
-instant-scale (c ∷ i) h zero = h .0
-instant-scale (c ∷ i) h (suc K) = instant-scale i (h .1) K
+-- what holds of each tag of an instant, and of 0, holds of the tag of every clock
+pub each-tag : (P : ℤ → Type 0) → P (pos 0) → (i : Instant) → All (λ (c : Cell). P (c .tag)) i → (K : ℕ) → P (tagIn (tagsOf i) K)
+each-tag P z [] h K = z
+each-tag P z (c ∷ i) h zero = h .0
+each-tag P z (c ∷ i) h (suc K) = each-tag P z i (h .1) K
 
 pub filled-scale : (run : List Instant) (f : List Filled) → map (λ (g : Filled). g .tags) f ≡ map tagsOf run → OnScale mostTag run → WithinScale mostTag f
 filled-scale run [] e h K n = leZ-yes tt
 filled-scale [] (g ∷ f) e h K n = absurd (let z : _≡_ {A = ℕ} 1 0 = cc in omega arith)
-filled-scale (i ∷ run) (g ∷ f) e h K zero = subst (λ (tags : List ℤ). tagIn tags K ≤ℤ mostTag) (sym (ap (λ (ts : List (List ℤ)). getD ts 0 []) e)) (instant-scale i (h .0) K)
+filled-scale (i ∷ run) (g ∷ f) e h K zero = subst (λ (tags : List ℤ). tagIn tags K ≤ℤ mostTag) (sym (ap (λ (ts : List (List ℤ)). getD ts 0 []) e)) (each-tag (λ (z : ℤ). z ≤ℤ mostTag) (leZ-yes tt) i (h .0) K)
 filled-scale (i ∷ run) (g ∷ f) e h K (suc n) = let rest : map (λ (g : Filled). g .tags) f ≡ map tagsOf run = cc in filled-scale run f rest (h .1) K n
