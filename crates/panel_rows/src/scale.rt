@@ -7,7 +7,7 @@ use crate::text::say;
 use judge::monitor::Monitor;
 use judge::obligation::Obligation;
 
-// The numbers of the dues -32,768 and 32,767, counted from the least tag; there are no others.
+// The numbers of the first and the last due, -32,768 and 32,767.
 const LEAST: u16 = 0;
 
 const MOST: u16 = 65535;

@@ -1,6 +1,7 @@
 -- `begins` meets its contract: each kind by its arm. Assumes nothing.
 use mathlib.Core.Bool.{true, true≢false}
 use mathlib.Core.Path.{_≡_, sym, _∙_}
+use Prim.Native.Nat.{ℕ}
 use lib.IntN.{pos, _+ℤ_}
 use borrow.Author.Needs.{needs}
 use Rattle.tesl.specs.Run.{tagIn}
@@ -20,11 +21,24 @@ module _ (d : tie.After-due-number) where
   abbrev told : tie.After-l
   told = asked .before .before
 
-  ticking : tickIn (told .before .before .args .ticks) (told .l .given .0 .0) ≡ true
+  abbrev start : tie.Start
+  start = told .before .before
+
+  -- the line's A, its on-clock and its delay
+  abbrev first : ℕ
+  first = told .l .given .0 .0
+
+  abbrev on : ℕ
+  on = told .l .given .0 .1 .0
+
+  abbrev by : ℕ
+  by = told .l .given .0 .1 .1 .1 .0
+
+  ticking : tickIn (start .args .ticks) first ≡ true
   ticking = sym (asked .ticks-at .ensures) ∙ d .before .before .if1 .taken
 
-  is-due : tagIn (told .before .before .args .tags) (told .l .given .0 .1 .0) +ℤ pos (told .l .given .0 .1 .1 .1 .0) ≡ dueOf (d .due-number .result)
-  is-due = let t = d .before .tag-at in sym (held-due (told .l .given .0 .1 .1 .1 .0) (t .ok) (d .due-number .ensures) (t .ensures))
+  is-due : tagIn (start .args .tags) on +ℤ pos by ≡ dueOf (d .due-number .result)
+  is-due = let t = d .before .tag-at in sym (held-due by (t .ok) (d .due-number .ensures) (t .ensures))
 
 returns : tie.Need-returns
 returns c = let d = c .before in begins-on-scale (told d .l .given .1) _ _ (ticking d) _ (is-due d) _ (c .if2 .taken)
