@@ -17,11 +17,12 @@ use crate::start::begin_rows;
 use crate::stored::read_back;
 use crate::stored::store_held;
 use records::number;
+use records::order::Order;
 use records::record::Decision;
 use records::sheet::Sheet;
-use records::sheet::read_sheet;
+use records::sheet::read_by;
 ghost use mathlib.Core.Path.{_≡_};
-ghost use Rattle.records.specs.Sheet.{readSheet};
+ghost use Rattle.records.specs.Sheet.{readBy, readSheet, readBase};
 ghost use Rattle.judge.specs.Limits.{monitorWithin};
 ghost use Rattle.judge.specs.Monitor.{blankMonitor, refusal};
 ghost use Rattle.judge.specs.Promises.{Opened, Observed};
@@ -59,11 +60,11 @@ pub(crate) fn blank_monitor(sheet: Sheet) -> Monitor
     }
 }
 
-// Opens a sheet: its number and no monitor, or the answer for no instant and the monitor.
-pub fn open(bytes: &[u8]) -> CallResult
-    ensures { λ r. ⌜ Opened readSheet (now (bytes .entry)) r ⌝ }
+// Opens a sheet, its lines in an order and of kinds up to a last one: its number and no monitor, or the answer for no instant and the monitor.
+fn open_by(bytes: &[u8], order: Order, last: u16) -> CallResult
+    ensures { λ r. ⌜ Opened (readBy order last) (now (bytes .entry)) r ⌝ }
 {
-    let read = read_sheet(bytes);
+    let read = read_by(bytes, order, last);
     let sheet = read.sheet;
     let answer = read.answer;
     match answer {
@@ -83,6 +84,20 @@ pub fn open(bytes: &[u8]) -> CallResult
             }
         }
     }
+}
+
+// Opens a sheet, its lines in rising order.
+pub fn open(bytes: &[u8]) -> CallResult
+    ensures { λ r. ⌜ Opened readSheet (now (bytes .entry)) r ⌝ }
+{
+    open_by(bytes, Order::Rising, number::LAST_LINE)
+}
+
+// Opens a sheet by document 01's rules: its lines in any order, repeats allowed, of kinds 16 to 23.
+pub fn open_unordered(bytes: &[u8]) -> CallResult
+    ensures { λ r. ⌜ Opened readBase (now (bytes .entry)) r ⌝ }
+{
+    open_by(bytes, Order::Any, number::LAST_BASE_LINE)
 }
 
 // The number, and the monitor as it came.

@@ -86,9 +86,13 @@ readBy order last b = decide (sheetChecks order last (pieces b)) (sheetIn (piece
 abbrev pub readSheet : List ℕ → Outcome SheetValue
 readSheet b = readBy Rising 24 b
 
--- the same in any order, repeats allowed; document 01's own rule is `readBy Any 23`
+-- the same in any order, repeats allowed
 abbrev pub readUnordered : List ℕ → Outcome SheetValue
 readUnordered b = readBy Any 24 b
+
+-- document 01's own rules: any order, repeats allowed, kinds 16 to 23
+abbrev pub readBase : List ℕ → Outcome SheetValue
+readBase b = readBy Any 23 b
 
 -- ---- the struct
 

@@ -61,6 +61,9 @@ pub const COUNTED: u16 = 24;
 // The last kind that is a line.
 pub const LAST_LINE: u16 = COUNTED;
 
+// The last one of document 01's own.
+pub const LAST_BASE_LINE: u16 = KILLS;
+
 pub const INSTANT: u16 = 32;
 
 // Lengths: of a record's length and kind, of the bodies of the clocks record and of lines, of a clock in an instant.

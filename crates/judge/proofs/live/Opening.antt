@@ -5,6 +5,7 @@ use Prim.Native.Nat.{ℕ, _+_, _≤_, _<_}
 use native.Mathlib.Omega.{arith}
 use lib.IntN.{pos}
 use lib.ListN.{length, getD}
+use Rattle.records.specs.declared.order.Order.the-variants.{Rising}
 use Rattle.records.specs.declared.record.Decision.the-variants as told
 use Rattle.records.specs.declared.sheet.Sheet.{Sheet}
 use Rattle.records.specs.declared.sheet.SheetRead.{SheetRead}
@@ -106,7 +107,7 @@ module _ (bytes : List ℕ) (x : SheetRead) (e : x ≡ sheetRead (readSheet byte
       follows : Follows v [] (rowsMonitor (stateSheet b) firstProgress b)
       follows =
           follows-same (stateSheet b) 0 (firstProgress .tags) (first-in g) (first-in b) same (sized-rows b headRows (Live 1) small-opened)
-          (follows-begun bytes is v r (stateSheet b) (value ∙ sheet-read r) (subst (λ (y : SheetValue). BegunRows y z g) (sym value) begun))
+          (follows-begun Rising 24 bytes is v r (stateSheet b) (value ∙ sheet-read r) (subst (λ (y : SheetValue). BegunRows y z g) (sym value) begun))
 
       follows-opened : FollowsIn v [] b
       follows-opened = record {

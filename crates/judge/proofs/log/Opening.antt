@@ -6,6 +6,7 @@ use Prim.Native.Nat.{ℕ, _+_, _*_, _≤_, _<_}
 use native.Mathlib.Omega.{arith}
 use lib.ListN.{length, drop}
 use borrow.Author.Tests.{lt-ltb, le-ltb}
+use Rattle.records.specs.declared.order.Order.the-variants.{Rising}
 use Rattle.records.specs.declared.record.Decision.the-variants as told
 use Rattle.records.specs.declared.sheet.SheetRead.{SheetRead}
 use Rattle.records.specs.Outcome.{Outcome, taken, refused}
@@ -59,14 +60,14 @@ module _ (sheet log : List ℕ) {n : ℕ} (e : readSheet sheet ≡ refused n) wh
 module _ (sheet log : List ℕ) (x : SheetRead) (e : x ≡ sheetRead (readSheet sheet)) where
   pub log-refused : {n : ℕ} → x .answer ≡ told.Refused n → (m : Monitor) (out : List ℕ) → ObservedLog sheet log (record { reply = reply.Refused n; instants = 0; monitor = m }) out out
   log-refused {n} a m out =
-      let f = read-answer sheet x e a in
+      let f = read-answer Rising 24 sheet x e a in
       record {
         followed = record { judged = judged-refused sheet log f; follows = λ s g. refused-taken (sym f ∙ g) };
         size = refl;
         buffer = λ h. rw (no-entries sheet log f);
       }
 
-  module _ {p : Plan} {lines rows : List ℕ} {y : code.Answer} (o : OpenedRows sheet x e p lines rows y) {r : LastRows} {out : List ℕ} {list : List Bool} {before after : List ℕ}
+  module _ {p : Plan} {lines rows : List ℕ} {y : code.Answer} (o : OpenedRows Rising 24 sheet x e p lines rows y) {r : LastRows} {out : List ℕ} {list : List Bool} {before after : List ℕ}
       (w : ObservedRecords log (reply.Answered y) firstProgress p lines r rows out list before after) where
     pub log-observed : {m : Monitor} → ReadBack (x .sheet) (r .progress) p m out → ObservedLog sheet log (record { reply = r .reply; instants = r .instants; monitor = m }) before after
     unfolding judgeLog session
@@ -87,7 +88,7 @@ module _ (sheet log : List ℕ) (x : SheetRead) (e : x ≡ sheetRead (readSheet 
 
   pub none-counted : {n : ℕ} → x .answer ≡ told.Refused n → CountedLog sheet log 0
   none-counted a =
-      let f = read-answer sheet x e a in
+      let f = read-answer Rising 24 sheet x e a in
       record { most = omega arith; entries-size = sym (ap length (no-entries sheet log f)); judged = ap (λ (r : LogResult). r .instants) (judged-refused sheet log f) }
 
   pub log-counted : x .answer ≡ told.Done → {n : ℕ} → Counted log (x .sheet .clocks) n → CountedLog sheet log n

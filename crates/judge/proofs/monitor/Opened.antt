@@ -8,12 +8,13 @@ use native.Mathlib.Omega.{arith}
 use lib.Dec.{T}
 use lib.IntN.{pos}
 use lib.ListN.{length}
-use Rattle.records.specs.declared.order.Order.the-variants.{Rising, Any}
+use Rattle.records.specs.declared.order.Order.{Order}
+use Rattle.records.specs.declared.order.Order.the-variants.{Any}
 use Rattle.records.specs.declared.record.Decision.the-variants as told
 use Rattle.records.specs.declared.sheet.Sheet.{Sheet}
 use Rattle.records.specs.declared.sheet.SheetRead.{SheetRead}
 use Rattle.records.specs.Outcome.{Outcome, taken, refused}
-use Rattle.records.specs.Sheet.{SheetValue, sheetValue, sheetRead, readSheet, sheetValueChecks}
+use Rattle.records.specs.Sheet.{SheetValue, sheetValue, sheetRead, readBy, sheetValueChecks}
 use Rattle.records.specs.Types.{IsBytes, IsSheet}
 use Rattle.records.proofs.Lists.{refused-taken, taken-passed, passed-taken}
 use Rattle.records.proofs.sheet.Passed.{passed-any}
@@ -91,9 +92,9 @@ module _ (s : SheetValue) (l : SheetLimits s) where
 
 -- ---- a sheet that was read
 
-module _ (b : List ℕ) (bytes : IsBytes b) (s : SheetValue) (e : readSheet b ≡ taken s) where
+module _ (order : Order) (last : ℕ) (b : List ℕ) (bytes : IsBytes b) (s : SheetValue) (e : readBy order last b ≡ taken s) where
   l : SheetLimits s
-  l = read-limits Rising 24 b bytes e
+  l = read-limits order last b bytes e
 
   -- a monitor that holds the remainder of no instant
   module _ (m : Monitor) (same : sheetBy m ≡ s) (none : m .instants ≡ 0) (holds : heldBy m ≡ some (held s l ∷ [])) (fits : T (sized (m .held))) where
@@ -104,7 +105,7 @@ module _ (b : List ℕ) (bytes : IsBytes b) (s : SheetValue) (e : readSheet b �
     unfolding sheetWithin
     sheet-within =
         subst (λ (v : SheetValue). T (sheetWithin v)) (sym same)
-        (subst (λ (o : Outcome SheetValue). T (isTaken o)) (sym (passed-taken (sheetValueChecks Any s) s (passed-any Rising s (taken-passed (sheetValueChecks Rising s) (read-writes Rising 24 b bytes e .checks) .0)))) tt)
+        (subst (λ (o : Outcome SheetValue). T (isTaken o)) (sym (passed-taken (sheetValueChecks Any s) s (passed-any order s (taken-passed (sheetValueChecks order s) (read-writes order last b bytes e .checks) .0)))) tt)
 
     views : T (all (withinLimits mostTag (m .sheet .clocks) (m .instants)) (heldList (heldBy m)))
     views = rw (holds, ap (λ (v : SheetValue). v .clocks) same, none)
@@ -135,7 +136,7 @@ module _ (b : List ℕ) (bytes : IsBytes b) (s : SheetValue) (e : readSheet b �
     follows-begun = follows (rowsMonitor sheet firstProgress rows) same refl holds-begun (sized-rows rows headRows (Live 1) (begun .small))
 
     pub ready-begun : {p : Plan} {lines : List ℕ} → PlanOf sheet p lines → Ready sheet firstProgress p lines rows
-    ready-begun plan = record { value = subst IsSheet (sym same) (read-writes Rising 24 b bytes e .value); planned = plan .planned; limits = follows-begun .limits }
+    ready-begun plan = record { value = subst IsSheet (sym same) (read-writes order last b bytes e .value); planned = plan .planned; limits = follows-begun .limits }
 
 -- ---- a refused one: no clock is within the limits
 
@@ -145,29 +146,29 @@ no-monitor-outside = refl
 
 -- ---- as the code has them: what was read, and the monitor begun
 
-module _ (b : List ℕ) (x : SheetRead) (e : x ≡ sheetRead (readSheet b)) where
+module _ (order : Order) (last : ℕ) (b : List ℕ) (x : SheetRead) (e : x ≡ sheetRead (readBy order last b)) where
   pub prepares-read : IsBytes b → {lines : List ℕ} → length lines ≡ numbers → Preparing (x .sheet) lines
-  prepares-read bytes {lines} size = by-outcome (readSheet b) refl
+  prepares-read bytes {lines} size = by-outcome (readBy order last b) refl
     where
-      by-outcome : (o : Outcome SheetValue) → readSheet b ≡ o → Preparing (x .sheet) lines
-      by-outcome (taken s) h = let l = read-limits Rising 24 b bytes h in rw (e, h) (record { few-lines = l .lines-most; few-clocks = l .clocks-most; size = size })
+      by-outcome : (o : Outcome SheetValue) → readBy order last b ≡ o → Preparing (x .sheet) lines
+      by-outcome (taken s) h = let l = read-limits order last b bytes h in rw (e, h) (record { few-lines = l .lines-most; few-clocks = l .clocks-most; size = size })
       by-outcome (refused n) h = rw (e, h) (record { few-lines = omega arith; few-clocks = omega arith; size = size })
 
-  pub read-answer : {n : ℕ} → x .answer ≡ told.Refused n → readSheet b ≡ refused n
-  read-answer a = sheet-refused (readSheet b) x e a
+  pub read-answer : {n : ℕ} → x .answer ≡ told.Refused n → readBy order last b ≡ refused n
+  read-answer a = sheet-refused (readBy order last b) x e a
 
-  pub opened-refused : {n : ℕ} → x .answer ≡ told.Refused n → (r : CallResult) → r ≡ refusal n (blankMonitor (x .sheet)) → Opened readSheet b r
+  pub opened-refused : {n : ℕ} → x .answer ≡ told.Refused n → (r : CallResult) → r ≡ refusal n (blankMonitor (x .sheet)) → Opened (readBy order last) b r
   unfolding noMonitor
-  opened-refused {n} a r q = by-outcome (readSheet b) refl (ap (λ (y : SheetRead). y .answer) (sym e) ∙ a) (q ∙ ap (λ (y : SheetRead). refusal n (blankMonitor (y .sheet))) e)
+  opened-refused {n} a r q = by-outcome (readBy order last b) refl (ap (λ (y : SheetRead). y .answer) (sym e) ∙ a) (q ∙ ap (λ (y : SheetRead). refusal n (blankMonitor (y .sheet))) e)
     where
-      by-outcome : (o : Outcome SheetValue) → readSheet b ≡ o → sheetRead o .answer ≡ told.Refused n → r ≡ refusal n (blankMonitor (sheetRead o .sheet)) → Opened readSheet b r
+      by-outcome : (o : Outcome SheetValue) → readBy order last b ≡ o → sheetRead o .answer ≡ told.Refused n → r ≡ refusal n (blankMonitor (sheetRead o .sheet)) → Opened (readBy order last) b r
       by-outcome (taken s) h a g = refused-done (sym a)
       by-outcome (refused k) h a g = record { refuses = λ j f. let z : n ≡ j = cc in rw (← z) g; opens = λ s f. refused-taken (sym h ∙ f); unused = λ s f. refused-taken (sym h ∙ f) }
 
   -- ---- begun in rows: what was opened, the answer, and the monitor in rows
   pub record OpenedRows (p : Plan) (lines rows : List ℕ) (y : code.Answer) : Type 0 where
     pub value : SheetValue
-    pub read : readSheet b ≡ taken value
+    pub read : readBy order last b ≡ taken value
     pub sheet : sheetValue (x .sheet) ≡ value
     pub said : answerOf y ≡ answer value []
     pub follows : Follows value [] (rowsMonitor (x .sheet) firstProgress rows)
@@ -175,9 +176,9 @@ module _ (b : List ℕ) (x : SheetRead) (e : x ≡ sheetRead (readSheet b)) wher
 
   module _ {p : Plan} {lines blank rows : List ℕ} (plan : PlanOf (x .sheet) p lines) (begun : BegunRows (sheetValue (x .sheet)) blank rows) where
     pub opened-rows : IsBytes b → x .answer ≡ told.Done → {y : code.Answer} → ((v : SheetValue) → answerOf y ≡ saidBy (foundIn v (Live 1) rows headRows)) → OpenedRows p lines rows y
-    opened-rows bytes a {y} w = by-outcome (readSheet b) refl (ap (λ (z : SheetRead). z .answer) (sym e) ∙ a)
+    opened-rows bytes a {y} w = by-outcome (readBy order last b) refl (ap (λ (z : SheetRead). z .answer) (sym e) ∙ a)
       where
-        by-outcome : (o : Outcome SheetValue) → readSheet b ≡ o → sheetRead o .answer ≡ told.Done → OpenedRows p lines rows y
+        by-outcome : (o : Outcome SheetValue) → readBy order last b ≡ o → sheetRead o .answer ≡ told.Done → OpenedRows p lines rows y
         by-outcome (refused n) h a = refused-done a
         by-outcome (taken s) h a =
             let same : sheetValue (x .sheet) ≡ s = ap (λ (z : SheetRead). sheetValue (z .sheet)) (e ∙ ap sheetRead h) ∙ sheetOf-value s in
@@ -185,16 +186,16 @@ module _ (b : List ℕ) (x : SheetRead) (e : x ≡ sheetRead (readSheet b)) wher
               value = s;
               read = h;
               sheet = same;
-              said = w (sheetValue (x .sheet)) ∙ ap saidBy (sym (held-rows rows headRows (sheetValue (x .sheet)) (Live 1))) ∙ follows-begun b bytes s h (x .sheet) same begun .said;
-              follows = follows-begun b bytes s h (x .sheet) same begun;
-              ready = ready-begun b bytes s h (x .sheet) same begun plan;
+              said = w (sheetValue (x .sheet)) ∙ ap saidBy (sym (held-rows rows headRows (sheetValue (x .sheet)) (Live 1))) ∙ follows-begun order last b bytes s h (x .sheet) same begun .said;
+              follows = follows-begun order last b bytes s h (x .sheet) same begun;
+              ready = ready-begun order last b bytes s h (x .sheet) same begun plan;
             }
 
   -- and read back
-  pub opened-done : {p : Plan} {lines rows : List ℕ} {y : code.Answer} → OpenedRows p lines rows y → {m : Monitor} → ReadBack (x .sheet) firstProgress p m rows → Opened readSheet b (given (reply.Answered y) m)
+  pub opened-done : {p : Plan} {lines rows : List ℕ} {y : code.Answer} → OpenedRows p lines rows y → {m : Monitor} → ReadBack (x .sheet) firstProgress p m rows → Opened (readBy order last) b (given (reply.Answered y) m)
   opened-done {y = y} o {m} back =
       let f = back .found in
-      subst (λ (n : Monitor). Opened readSheet b (given (reply.Answered y) n)) (sym (back .same))
+      subst (λ (n : Monitor). Opened (readBy order last) b (given (reply.Answered y) n)) (sym (back .same))
       (record {
         refuses = λ n h. refused-taken (sym h ∙ o .read);
         opens = λ v h. let z : o .value ≡ v = cc in rw (← z) (ap taken (o .said), follows-back (o .ready) f (o .follows));

@@ -22,7 +22,7 @@ module _ (r : tie.After-read-sheet) where
   read-bytes = each-byte (start .args .bytes .now) (λ i. r .before .shared-slice-known .given i .fits)
 
   prepared : Preparing (r .read-sheet .result .sheet) (replicate numbers 0)
-  prepared = prepares-read (start .args .bytes .now) (r .read-sheet .result) (r .read-sheet .ensures) read-bytes (length-replicate {A = ℕ} numbers 0)
+  prepared = prepares-read _ _ (start .args .bytes .now) (r .read-sheet .result) (r .read-sheet .ensures) read-bytes (length-replicate {A = ℕ} numbers 0)
 
 returns : tie.Need-returns
 returns c =

@@ -36,7 +36,7 @@ read-bytes : (r : tie.After-read-sheet) → IsBytes (r .before .before .before .
 read-bytes r = each-byte (r .before .before .before .before .args .sheet .now) (λ i. r .before .before .before .shared-slice-known .given i .fits)
 
 plan-of-requires : tie.Need-plan-of-requires
-plan-of-requires c κs = let r = read (c .before) in prepares-read _ (r .read-sheet .result) (r .read-sheet .ensures) (read-bytes r) (length-replicate {A = ℕ} numbers 0)
+plan-of-requires c κs = let r = read (c .before) in prepares-read _ _ _ (r .read-sheet .result) (r .read-sheet .ensures) (read-bytes r) (length-replicate {A = ℕ} numbers 0)
 
 begin-rows-requires : tie.Need-begin-rows-requires
 begin-rows-requires c κs = record { size = length-replicate {A = ℕ} words 0; blank = λ p h. blank-at {A = ℕ} 0 words (width * headRows + p) }
@@ -99,7 +99,7 @@ returns-2 c =
     let p = plan o in
     let t = p .before .before in
     let r = read t in
-    let opened = opened-rows _ (r .read-sheet .result) (r .read-sheet .ensures) (p .plan-of .ensures) (f .before .begin-rows .ensures) (read-bytes r) (t .enum-told .given .1) (answered o) in
+    let opened = opened-rows _ _ _ (r .read-sheet .result) (r .read-sheet .ensures) (p .plan-of .ensures) (f .before .begin-rows .ensures) (read-bytes r) (t .enum-told .given .1) (answered o) in
     log-observed _ _ (r .read-sheet .result) (r .read-sheet .ensures) opened (observed o) (c .read-back .ensures)
 
 pub observe-log-spec : {M : Type 1} → statement M

@@ -1,4 +1,4 @@
--- `open` meets its contract: what was read decides the reply and the monitor beside it, which is begun in rows and read back. Assumes nothing.
+-- `open_by` meets its contract: what was read decides the reply and the monitor beside it, which is begun in rows and read back. Assumes nothing.
 use mathlib.Core.Path.{ap, _∙_}
 use Prim.Native.Nat.{ℕ, _+_, _*_}
 use native.Mathlib.Omega.{arith}
@@ -12,23 +12,23 @@ use Rattle.judge.specs.Monitor.{refusal}
 use Rattle.judge.proofs.rows.Placing.{blank-at}
 use Rattle.records.proofs.word.Bytes.{each-byte}
 use Rattle.judge.proofs.monitor.Opened.{prepares-read, opened-refused, opened-rows, opened-done}
-use Rattle.judge.proofs.monitor.open.Statement.{statement}
-use Rattle.judge.proofs.monitor.open.Tie as tie
+use Rattle.judge.proofs.monitor.open_by.Statement.{statement}
+use Rattle.judge.proofs.monitor.open_by.Tie as tie
 
 read-bytes : (c : tie.After-shared-slice-known) → IsBytes (c .before .args .bytes .now)
 read-bytes c = each-byte (c .before .args .bytes .now) (λ i. c .shared-slice-known .given i .fits)
 
 returns : tie.Need-returns
 returns c =
-    let r = c .before .before .before .before .before .before .read-sheet in
-    opened-refused _ (r .result) (r .ensures) (c .before .before .before .answer .given .1) _ (c .refuse .ensures ∙ ap (refusal _) (c .before .blank-monitor .ensures))
+    let r = c .before .before .before .before .before .before .read-by in
+    opened-refused _ _ _ (r .result) (r .ensures) (c .before .before .before .answer .given .1) _ (c .refuse .ensures ∙ ap (refusal _) (c .before .blank-monitor .ensures))
 
 -- ---- the places: what was read, its plan, and the rows begun
-abbrev read : tie.After-enum-told → tie.After-read-sheet
+abbrev read : tie.After-enum-told → tie.After-read-by
 read t = t .before .before .before
 
 plan-of-requires : tie.Need-plan-of-requires
-plan-of-requires c κs = let r = read (c .before) in prepares-read _ (r .read-sheet .result) (r .read-sheet .ensures) (read-bytes (r .before)) (length-replicate {A = ℕ} numbers 0)
+plan-of-requires c κs = let r = read (c .before) in prepares-read _ _ _ (r .read-by .result) (r .read-by .ensures) (read-bytes (r .before)) (length-replicate {A = ℕ} numbers 0)
 
 begin-rows-requires : tie.Need-begin-rows-requires
 begin-rows-requires c κs = record { size = length-replicate {A = ℕ} words 0; blank = λ p h. blank-at {A = ℕ} 0 words (width * headRows + p) }
@@ -61,10 +61,10 @@ returns-2 c =
     let p = planned b in
     let t = p .before .before in
     let r = read t in
-    let o = opened-rows _ (r .read-sheet .result) (r .read-sheet .ensures) (p .plan-of .ensures) (b .begin-rows .ensures) (read-bytes (r .before)) (t .enum-told .given .1) (rw (f .first-progress .ensures) at (s .say-rows .ensures)) in
-    opened-done _ (r .read-sheet .result) (r .read-sheet .ensures) o (rw (f .first-progress .ensures) at (c .read-back .ensures))
+    let o = opened-rows _ _ _ (r .read-by .result) (r .read-by .ensures) (p .plan-of .ensures) (b .begin-rows .ensures) (read-bytes (r .before)) (t .enum-told .given .1) (rw (f .first-progress .ensures) at (s .say-rows .ensures)) in
+    opened-done _ _ _ (r .read-by .result) (r .read-by .ensures) o (rw (f .first-progress .ensures) at (c .read-back .ensures))
 
-pub open-spec : {M : Type 1} → statement M
-open-spec =
+pub open-by-spec : {M : Type 1} → statement M
+open-by-spec =
     tie.close (tie.spec (λ c κs. search needs) (λ c. search needs) (λ c κs. search needs) (λ c κs. search needs)
     (λ c. search needs) plan-of-requires begin-rows-requires (λ c κs. search needs) say-rows-requires read-back-requires returns returns-2)
