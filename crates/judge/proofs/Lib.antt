@@ -1,4 +1,5 @@
 pub mod Whole
 pub mod Places
 pub mod Demands
+pub mod SameAnswers
 pub mod LiveDemands

@@ -1,15 +1,23 @@
--- Demand 3, one statement about the list of calls, as the machine has it and in document 01's words; and demand 2 for the program. Each hypothesis is what a call of `open` or `observe` ensures; `read` is how the sheet's bytes are read, by `open` as `readSheet`.
-use mathlib.Core.List.{List}
+-- Demand 3, one statement about the list of calls, as the machine has it and in document 01's words; demand 2 for the program; and the same sheet in another order. Each hypothesis is what a call ensures;
+-- `read` is how the sheet's bytes are read, by `open` as `readSheet`, by `open_unordered` as `readBase`.
+use mathlib.Core.List.{List, _∷_, _++_, List·Permᴰ}
 use mathlib.Core.Option.{Option}
 use mathlib.Core.Path.{_≡_}
 use Prim.Native.Nat.{ℕ}
+use lib.ListN.{take}
+use Rattle.records.specs.declared.line.Line.{Line}
+use Rattle.records.specs.declared.record.Written.the-variants.{Bytes}
 use Rattle.records.specs.Outcome.{Outcome, taken, refused}
+use Rattle.records.specs.Sheet.{SheetValue, readSheet, readBase}
+use Rattle.records.specs.Sort.{IsIn, SortsBytes}
+use Rattle.records.specs.Types.{IsBytes}
 use Rattle.tesl.specs.Answer.{Answer, mostLive}
 use Rattle.tesl.specs.Machine.{Session, Reader}
 use Rattle.theory.specs.Session.{Ran, SameSession, EachAnswer}
 use Rattle.theory.specs.Session as machine
 use Rattle.theory.specs.Said.{Said}
 use Rattle.theory.specs.Seen.{SeenJudged}
+use Rattle.theory.specs.SameLines.{SameClocksAndLines}
 use Rattle.judge.specs.declared.monitor.Monitor.{Monitor}
 use Rattle.judge.specs.declared.monitor.CallResult.{CallResult}
 use Rattle.judge.specs.Answer.{replyOf}
@@ -43,3 +51,33 @@ Demand3Said read = (sheet : List ℕ) (calls : List (List ℕ)) (answered : Sess
 abbrev pub Demand2 : Reader → Type 0
 Demand2 read = (sheet : List ℕ) (calls : List (List ℕ)) (answered : Session) (last : Option Monitor)
     → Ran (Opens read) Observes sheet calls answered last → EachAnswer SeenJudged read sheet calls answered
+
+-- ---- the same sheet before and after sorting (document 02, Q-4)
+
+-- b opened in one way and c in another, each with the same calls after it: what the two monitors answered is equal, opening and every call, live, clear or owed and the numbers of refusals with it
+abbrev pub AnsweredAlike : Reader → List ℕ → Reader → List ℕ → Type 0
+AnsweredAlike read b again c =
+    (calls : List (List ℕ)) (answered told : Session) (last end : Option Monitor)
+    → Ran (Opens read) Observes b calls answered last → Ran (Opens again) Observes c calls told end → answered ≡ told
+
+-- the theorem: so it is for all byte strings that document 01's rules read as sheets with the same clock count and the same lines, each line of one a line of the other
+abbrev pub SameAnswers : Type 0
+SameAnswers = (b c : List ℕ) (v w : SheetValue) → readBase b ≡ taken v → readBase c ≡ taken w → SameClocksAndLines v w → AnsweredAlike readBase b readBase c
+
+-- for a permutation of the lines
+abbrev pub PermutedAnswers : Type 0
+PermutedAnswers =
+    (b c : List ℕ) (v w : SheetValue) → readBase b ≡ taken v → readBase c ≡ taken w
+    → v .clocks ≡ w .clocks → List·Permᴰ (v .lines) (w .lines) → AnsweredAlike readBase b readBase c
+
+-- for one repeated line dropped: l, between those in front of it and the rest, stands among these too
+abbrev pub DroppedAnswers : Type 0
+DroppedAnswers =
+    (b c : List ℕ) (v w : SheetValue) (front rest : List Line) (l : Line) → readBase b ≡ taken v → readBase c ≡ taken w
+    → v .clocks ≡ w .clocks → v .lines ≡ front ++ (l ∷ rest) → w .lines ≡ front ++ rest → IsIn l (front ++ rest) → AnsweredAlike readBase b readBase c
+
+-- for sorting: what `sort_sheet` wrote of a sheet that document 01's rules take, n bytes at the buffer's front, opened by `open`
+abbrev pub SortedAnswers : Type 0
+SortedAnswers =
+    (b before after : List ℕ) (n : ℕ) (v : SheetValue) → IsBytes b → readBase b ≡ taken v → SortsBytes b before (Bytes n) after
+    → AnsweredAlike readBase b readSheet (take n after)

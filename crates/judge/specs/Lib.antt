@@ -19,7 +19,7 @@ pub mod Promises
 pub mod Entry
 -- the promises of `judge_log`, `follow_log` and `watch_log`
 pub mod Log
--- demands 2 and 3
+-- demands 2 and 3; the same sheet in another order
 pub mod Demands
 -- ---- to be believed of a monitor in words that a caller lends; the records in Rows and Progress are inner promises
 -- what a row of words and six words are read as: `word`, `rowSet`, `rowLead`, `rowStop`, `lineOfWords`; a row's words that no set uses: `NothingInParts`

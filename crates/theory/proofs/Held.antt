@@ -95,6 +95,14 @@ module _ (s : SheetValue) (wf : T (wellFormed s)) (run : List Instant) (i : Inst
 
 -- ---- what is held tells the number, the standing and whether it is too many
 
+-- as many, and a clear one among both or neither
+pub judged-alike : (xs ys : List Remainder) → length xs ≡ length ys → any isClear xs ≡ any isClear ys → judged xs ≡ judged ys
+unfolding judged
+judged-alike [] [] l c = refl
+judged-alike [] (b ∷ bs) l c = absurd (suc-ne-zero (length bs) (sym l))
+judged-alike (a ∷ xs) [] l c = absurd (suc-ne-zero (length xs) l)
+judged-alike (a ∷ xs) (b ∷ bs) l c = λ i. holding (l i) (cond (c i) clear owed)
+
 module _ (s : SheetValue) (run : List Instant) (rs : List Remainder) (h : Held s run rs) where
   pub held-length : length rs ≡ length (remainders s run)
   unfolding remainders
@@ -108,14 +116,7 @@ module _ (s : SheetValue) (run : List Instant) (rs : List Remainder) (h : Held s
   held-tooMany room = rw (held-length, held-any overfull overfull-respects)
 
   pub held-judged : judged rs ≡ judged (remainders s run)
-  unfolding judged
-  held-judged = as-long rs (remainders s run) held-length (held-any isClear clear-respects)
-    where
-      as-long : (xs ys : List Remainder) → length xs ≡ length ys → any isClear xs ≡ any isClear ys → judged xs ≡ judged ys
-      as-long [] [] l c = refl
-      as-long [] (b ∷ bs) l c = absurd (suc-ne-zero (length bs) (sym l))
-      as-long (a ∷ xs) [] l c = absurd (suc-ne-zero (length xs) l)
-      as-long (a ∷ xs) (b ∷ bs) l c = λ i. holding (l i) (cond (c i) clear owed)
+  held-judged = judged-alike rs (remainders s run) held-length (held-any isClear clear-respects)
 
 -- ---- at the opening: the sheet's own remainder
 pub held-start : (s : SheetValue) {r : Remainder} → T (sameRemainder r (remainder s [])) → Held s [] (r ∷ [])

@@ -30,5 +30,7 @@ pub mod Seen
 pub mod Machine
 -- The answer in document 01's words, with quantifiers.
 pub mod Said
+-- The same sheet in another order.
+pub mod SameLines
 -- The machine along a log.
 pub mod Log

@@ -90,8 +90,8 @@ fills-listed run f = (fills run f, listed run f)
 
 -- ---- the fitting ones, and one for each remainder that they leave
 
-listed : SheetValue → List Instant → List (List Filled)
-listed s run = filter (fits s) (runFillings run)
+unfoldable pub fittings : SheetValue → List Instant → List (List Filled)
+fittings s run = filter (fits s) (runFillings run)
 
 -- what fills a run has its tags
 fills-tags : (run : List Instant) (f : List Filled) → Fills run f → map (λ (g : Filled). g .tags) f ≡ map tagsOf run
@@ -100,8 +100,8 @@ fills-tags [] (g ∷ f) h = absurd h
 fills-tags (i ∷ run) [] h = absurd h
 fills-tags (i ∷ run) (g ∷ f) h = λ j. h .0 .tags j ∷ fills-tags run f (h .1) j
 
-fitting-listed : (s : SheetValue) (run : List Instant) → OnScale mostTag run → (f : List Filled) → List·Memᴰ f (listed s run) ↔ Fitting s run f
-unfolding listed
+fitting-listed : (s : SheetValue) (run : List Instant) → OnScale mostTag run → (f : List Filled) → List·Memᴰ f (fittings s run) ↔ Fitting s run f
+unfolding fittings
 fitting-listed s run on f = (
   λ m.
       let r = of-filter (fits s) (runFillings run) m in
@@ -125,25 +125,25 @@ under h E = record {
 left-equivalence : (s : SheetValue) → Equivalence (sameLeft s)
 left-equivalence s = under (remainder s) remainder-equivalence
 
-kept : SheetValue → List Instant → List (List Filled)
-kept s run = distinct (sameLeft s) (listed s run)
+unfoldable pub kept : SheetValue → List Instant → List (List Filled)
+kept s run = distinct (sameLeft s) (fittings s run)
 
-remainders-kept : (s : SheetValue) (run : List Instant) → remainders s run ≡ map (remainder s) (kept s run)
-unfolding remainders listed kept
-remainders-kept s run = distinct-map sameRemainder (remainder s) (listed s run)
+pub remainders-kept : (s : SheetValue) (run : List Instant) → remainders s run ≡ map (remainder s) (kept s run)
+unfolding remainders fittings kept
+remainders-kept s run = distinct-map sameRemainder (remainder s) (fittings s run)
 
 kept-fits : (s : SheetValue) (run : List Instant) → OnScale mostTag run → All (Fitting s run) (kept s run)
 unfolding kept
-kept-fits s run on = each-of (Fitting s run) (kept s run) (λ f m. fitting-listed s run on f .0 (of-distinct (sameLeft s) (listed s run) m))
+kept-fits s run on = each-of (Fitting s run) (kept s run) (λ f m. fitting-listed s run on f .0 (of-distinct (sameLeft s) (fittings s run) m))
 
 kept-apart : (s : SheetValue) (run : List Instant) → T (apart (sameLeft s) (kept s run))
 unfolding kept
-kept-apart s run = distinct-apart (sameLeft s) (left-equivalence s) (listed s run)
+kept-apart s run = distinct-apart (sameLeft s) (left-equivalence s) (fittings s run)
 
 kept-all : (s : SheetValue) (run : List Instant) → OnScale mostTag run → (f : List Filled) → Fitting s run f → (g : List Filled) × List·Memᴰ g (kept s run) × T (sameLeft s f g)
 unfolding kept
 kept-all s run on f h = any-member (sameLeft s f) (kept s run)
-    (subst T (sym (distinct-set (sameLeft s) (left-equivalence s) (listed s run) f)) (member-any (sameLeft s f) (fitting-listed s run on f .1 h) (left-equivalence s .reflex f)))
+    (subst T (sym (distinct-set (sameLeft s) (left-equivalence s) (fittings s run) f)) (member-any (sameLeft s f) (fitting-listed s run on f .1 h) (left-equivalence s .reflex f)))
 
 all-kept : (s : SheetValue) (run : List Instant) → OnScale mostTag run → Live s run (length (kept s run))
 all-kept s run on = record {

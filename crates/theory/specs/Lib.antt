@@ -11,6 +11,8 @@ pub mod Unmet
 pub mod Seen
 -- the answer in document 01's words (demand 3)
 pub mod Said
+-- the same sheet in another order
+pub mod SameLines
 -- ---- for proofs only: adding to sets, one instant on a remainder, the remainders held after a run, their limits, and what a monitor keeps
 pub mod Adding
 pub mod Step

@@ -4,23 +4,26 @@ use mathlib.Core.Bool.{true, false, true≢false}
 use mathlib.Core.List.{List, [], _∷_, map}
 use Prim.Native.Nat.{ℕ, _*_, _≤_}
 use native.Mathlib.Omega.{arith}
-use lib.ListN.{length, length-append}
+use lib.ListN.{length, take, length-append}
 use lib.Dec.{ltb}
 use borrow.Author.Tests.{le-ltb, ltb-false}
 use Rattle.records.specs.declared.line.Line.{Line}
 use Rattle.records.specs.declared.order.Order.the-variants.{Rising, Any}
+use Rattle.records.specs.declared.record.Written.the-variants as written
 use Rattle.records.specs.Outcome.{taken, _⇒_}
 use Rattle.records.specs.Lists.{joined}
 use Rattle.records.specs.Line.{kindOf, lineBytes}
 use Rattle.records.specs.Order.{above, keyOf}
-use Rattle.records.specs.Sheet.{SheetValue, readSheet, readUnordered, sheetValueChecks, sheetBytes, writeSheet}
-use Rattle.records.specs.Sort.{IsIn, Rises, SameLines, Sorted, fitted, OneForm, SortedForm, OneFile}
+use Rattle.records.specs.Sheet.{SheetValue, readSheet, readUnordered, readBase, sheetValueChecks, sheetBytes, writeSheet}
+use Rattle.records.specs.Sort.{IsIn, Rises, SameLines, Sorted, SortsBytes, fitted, OneForm, SortedForm, OneFile}
+use Rattle.records.specs.Store.{Wrote}
 use Rattle.records.specs.Types.{IsBytes, IsLineValue, IsSheet}
 use Rattle.records.specs.Inner.{sporadicOf}
 use Rattle.records.proofs.Lists.{Passed, taken-passed, passed-taken, decide-passed}
 use Rattle.records.proofs.Rising.{total, all-in, in-all, chain-total, one-chain}
 use Rattle.records.proofs.line.Table.{shaped}
 use Rattle.records.proofs.order.Laws.{above-itself, above-on}
+use Rattle.records.proofs.record.Write.{wrote-all}
 use Rattle.records.proofs.sheet.Passed.{Below, HasCount, sporadic-total, lines-passed, lines-counted, lines-rise, lines-pass}
 use Rattle.records.proofs.sheet.RoundTrip.{kinds-24, read-writes, writes-read}
 
@@ -94,7 +97,7 @@ own-lines ls = record { there = λ l m. m; back = λ l m. m }
 other-lines : {ls ms : List Line} → SameLines ls ms → SameLines ms ls
 other-lines s = record { there = s .back; back = s .there }
 
-further-lines : {ks ls ms : List Line} → SameLines ks ls → SameLines ls ms → SameLines ks ms
+pub further-lines : {ks ls ms : List Line} → SameLines ks ls → SameLines ls ms → SameLines ks ms
 further-lines s t = record { there = λ l m. t .there l (s .there l m); back = λ l m. s .back l (t .back l m) }
 
 -- sheets of the same clocks and lines have one sorted form
@@ -115,6 +118,20 @@ sorted-form b h v w e s =
           let rises = lines-rise (v .clocks) [] (v .lines) tt (taken-passed (sheetValueChecks Rising v) (q .checks) .0 .1 .1) in
           ap sheetBytes (one-form w v (s .clocks) (s .rises) rises (other-lines (s .lines))) ∙ r .bytes;
     }
+
+-- what document 01's rules take is taken with the later kinds too
+pub base-unordered : (b : List ℕ) → IsBytes b → {v : SheetValue} → readBase b ≡ taken v → readUnordered b ≡ taken v
+base-unordered b h {v} e =
+    let r = read-writes Any 23 b h e in
+    writes-read Any 24 b (record { value = r .value; kinds = kinds-24 (v .lines); checks = r .checks; bytes = r .bytes })
+
+-- what sorting wrote, where it wrote, is the bytes of the sorted form
+pub sorted-written : (b before after : List ℕ) {n : ℕ} {v : SheetValue} → readUnordered b ≡ taken v → SortsBytes b before (written.Bytes n) after
+    → (w : SheetValue) × Sorted v w × (take n after ≡ sheetBytes w)
+sorted-written b before after {n} {v} e s =
+    let t = s .sorts v e in
+    let w = t .0 in
+    (w, t .1, ap (λ (x : Wrote). take n (x .buffer)) (t .2) ∙ wrote-all [] (sheetBytes w) before (sym (ap (λ (x : Wrote). x .answer) (t .2))) .bytes-there)
 
 -- two files of the same lines
 pub one-file : OneFile
