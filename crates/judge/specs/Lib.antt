@@ -13,7 +13,7 @@ pub mod Limits
 pub mod Unused
 -- what a monitor keeps: `sheetBy`, `heldBy`, `lastBy`, `refusal`; the records after them are inner promises
 pub mod Monitor
--- the promises of `open` and `observe`
+-- the promises of `open`, `open_unordered` and `observe`
 pub mod Promises
 -- answers as numbers and bytes
 pub mod Entry

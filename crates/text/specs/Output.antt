@@ -4,13 +4,14 @@ use mathlib.Core.Path.{_≡_}
 use Prim.Native.Nat.{ℕ, suc}
 use lib.ListN.{length, take, drop}
 use Rattle.records.specs.Outcome.{Outcome, taken, refused}
-use Rattle.records.specs.Sheet.{SheetValue, readSheet, readUnordered, sheetBytes}
+use Rattle.records.specs.Sheet.{SheetValue, readSheet, readUnordered, readBase, sheetBytes}
 use Rattle.records.specs.Sort.{Sorted}
 use Rattle.records.specs.Types.{IsBytes}
 use Rattle.tesl.specs.Lists.{flatMap}
 use Rattle.tesl.specs.Run.{Instant, tagsOf}
 use Rattle.tesl.specs.Answer.{Answer}
-use Rattle.tesl.specs.Machine.{acceptsEach, Session, session, callsOf}
+use Rattle.tesl.specs.Machine.{acceptsEach, session, callsOf}
+use Rattle.judge.specs.Demands.{AnsweredAlike}
 use Rattle.text.specs.Text.{answerLine, refusalLine, columnLine}
 
 -- the lines of what came of each record, numbered from n on, up to the first refusal, whose line ends the text
@@ -70,6 +71,10 @@ pub record SortPrinted (sheet before : List ℕ) (size : ℕ) (after : List ℕ)
 -- there is no other
 abbrev pub OneSortText : Type 0
 OneSortText = (sheet t u : List ℕ) → SortText sheet t → SortText sheet u → t ≡ u
+
+-- of a sheet that document 01's rules take: what is printed, opened by `open`, answers as the sheet itself, opened by `open_unordered` (document 02, Q-4)
+abbrev pub SortTextAnswers : Type 0
+SortTextAnswers = (sheet text : List ℕ) (v : SheetValue) → IsBytes sheet → readBase sheet ≡ taken v → SortText sheet text → AnsweredAlike readBase sheet readSheet text
 
 -- ---- how much of a file decides: whatever stands behind the first a bytes of a sheet and the first b of a log, the same is printed
 pub record FrontDecides (a b : ℕ) : Type 0 where

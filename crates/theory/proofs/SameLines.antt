@@ -16,7 +16,7 @@ use Rattle.records.specs.Sheet.{SheetValue}
 use Rattle.records.specs.Sort.{IsIn, SameLines}
 use Rattle.tesl.specs.Lists.{all, any, filter, distinct, within, sameList, beginnings, always, flatMap, byLater, table}
 use Rattle.tesl.specs.Run.{Instant, Filled, tagIn, runFillings}
-use Rattle.tesl.specs.Fits.{lastTags, noneFalls, holdsAt, fitsAt, mostTag, Obligation, meets, owedAtStart, owedFrom, unmet, notLate, countedFrom, leftOf, countdowns, fits}
+use Rattle.tesl.specs.Fits.{lastTags, noneFalls, holdsAt, fitsAt, mostTag, Obligation, meets, owedAtStart, owedFrom, unmetBy, unmet, notLate, countedFrom, leftOf, countdowns, fits}
 use Rattle.tesl.specs.Remainder.{Remainder, leadOf, stops, remainder, sameObligation, sameCountdown, sameSets, sameRemainder, distinctCount, owes, counts, overfull, isClear}
 use Rattle.tesl.specs.Answer.{Answer, exhausted, remainders, tooMany, over, verdict, answerWithin, mostLive}
 use Rattle.tesl.specs.Machine.{accepts, listAfter, reply, machine, Reader, session, opened}
@@ -83,11 +83,14 @@ lines-alike {ls} {ms} s = record { tests = λ p. bool-ext (any p ls) (any p ms) 
 
 -- ---- what is owed
 
+unmetBy-alike : (f : List Filled) {os ps : List Obligation} → SameTests os ps → SameTests (unmetBy f os) (unmetBy f ps)
+unmetBy-alike f = filter-alike (λ (o : Obligation). not (any (λ (g : Filled). meets g o) f))
+
 module _ {ls ms : List Line} (lines : SameTests ls ms) (f : List Filled) where
   unmet-alike : (most : ℤ) → SameTests (unmet most ls f) (unmet most ms f)
   unmet-alike most =
-      append-alike (filter-alike (λ (o : Obligation). not (any (λ (g : Filled). meets g o) f)) (flatMap-alike owedAtStart lines))
-      (byLater-alike _ _ (λ g later. filter-alike (λ (o : Obligation). not (any (λ (h : Filled). meets h o) later)) (flatMap-alike (owedFrom most g) lines)) f)
+      append-alike (unmetBy-alike f (flatMap-alike owedAtStart lines))
+      (byLater-alike _ _ (λ g later. unmetBy-alike later (flatMap-alike (owedFrom most g) lines)) f)
 
   countdowns-alike : SameTests (countdowns ls f) (countdowns ms f)
   countdowns-alike = byLater-alike _ _ (λ g later. flatMap-alike (leftOf later) (flatMap-alike (countedFrom g) lines)) f

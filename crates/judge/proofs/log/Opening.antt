@@ -10,7 +10,7 @@ use Rattle.records.specs.declared.order.Order.the-variants.{Rising}
 use Rattle.records.specs.declared.record.Decision.the-variants as told
 use Rattle.records.specs.declared.sheet.SheetRead.{SheetRead}
 use Rattle.records.specs.Outcome.{Outcome, taken, refused}
-use Rattle.records.specs.Sheet.{SheetValue, readSheet, sheetRead, sheetValue}
+use Rattle.records.specs.Sheet.{SheetValue, readSheet, sheetRead}
 use Rattle.records.specs.Store.{puts}
 use Rattle.records.proofs.sheet.Writing.{refused-done}
 use Rattle.records.proofs.Lists.{refused-taken}
@@ -20,8 +20,6 @@ use Rattle.tesl.specs.Answer.{answer}
 use Rattle.tesl.specs.Machine.{machine, session, LogResult, callsOf, judgeLog}
 use Rattle.judge.specs.declared.answer.Answer as code
 use Rattle.judge.specs.declared.answer.Reply.the-variants as reply
-use Rattle.judge.specs.declared.progress.Progress.{Progress}
-use Rattle.judge.specs.declared.log.Judged.{Judged}
 use Rattle.judge.specs.declared.log.LastMonitor.{LastMonitor}
 use Rattle.judge.specs.declared.log.LastRows.{LastRows}
 use Rattle.judge.specs.declared.monitor.Monitor.{Monitor}
@@ -30,7 +28,7 @@ use Rattle.judge.specs.Answer.{replyOf}
 use Rattle.judge.specs.Entry.{entry, answersFrom}
 use Rattle.judge.specs.Promises.{Follows}
 use Rattle.judge.specs.Progress.{firstProgress, ReadBack}
-use Rattle.judge.specs.Log.{judgedOf, entries, watchedAs, watchLog}
+use Rattle.judge.specs.Log.{entries, watchedAs, watchLog}
 use Rattle.judge.specs.Records.{ObservedRecords, ObservedLog, Counted, CountedLog}
 use Rattle.judge.proofs.progress.Laws.{follows-back}
 use Rattle.judge.proofs.log.Answers.{concluded-count, length-entries}

@@ -1,4 +1,4 @@
--- What *sort* prints: the sorted form has room in the longest sheet's bytes, so nothing but the sheet's own number is refused; and one text is printed, since the sorted form is one. Assumes nothing.
+-- What *sort* prints: the sorted form has room in the longest sheet's bytes, so nothing but the sheet's own number is refused; one text is printed, since the sorted form is one; and opened it answers as the sheet does. Assumes nothing.
 use mathlib.Core.List.{List, _++_}
 use mathlib.Core.Path.{_≡_, refl, sym, ap, subst, _∙_}
 use Prim.Native.Nat.{ℕ, _≤_}
@@ -9,16 +9,18 @@ use Rattle.records.specs.declared.order.Order.the-variants.{Any}
 use Rattle.records.specs.declared.record.Written.{Written}
 use Rattle.records.specs.declared.record.Written.the-variants as written
 use Rattle.records.specs.Outcome.{Outcome, taken, refused}
-use Rattle.records.specs.Sheet.{SheetValue, readUnordered, sheetValueChecks, sheetBytes}
+use Rattle.records.specs.Sheet.{SheetValue, readSheet, readUnordered, readBase, sheetValueChecks, sheetBytes}
 use Rattle.records.specs.Sort.{Sorted, SortsBytes}
 use Rattle.records.specs.Store.{Wrote, wrote}
 use Rattle.records.specs.Types.{IsBytes}
 use Rattle.records.proofs.Lists.{taken-passed, refused-taken, taken-same, refused-same}
 use Rattle.records.proofs.sheet.Front.{read-number}
 use Rattle.records.proofs.sheet.RoundTrip.{read-writes}
-use Rattle.records.proofs.sort.Forms.{own-lines, same-form, sorted-size}
+use Rattle.records.proofs.sort.Forms.{own-lines, same-form, sorted-size, base-unordered}
+use Rattle.judge.specs.Demands.{AnsweredAlike}
+use Rattle.judge.proofs.SameAnswers.{sorted-alike}
 use Rattle.text.specs.Text.{refusalLine}
-use Rattle.text.specs.Output.{printed, printedAs, SortText, SortPrinted, OneSortText}
+use Rattle.text.specs.Output.{printed, printedAs, SortText, SortPrinted, OneSortText, SortTextAnswers}
 
 bytes-refused : {X : Type 0} {n k : ℕ} → written.Bytes n ≡ written.Refused k → X
 bytes-refused e = let z : _≡_ {A = ℕ} 0 1 = cc in absurd (omega arith)
@@ -86,3 +88,9 @@ one-sort-text sheet t u x y = by-read (readUnordered sheet) refl
         let a = x .sorts v f in
         let b = y .sorts v f in
         a .2 ∙ ap sheetBytes (same-form v v refl (own-lines (v .lines)) (a .0) (b .0) (a .1) (b .1)) ∙ sym (b .2)
+
+-- what is printed of a sheet that document 01's rules take answers as the sheet
+pub sort-text-answers : SortTextAnswers
+sort-text-answers sheet text v is e t =
+    let s = t .sorts v (base-unordered sheet is e) in
+    subst (AnsweredAlike readBase sheet readSheet) (sym (s .2)) (sorted-alike sheet v (s .0) is e (s .1))
