@@ -1,4 +1,4 @@
--- The lift examples L1 to L11 of document 01, and our own (refused calls, 4,000 instants, the whole log, a product beyond 16 bits, a delay counted in ticks, the end of the scale): one statement, a row each, by computation. Assumes nothing.
+-- The lift examples L1 to L11 of document 01, and our own (refused calls, 4,000 instants, the whole log, the lines in another order, a product beyond 16 bits, a delay counted in ticks, the end of the scale): one statement, a row each, by computation. Assumes nothing.
 use mathlib.Core.Bool.{Bool, true, false}
 use mathlib.Core.List.{List, [], _∷_, _++_, map}
 use mathlib.Core.Path.{_≡_, refl}
@@ -13,7 +13,8 @@ use Rattle.records.specs.Lists.{joined}
 use Rattle.records.specs.Word.{signed, tagOf}
 use Rattle.records.specs.Record.{isTorn, front, cut}
 use Rattle.records.specs.Line.{lengthOf, clocksOf, lineOf}
-use Rattle.records.specs.Sheet.{SheetValue, readBy, readSheet}
+use Rattle.records.specs.Order.{above}
+use Rattle.records.specs.Sheet.{SheetValue, readBy, readSheet, readBase}
 use Rattle.records.specs.Instant.{tickOf, rawCells, readInstant}
 use Rattle.tesl.specs.Run.{Instant, fillings, runFillings}
 use Rattle.tesl.specs.Fits.{Countdown, fits}
@@ -74,6 +75,13 @@ instants =
     ∷ (0x06 ∷ 0x00 ∷ 0x20 ∷ 0x00 ∷ 0x00 ∷ 0x01 ∷ 0x00 ∷ 0x00 ∷ 0x00 ∷ 0x00 ∷ [])
     ∷ (0x06 ∷ 0x00 ∷ 0x20 ∷ 0x00 ∷ 0x00 ∷ 0x00 ∷ 0x00 ∷ 0x00 ∷ 0x00 ∷ 0x00 ∷ [])
     ∷ []
+
+-- the line '0 weakly precedes 1'; and the listing's sheet with that line before its own, and once more behind it
+abbrev precedes : List ℕ
+precedes = 0x02 ∷ 0x00 ∷ 0x15 ∷ 0x00 ∷ 0x00 ∷ 0x01 ∷ []
+
+abbrev disordered : List ℕ
+disordered = 0x01 ∷ 0x00 ∷ 0x01 ∷ 0x00 ∷ 0x02 ∷ (precedes ++ (0x05 ∷ 0x00 ∷ 0x14 ∷ 0x00 ∷ 0x00 ∷ 0x00 ∷ 0x01 ∷ 0x02 ∷ 0x00 ∷ precedes))
 
 -- the first record with kind 31, and with tick byte 3
 abbrev otherKind : List ℕ
@@ -178,6 +186,15 @@ pub record Examples : Type 0 where
         opening = taken (holding 1 clear);
         replies = taken (holding 1 owed) ∷ taken (holding 2 owed) ∷ taken (holding 2 clear) ∷ taken (holding 1 clear) ∷ taken broken ∷ [];
       }
+  -- the same lift with a second line; its lines in another order, one of them repeated, are answered alike by document 01's rules, and are 17 in rising order
+  anyOrder :
+      (session readSheet (lift ++ precedes) instants
+      ≡ record {
+        opening = taken (holding 1 clear);
+        replies = taken (holding 1 owed) ∷ taken (holding 2 owed) ∷ taken (holding 2 clear) ∷ taken (holding 1 clear) ∷ taken broken ∷ [];
+      })
+      × (session readBase disordered instants ≡ session readSheet (lift ++ precedes) instants)
+      × (session readSheet disordered instants ≡ record { opening = refused 17; replies = [] })
   -- refused calls among them change nothing and get their numbers: no bytes, kind 31, tick byte 3
   calls :
       session readSheet lift (first ∷ [] ∷ otherKind ∷ tickThree ∷ second ∷ [])
@@ -254,7 +271,7 @@ pub record Examples : Type 0 where
   sporadicAtTheEnd : answer (sheet 2 (Sporadic 0 1 (pos 32767))) [] ≡ holding 1 owed
 
 pub examples : Examples
-unfolding signed isTorn front cut lengthOf clocksOf lineOf readBy tickOf rawCells readInstant fillings runFillings fits remainder sameRemainder owes counts overfull isClear remainders tooMany over judged answerWithin accepts machine session judgeLog
+unfolding signed isTorn front cut lengthOf clocksOf lineOf above readBy tickOf rawCells readInstant fillings runFillings fits remainder sameRemainder owes counts overfull isClear remainders tooMany over judged answerWithin accepts machine session judgeLog
 examples = record {
   L1 = (refl, refl, refl);
   L2 = (refl, refl);
@@ -267,6 +284,7 @@ examples = record {
   L9 = (refl, refl, refl, refl);
   L10 = (refl, refl);
   L11 = refl;
+  anyOrder = (refl, refl, refl);
   calls = refl;
   full = (refl, refl, refl);
   log = (refl, refl, refl, refl, refl);
