@@ -3,6 +3,7 @@ use crate::random::one_in;
 use records::line::Line;
 use records::line::Slot;
 use records::sheet::Sheet;
+use records::sheet::line_at;
 use records::word::tag_of;
 
 // A clock's habits (i, t, l, m): of eight draws the first i are idle, those from there to t tick, the others are unseen; its tag rises by l to l + m.
@@ -98,6 +99,35 @@ pub fn counts(a: u64, n: u64, b: u64, d: u64) -> Line {
         d: byte(d),
         n: byte(n),
     }
+}
+
+fn is_counted(l: Line) -> bool {
+    match l {
+        Line::Counted {
+            a: _,
+            b: _,
+            d: _,
+            n: _,
+        } => true,
+        _ => false,
+    }
+}
+
+// Whether a sheet whose lines rise has a counted one: they stand behind all others.
+pub fn has_counted(s: Sheet) -> bool {
+    let n = s.count;
+    if n == 0 {
+        return false;
+    }
+    is_counted(line_at(s, n - 1))
+}
+
+// Whether a sheet whose lines rise has a line, and counted ones alone.
+pub fn all_counted(s: Sheet) -> bool {
+    if s.count == 0 {
+        return false;
+    }
+    is_counted(line_at(s, 0))
 }
 
 // How far a line counts, for each of 8 draws.

@@ -16,6 +16,8 @@ use cases::damage::whole;
 use cases::made::instants_of;
 use cases::made::plan_of;
 use cases::plan::Plan;
+use cases::plan::all_counted;
+use cases::plan::has_counted;
 use cases::random::below;
 use cases::random::draw;
 use cases::tally::count;
@@ -32,9 +34,7 @@ use filler::whole_run::owing;
 use gateway::lift_instant_number;
 use gateway::lift_sheet_number;
 use records::instant::Instant;
-use records::line::Line;
 use records::sheet::Sheet;
-use records::sheet::line_at;
 
 const NARROW_CASES: u64 = 3000;
 
@@ -102,35 +102,6 @@ fn compared(sheet: Tape, log: Tape, due: Due, t: [u64; 40]) -> [u64; 40] {
     let a = sheet.bytes;
     let b = log.bytes;
     compare(front(&a, sheet.len), front(&b, log.len), due, t)
-}
-
-fn is_counted(l: Line) -> bool {
-    match l {
-        Line::Counted {
-            a: _,
-            b: _,
-            d: _,
-            n: _,
-        } => true,
-        _ => false,
-    }
-}
-
-// Lines rise by kind: the last one tells whether one is counted.
-fn has_counted(s: Sheet) -> bool {
-    let n = s.count;
-    if n == 0 {
-        return false;
-    }
-    is_counted(line_at(s, n - 1))
-}
-
-// Lines rise by kind: the first one tells whether all are counted.
-fn all_counted(s: Sheet) -> bool {
-    if s.count == 0 {
-        return false;
-    }
-    is_counted(line_at(s, 0))
 }
 
 // A log of the first n instants.

@@ -61,7 +61,7 @@ fn instant_of(b: &[u8], below_end: bool) -> Instant {
 }
 
 fn start(name: &[u8], s: Sheet, tally: [u64; 40]) -> Trial {
-    let t = opened(s, tally);
+    let t = opened(s, 0, tally);
     say(b"  ");
     say(name);
     say(b": ");

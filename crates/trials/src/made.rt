@@ -1,9 +1,9 @@
 // The made cases.
+use crate::reply::live_of;
 use crate::scale::with_dues;
 use crate::tally;
 use crate::trial::Trial;
 use crate::trial::is_on_unseen;
-use crate::trial::live_of;
 use crate::trial::not_opened;
 use crate::trial::opened;
 use crate::trial::refused;
@@ -116,10 +116,12 @@ fn with_disorder(plan: Plan, d: [u64; 48], tally: [u64; 40]) -> [u64; 40] {
     tally
 }
 
-fn begin(plan: Plan, last: u64, tally: [u64; 40]) -> Stand {
+// A line of the sheet is drawn, to be repeated where the sheet is opened in another order.
+fn begin(plan: Plan, d: [u64; 48], last: u64, tally: [u64; 40]) -> Stand {
     let sheet = plan.sheet;
+    let i = below(d, 44, sheet.count as u64) as usize;
     Stand {
-        trial: opened(sheet, with_sheet(tally, sheet)),
+        trial: opened(sheet, i, with_sheet(tally, sheet)),
         course: course::begin(plan),
         last,
     }
@@ -176,7 +178,7 @@ fn case(is_wide: bool, number: u64, from: u64, tally: [u64; 40]) -> Ended {
     let plan = plan_of(is_wide, number, d);
     let told = with_disorder(plan, d, tally);
     let n = instants_of(plan);
-    let mut s = begin(plan, drawn.last, told);
+    let mut s = begin(plan, d, drawn.last, told);
     let mut i = 0;
     while i < n {
         let held = is_holding(s);

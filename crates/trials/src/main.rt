@@ -1,6 +1,8 @@
-// The monitor held against a judge that tries every filling of the whole run: document 01's lift examples, then made cases, of at most four clocks and of five to eight.
+// The monitor held against a judge that tries every filling of the whole run, and against itself on the same sheet in another order: document 01's lift examples, then made cases, of at most four clocks and of five to eight.
 mod lift;
 mod made;
+mod others;
+mod reply;
 mod report;
 mod scale;
 mod tally;

@@ -81,6 +81,27 @@ fn ends(t: [u64; 40]) {
     line(t, b"exhausted after live 17 to 32", tally::BY_LIVE);
 }
 
+// The same sheet in another order: how often what it replied was held against the sorted one's reply, and the sheets that are not opened so.
+fn others(t: [u64; 40]) {
+    line(t, b"replies with the lines reversed", tally::REVERSED);
+    line(t, b"replies with a line repeated", tally::REPEATED);
+    line(
+        t,
+        b"sheets in any order, refused by 5 for a counted line",
+        tally::ANY_BY_KIND,
+    );
+    line(
+        t,
+        b"sheets in any order, refused by 9 for the repeat",
+        tally::ANY_BY_NINTH,
+    );
+    line(
+        t,
+        b"replies unlike the sorted sheet's",
+        tally::UNLIKE_SORTED,
+    );
+}
+
 fn differences(t: [u64; 40]) {
     line(
         t,
@@ -99,6 +120,8 @@ pub fn table(t: [u64; 40]) {
     say(b"Limits met\n");
     lives(t);
     ends(t);
+    say(b"The same sheet in another order\n");
+    others(t);
     say(b"Cases and differences\n");
     line(t, b"cases", tally::CASES);
     differences(t);
@@ -119,5 +142,6 @@ pub fn wide_table(t: [u64; 40]) {
     kinds(t);
     answers(t);
     lives(t);
+    others(t);
     differences(t);
 }

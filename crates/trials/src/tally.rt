@@ -65,3 +65,13 @@ pub const NINTH_COUNTDOWN: usize = 30;
 pub const DUE_AT_END: usize = 31;
 
 pub const DUE_PAST_END: usize = 32;
+
+pub const REVERSED: usize = 33;
+
+pub const REPEATED: usize = 34;
+
+pub const ANY_BY_KIND: usize = 35;
+
+pub const ANY_BY_NINTH: usize = 36;
+
+pub const UNLIKE_SORTED: usize = 37;

@@ -1,8 +1,17 @@
-// A case under way: the monitor is called, and what it answers is held against the judge of the whole run.
+// A case under way: the monitor is called, and what it answers is held against the judge of the whole run, and against what it answers to the same sheet in another order.
+use crate::others::Others;
+use crate::others::both_counted;
+use crate::others::both_next;
+use crate::others::both_opened;
+use crate::reply::is_refused;
+use crate::reply::live_of;
+use crate::reply::same;
 use crate::tally;
 use cases::damage::damaged;
 use cases::damage::whole;
 use cases::disorder::Disordered;
+use cases::plan::all_counted;
+use cases::plan::has_counted;
 use cases::tally::count;
 use cases::tally::count_if;
 use cases::tape::front;
@@ -10,7 +19,6 @@ use cases::tape::sheet_tape;
 use filler::run::Run;
 use filler::run::no_instants;
 use filler::run::with_instant;
-use filler::verdict::Verdict;
 use filler::whole_run::judge as verdict_of;
 use judge::answer::Answer;
 use judge::answer::Reply;
@@ -22,49 +30,17 @@ use judge::obligation::Obligation;
 use judge::remainder::Remainder;
 use records::instant::Instant;
 use records::instant::Tick;
-use records::line::Line;
 use records::number;
 use records::sheet::Sheet;
-use records::sheet::line_at;
 
-// The sheet, the instants taken so far, the monitor given back last, the last answer, and what was counted.
+// The sheet, the instants taken so far, the monitor given back last, those of the sheet in another order, the last answer, and what was counted.
 pub struct Trial {
     pub sheet: Sheet,
     pub run: Run,
     pub monitor: Monitor,
+    pub others: Others,
     pub answer: Answer,
     pub tally: [u64; 40],
-}
-
-// The whole answer, live and clear with it.
-fn same(a: Answer, v: Verdict) -> bool {
-    match a {
-        Answer::Exhausted => match v {
-            Verdict::Exhausted => true,
-            _ => false,
-        },
-        Answer::Broken => match v {
-            Verdict::Broken => true,
-            _ => false,
-        },
-        Answer::Holding { live, clear } => match v {
-            Verdict::Holding { live: n, clear: c } => {
-                if n == live {
-                    return c == clear;
-                }
-                false
-            }
-            _ => false,
-        },
-    }
-}
-
-// The live count of an answer, 0 of one that isn't holding.
-pub fn live_of(a: Answer) -> usize {
-    match a {
-        Answer::Holding { live, clear: _ } => live,
-        _ => 0,
-    }
 }
 
 // An answer by its kind.
@@ -81,26 +57,10 @@ fn counted(t: [u64; 40], a: Answer) -> [u64; 40] {
     }
 }
 
-fn is_counted(l: Line) -> bool {
-    match l {
-        Line::Counted {
-            a: _,
-            b: _,
-            d: _,
-            n: _,
-        } => true,
-        _ => false,
-    }
-}
-
-// A ninth owed by its sort, where the sheet has lines of one sort alone. Lines rise by kind: the first one tells whether all are counted, the last one whether none is.
+// A ninth owed by its sort, where the sheet has lines of one sort alone.
 fn with_ninth(t: [u64; 40], s: Sheet) -> [u64; 40] {
-    let n = s.count;
-    if n == 0 {
-        return t;
-    }
-    let t = count_if(is_counted(line_at(s, 0)), t, tally::NINTH_COUNTDOWN);
-    count_if(!is_counted(line_at(s, n - 1)), t, tally::NINTH_OBLIGATION)
+    let t = count_if(all_counted(s), t, tally::NINTH_COUNTDOWN);
+    count_if(!has_counted(s), t, tally::NINTH_OBLIGATION)
 }
 
 // Cases that became exhausted. Of at most four clocks an instant has at most 16 fillings: where live was 1, it was nine owed.
@@ -186,11 +146,12 @@ pub fn is_on_unseen(t: Trial, v: Instant) -> bool {
     waits_unseen(r.counting, countdowns, v)
 }
 
-// A trial with a reply that is due an answer.
-fn answered(t: Trial, run: Run, g: CallResult) -> Trial {
+// A trial with a reply that is due an answer, the others having been called too.
+fn answered(t: Trial, run: Run, g: CallResult, others: Others) -> Trial {
     let sheet = t.sheet;
     let before = t.answer;
     let told = t.tally;
+    let told = both_counted(told, others);
     let reply = g.reply;
     let monitor = g.monitor;
     match reply {
@@ -198,6 +159,7 @@ fn answered(t: Trial, run: Run, g: CallResult) -> Trial {
             sheet,
             run,
             monitor,
+            others,
             answer: before,
             tally: count(told, tally::DIFFERENT),
         },
@@ -208,6 +170,7 @@ fn answered(t: Trial, run: Run, g: CallResult) -> Trial {
                 sheet,
                 run,
                 monitor,
+                others,
                 answer,
                 tally: count_if(differs, told, tally::DIFFERENT),
             }
@@ -215,40 +178,37 @@ fn answered(t: Trial, run: Run, g: CallResult) -> Trial {
     }
 }
 
-// Opens a sheet; one that can't be written counts as a difference.
-pub fn opened(sheet: Sheet, tally: [u64; 40]) -> Trial {
+// Opens a sheet, in another order with the line at a place repeated; one that can't be written counts as a difference.
+pub fn opened(sheet: Sheet, i: usize, tally: [u64; 40]) -> Trial {
     let tape = sheet_tape(sheet);
     let bytes = tape.bytes;
     let run = no_instants();
     let g = open(front(&bytes, tape.len));
     let monitor = g.monitor;
+    let others = both_opened(sheet, i, g);
     let t = Trial {
         sheet,
         run,
         monitor,
+        others,
         answer: Answer::Broken,
         tally: count(tally, tally::CASES),
     };
-    answered(t, run, g)
+    answered(t, run, g, others)
 }
 
 // Hands an instant over.
 pub fn taken(t: Trial, v: Instant) -> Trial {
     let sheet = t.sheet;
     let monitor = t.monitor;
+    let others = t.others;
     let run = t.run;
     let r = whole(v, sheet.clocks);
     let bytes = r.bytes;
     let g = observe(monitor, front(&bytes, r.len));
-    answered(t, with_instant(run, v), g)
-}
-
-// Whether a reply is the refusal of a number.
-fn is_refused(r: Reply, n: u8) -> bool {
-    match r {
-        Reply::Refused(m) => m == n,
-        Reply::Answered(_) => false,
-    }
+    let reply = g.reply;
+    let others = both_next(others, front(&bytes, r.len), reply);
+    answered(t, with_instant(run, v), g, others)
 }
 
 // Hands a damaged instant over; the case goes on with the monitor given back.
@@ -258,11 +218,13 @@ pub fn refused(t: Trial, v: Instant, how: u64) -> Trial {
     let answer = t.answer;
     let told = t.tally;
     let before = t.monitor;
+    let others = t.others;
     let r = damaged(v, sheet.clocks, how);
     let bytes = r.bytes;
     let g = observe(before, front(&bytes, r.len));
     let monitor = g.monitor;
     let reply = g.reply;
+    let others = both_next(others, front(&bytes, r.len), reply);
     let at = if is_refused(reply, r.refusal) {
         tally::REFUSED
     } else {
@@ -272,8 +234,9 @@ pub fn refused(t: Trial, v: Instant, how: u64) -> Trial {
         sheet,
         run,
         monitor,
+        others,
         answer,
-        tally: count(told, at),
+        tally: count(both_counted(told, others), at),
     }
 }
 
