@@ -1,3 +1,4 @@
+pub mod Base
 pub mod Front
 pub mod Passed
 pub mod Pieces

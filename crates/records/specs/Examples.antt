@@ -11,7 +11,7 @@ use Rattle.records.specs.Word.{signed}
 use Rattle.records.specs.Record.{isTorn, front, cut}
 use Rattle.records.specs.Line.{lengthOf, clocksOf, lineOf}
 use Rattle.records.specs.Order.{above}
-use Rattle.records.specs.Sheet.{SheetValue, readBy, readSheet, readUnordered}
+use Rattle.records.specs.Sheet.{SheetValue, readBy, readSheet, readUnordered, readBase}
 
 -- one clock; its sporadic lines at 1 and at 256; 0 implies 0; 0 implies 1, which is no clock
 abbrev clock : List ℕ
@@ -74,7 +74,7 @@ pub record CountedExamples : Type 0 where
   -- 18 of a line comes before its 17
   order : (readSheet (clock ++ counts 0 1 ++ counts 0 0) ≡ refused 18) × (readSheet (clock ++ counts 0 2 ++ counts 0 1) ≡ refused 17)
   -- the last kind that is a line, and document 01's own
-  last : (readSheet (clock ++ kind25) ≡ refused 5) × (readBy Any 23 (clock ++ counts 0 1) ≡ refused 5) × (readBy Any 23 (clock ++ at1) ≡ readUnordered (clock ++ at1))
+  last : (readSheet (clock ++ kind25) ≡ refused 5) × (readBase (clock ++ counts 0 1) ≡ refused 5) × (readBase (clock ++ at1) ≡ readUnordered (clock ++ at1))
 
 pub counted-examples : CountedExamples
 unfolding signed isTorn front cut lengthOf clocksOf lineOf above readBy

@@ -16,7 +16,7 @@ use Rattle.records.specs.Outcome.{Outcome, taken, refused, Check, _⇒_,
 use Rattle.records.specs.Lists.{listed, filled, joined}
 use Rattle.records.specs.Word.{at}
 use Rattle.records.specs.Record.{Piece, whole, torn, pieces, recordBytes}
-use Rattle.records.specs.Line.{sporadics, lineChecks, valueLineChecks, lineOf, kindOf, bodyOf, lineBytes, blankLine}
+use Rattle.records.specs.Line.{isSporadic, lengthOf, clocksBelow, sporadics, lineChecks, valueLineChecks, lineOf, kindOf, bodyOf, lineBytes, blankLine}
 use Rattle.records.specs.Order.{keyOf, inOrder}
 use Rattle.records.specs.Store.{Wrote, leaves}
 
@@ -93,6 +93,27 @@ readUnordered b = readBy Any 24 b
 -- document 01's own rules: any order, repeats allowed, kinds 16 to 23
 abbrev pub readBase : List ℕ → Outcome SheetValue
 readBase b = readBy Any 23 b
+
+-- ---- document 01's table for a sheet as it stands there: `readBase` goes by it (`base-table`)
+
+-- each line, after 1; 8: seventeenth line; 5: kind not 16 to 23; 6: length wrong; 7: clock not below C; 9: ninth sporadic
+abbrev pub baseLineChecks : ℕ → ℕ → ℕ → Piece → List Check
+baseLineChecks c lines spent torn = (true ⇒ 1) ∷ []
+baseLineChecks c lines spent (whole kind body) =
+    (leb 16 lines ⇒ 8)
+    ∷ (not (leb 16 kind && leb kind 23) ⇒ 5)
+    ∷ (not (eqb (length body) (lengthOf kind)) ⇒ 6)
+    ∷ (not (clocksBelow c kind body) ⇒ 7)
+    ∷ ((isSporadic kind && leb 8 spent) ⇒ 9)
+    ∷ []
+
+-- the first record and then each line; no bytes at all: 1
+abbrev pub baseChecks : List Piece → List Check
+baseChecks [] = (true ⇒ 1) ∷ []
+baseChecks (first ∷ lines) = clocksChecks first ++ inTurn (λ before line. baseLineChecks (clocksIn first) (length before) (sporadics (map kindIn before)) line) [] lines
+
+abbrev pub BaseTable : Type 0
+BaseTable = (b : List ℕ) → readBase b ≡ decide (baseChecks (pieces b)) (sheetIn (pieces b))
 
 -- ---- the struct
 
