@@ -59,6 +59,11 @@ module _ {A : Type 0} (ds : List Check) (v : A) where
   decide-passed [] h = refl
   decide-passed (c ∷ cs) h = rw (h .0) (decide-passed cs (h .1))
 
+  -- checks in front of the same decision leave it the same
+  pub decide-behind : (cs es : List Check) → decide ds v ≡ decide es v → decide (cs ++ ds) v ≡ decide (cs ++ es) v
+  decide-behind [] es e = e
+  decide-behind (c ∷ cs) es e = ap (cond (c .holds) (refused (c .number))) (decide-behind cs es e)
+
   -- the first refusal decides
   pub decide-refused : {B : Type 0} (cs : List Check) (x : B) {n : ℕ} → decide cs x ≡ refused n → decide (cs ++ ds) v ≡ refused n
   decide-refused [] x e = refused-taken (sym e)

@@ -94,7 +94,7 @@ readUnordered b = readBy Any 24 b
 abbrev pub readBase : List ℕ → Outcome SheetValue
 readBase b = readBy Any 23 b
 
--- ---- document 01's table for a sheet as it stands there: `readBase` goes by it (`base-table`)
+-- ---- document 01's table for a sheet as it stands there
 
 -- each line, after 1; 8: seventeenth line; 5: kind not 16 to 23; 6: length wrong; 7: clock not below C; 9: ninth sporadic
 abbrev pub baseLineChecks : ℕ → ℕ → ℕ → Piece → List Check
@@ -112,6 +112,7 @@ abbrev pub baseChecks : List Piece → List Check
 baseChecks [] = (true ⇒ 1) ∷ []
 baseChecks (first ∷ lines) = clocksChecks first ++ inTurn (λ before line. baseLineChecks (clocksIn first) (length before) (sporadics (map kindIn before)) line) [] lines
 
+-- what `readBase` answers for every byte string is what that table says (proved as `base-table`)
 abbrev pub BaseTable : Type 0
 BaseTable = (b : List ℕ) → readBase b ≡ decide (baseChecks (pieces b)) (sheetIn (pieces b))
 

@@ -89,6 +89,7 @@ pub fn both_opened(sheet: Sheet, i: usize, g: CallResult) -> Others {
     }
 }
 
+// Hands one the bytes, if it is called.
 fn next(o: Other, bytes: &[u8], due: Reply) -> Other {
     let monitor = o.monitor;
     if o.called {

@@ -5,8 +5,8 @@ use judge::answer::Reply;
 use judge::entry::answer_code;
 use judge::entry::clear_code;
 
-// The whole answer, live and clear with it.
-pub fn same(a: Answer, v: Verdict) -> bool {
+// Whether an answer is the verdict on the whole run, live and clear with it.
+pub fn is_verdict(a: Answer, v: Verdict) -> bool {
     match a {
         Answer::Exhausted => match v {
             Verdict::Exhausted => true,
@@ -44,6 +44,7 @@ pub fn is_refused(r: Reply, n: u8) -> bool {
     }
 }
 
+// Whether two answers are the same, live and clear with it.
 fn same_answer(a: Answer, b: Answer) -> bool {
     let alike = answer_code(a) == answer_code(b) && clear_code(a) == clear_code(b);
     alike && live_of(a) == live_of(b)

@@ -4,8 +4,8 @@ use crate::others::both_counted;
 use crate::others::both_next;
 use crate::others::both_opened;
 use crate::reply::is_refused;
+use crate::reply::is_verdict;
 use crate::reply::live_of;
-use crate::reply::same;
 use crate::tally;
 use cases::damage::damaged;
 use cases::damage::whole;
@@ -165,7 +165,7 @@ fn answered(t: Trial, run: Run, g: CallResult, others: Others) -> Trial {
         },
         Reply::Answered(answer) => {
             let told = tallied(told, live_of(before), answer, monitor);
-            let differs = !same(answer, verdict_of(sheet, run));
+            let differs = !is_verdict(answer, verdict_of(sheet, run));
             Trial {
                 sheet,
                 run,
