@@ -5,6 +5,8 @@ use mathlib.Core.Bool.{Bool, true, false, cond}
 use mathlib.Core.List.{List, [], _∷_, _++_, map}
 use lib.ListN.{length, set}
 use lib.IntN.{ℤ}
+use Rattle.records.specs.declared.form.Form.{Form}
+use Rattle.records.specs.declared.form.FormShape.{FormShape}
 use Rattle.records.specs.declared.instant.Tick.{Tick}
 use Rattle.records.specs.declared.instant.Instant.{Instant}
 use Rattle.records.specs.declared.order.Order.{Order}
@@ -16,12 +18,12 @@ use Rattle.records.specs.declared.line.LineRead.the-variants as line
 use Rattle.records.specs.declared.record.Decision.{Decision}
 use Rattle.records.specs.declared.record.Decision.the-variants.{Done, Refused}
 use Rattle.records.specs.Outcome.{Outcome, taken, refused, _⇒_, decide}
-use Rattle.records.specs.Record.{Piece}
+use Rattle.records.specs.Record.{Piece, whole}
 use Rattle.records.specs.Lists.{listed}
 use Rattle.records.specs.Line.{isLine, isSporadic, lengthOf, valueLineChecks, kindOf, bodyOf}
 use Rattle.records.specs.Order.{above, keyOf, aboveLast}
 use Rattle.records.specs.Sheet.{SheetValue, lineIn, slotOf, lineAt, sheetValue, sheetOf, orderChecks, linesChecks, valueLinesChecks, sheetValueChecks}
-use Rattle.records.specs.Instant.{Cell, rawCells, tickAbove, cellOf, tickSlot}
+use Rattle.records.specs.Instant.{InstantValue, rawCells, tickAbove, cellOf, isInstant, numberLength, instantChecks, valueIn, tickSlot}
 use Rattle.records.specs.Sort.{Sorted}
 use Rattle.records.specs.Types.{All, IsLineValue, IsSheet}
 
@@ -67,16 +69,24 @@ pub record LinesChecked (order : Order) (s : Sheet) (r : Decision) : Type 0 wher
   pub answer : r ≡ answered (linesFault order (sheetValue s))
   pub values : r ≡ Done → All IsLineValue (sheetValue s .lines)
 
--- the clocks of a body, or 15
-unfoldable pub cellsRead : List ℕ → Outcome (List Cell)
-cellsRead body = decide ((tickAbove (rawCells body) ⇒ 15) ∷ []) (map cellOf (rawCells body))
+-- what the kinds of instants say
+abbrev pub formShapeOf : ℕ → FormShape
+formShapeOf kind = record { instant = isInstant kind; before = numberLength kind }
+
+-- the instant of a form with the clocks of these bytes, or 15
+unfoldable pub cellsRead : Form → List ℕ → Outcome InstantValue
+cellsRead form clocks = decide ((tickAbove (rawCells clocks) ⇒ 15) ∷ []) (record { form = form; cells = map cellOf (rawCells clocks) })
+
+-- the instant of a record of a kind, or 13, 14 or 15
+unfoldable pub bodyRead : ℕ → ℕ → List ℕ → Outcome InstantValue
+bodyRead c kind body = decide (instantChecks c (whole kind body)) (valueIn (whole kind body))
 
 -- a struct with one place more
 abbrev pub withLine : Sheet → Line → Sheet
 withLine s l = record { clocks = s .clocks; count = s .count + 1; lines = set (s .lines) (s .count) (slotOf l) }
 
 abbrev pub withCell : Instant → ℕ → Tick → ℤ → Instant
-withCell v i t tag = record { ticks = set (v .ticks) i (tickSlot t); tags = set (v .tags) i tag }
+withCell v i t tag = record { form = v .form; ticks = set (v .ticks) i (tickSlot t); tags = set (v .tags) i tag }
 
 -- what sorting asks of a sheet: at most 16 lines, their numbers within their types
 pub record Sortable (s : Sheet) : Type 0 where

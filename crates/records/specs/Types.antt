@@ -3,10 +3,12 @@ use Prim.Native.Nat.{ℕ, _<_}
 use mathlib.Core.List.{List, [], _∷_}
 use lib.IntN.{ℤ}
 use lib.Signed.{mag}
+use Rattle.records.specs.declared.form.Form.{Form}
+use Rattle.records.specs.declared.form.Form.the-variants.{Plain, Numbered}
 use Rattle.records.specs.declared.line.Line.{Line}
 use Rattle.records.specs.declared.line.Line.the-variants.{Sporadic, Relation, Implies, Excludes, Delayed, Weakly, Strictly, Kills, Counted}
 use Rattle.records.specs.Sheet.{SheetValue}
-use Rattle.records.specs.Instant.{Cell}
+use Rattle.records.specs.Instant.{Cell, InstantValue}
 
 -- P of each element
 abbrev pub All : {A : Type 0} → (A → Type 0) → List A → Type 0
@@ -42,3 +44,10 @@ IsSheet v = IsByte (v .clocks) × All IsLineValue (v .lines)
 
 abbrev pub IsInstant : List Cell → Type 0
 IsInstant cells = All (λ (c : Cell). IsTag (c .tag)) cells
+
+abbrev pub IsForm : Form → Type 0
+IsForm Plain = Unit {0}
+IsForm (Numbered n) = IsWord n
+
+abbrev pub IsInstantValue : InstantValue → Type 0
+IsInstantValue v = IsForm (v .form) × IsInstant (v .cells)

@@ -1,4 +1,10 @@
-// An instant: for each clock a tick and a tag.
+// An instant: the form of its record, and for each clock a tick and a tag.
+use crate::form::Form;
+use crate::form::form_kind;
+use crate::form::form_length;
+use crate::form::form_of;
+use crate::form::form_shape;
+use crate::form::put_number;
 use crate::number;
 use crate::record::Decision;
 use crate::record::Record;
@@ -16,8 +22,8 @@ ghost use Prim.Native.Nat.{_+_, _*_, _≤_, _<_};
 ghost use lib.ListN.{length, set};
 ghost use Rattle.records.specs.Outcome.{refused};
 ghost use Rattle.records.specs.Store.{puts, wrote};
-ghost use Rattle.records.specs.Instant.{tickOf, tickByte, tickAt, cellTag, cellBytes, instantOf, instantRead, instantValue, readInstant, instantBytes, writeInstant};
-ghost use Rattle.records.specs.Inner.{withCell, cellsRead};
+ghost use Rattle.records.specs.Instant.{tickOf, tickByte, tickAt, cellTag, cellBytes, cellsBytes, instantOf, instantRead, instantValue, readInstant, instantBytes, writeInstant};
+ghost use Rattle.records.specs.Inner.{withCell, cellsRead, bodyRead};
 
 pub enum Tick {
     Idle,
@@ -31,11 +37,15 @@ pub struct TickSlot {
 }
 
 pub struct Instant {
+    // How its record is written; what is judged are the ticks and tags.
+    pub form: Form,
+    // The ticks of the clocks, idle from the clock count on.
     pub ticks: [TickSlot; 8],
+    // Their tags, 0 from the clock count on.
     pub tags: [i16; 8],
 }
 
-// What reading an instant answers; the instant of a refusal is idle at tag 0 everywhere.
+// What reading an instant answers; the instant of a refusal is plain, and idle at tag 0 everywhere.
 pub struct InstantRead {
     pub answer: Decision,
     pub instant: Instant,
@@ -52,18 +62,19 @@ fn tick_of(x: u8) -> Tick
     }
 }
 
-fn blank_instant() -> Instant
-    ensures { λ r. ⌜ r ≡ instantOf [] ⌝ }
+// An instant of a form before its clocks are read.
+fn blank_instant(form: Form) -> Instant
+    ensures { λ r. ⌜ r ≡ instantOf (record { form = form; cells = [] }) ⌝ }
 {
     let ticks = [TickSlot { tick: Tick::Idle }; 8];
     let tags = [0i16; 8];
-    Instant { ticks, tags }
+    Instant { form, ticks, tags }
 }
 
 fn refused_instant(n: u8) -> InstantRead
     ensures { λ r. ⌜ r ≡ instantRead (refused n) ⌝ }
 {
-    let instant = blank_instant();
+    let instant = blank_instant(Form::Plain);
     let answer = Decision::Refused(n);
     InstantRead { answer, instant }
 }
@@ -86,7 +97,8 @@ fn with_cell(v: Instant, i: usize, t: Tick, tag: i16) -> Instant
     ticks[i] = TickSlot { tick: t };
     let before = v.tags;
     let tags = with_tag(before, i, tag);
-    Instant { ticks, tags }
+    let form = v.form;
+    Instant { form, ticks, tags }
 }
 
 pub(crate) fn wide_byte(x: u8) -> usize
@@ -95,13 +107,13 @@ pub(crate) fn wide_byte(x: u8) -> usize
     x as usize
 }
 
-// The clocks of an instant's body, three bytes each: 15, or the instant.
-fn read_cells(body: &[u8], clocks: u8) -> InstantRead
+// The clocks of an instant of a form, three bytes each: 15, or the instant.
+fn read_cells(form: Form, body: &[u8], clocks: u8) -> InstantRead
     requires { ⌜ (clocks ≤ 8) × (length (now body) ≡ 3 * clocks) ⌝ }
-    ensures { λ r. ⌜ r ≡ instantRead (cellsRead (now (body .entry))) ⌝ }
+    ensures { λ r. ⌜ r ≡ instantRead (cellsRead form (now (body .entry))) ⌝ }
 {
     let n = wide_byte(clocks);
-    let mut v = blank_instant();
+    let mut v = blank_instant(form);
     let mut i = 0;
     while i < n {
         let at = number::CELL_LENGTH * i;
@@ -117,6 +129,24 @@ fn read_cells(body: &[u8], clocks: u8) -> InstantRead
     InstantRead { answer, instant: v }
 }
 
+// The instant of a record of a kind: 13, 14, 15, or the instant.
+fn read_body(kind: u16, body: &[u8], clocks: u8) -> InstantRead
+    requires { ⌜ clocks ≤ 8 ⌝ }
+    ensures { λ r. ⌜ r ≡ instantRead (bodyRead clocks kind (now (body .entry))) ⌝ }
+{
+    let shape = form_shape(kind);
+    let known = shape.instant;
+    if !known {
+        return refused_instant(number::NOT_INSTANT);
+    }
+    let before = shape.before;
+    if body.len() != number::CELL_LENGTH * wide_byte(clocks) + before {
+        return refused_instant(number::INSTANT_LENGTH);
+    }
+    let form = form_of(kind, body);
+    read_cells(form, &body[before..], clocks)
+}
+
 // The instant of a clock count that a byte string holds.
 pub fn read_instant(bytes: &[u8], clocks: u8) -> InstantRead
     ensures { λ r. ⌜ r ≡ instantRead (readInstant clocks (now (bytes .entry))) ⌝ }
@@ -130,13 +160,7 @@ pub fn read_instant(bytes: &[u8], clocks: u8) -> InstantRead
             if bytes.len() != number::HEAD_LENGTH + len {
                 return refused_instant(number::NOT_ONE_RECORD);
             }
-            if kind != number::INSTANT {
-                return refused_instant(number::NOT_INSTANT);
-            }
-            if len != number::CELL_LENGTH * wide_byte(clocks) {
-                return refused_instant(number::INSTANT_LENGTH);
-            }
-            read_cells(&bytes[number::HEAD_LENGTH..], clocks)
+            read_body(kind, &bytes[number::HEAD_LENGTH..], clocks)
         }
     }
 }
@@ -176,25 +200,37 @@ fn put_cell(buffer: &mut [u8], at: usize, t: Tick, tag: i16)
     put_word(buffer, at + 1, raw_of(tag));
 }
 
-// An instant's record, where it has room.
-fn put_instant(v: Instant, clocks: u8, buffer: &mut [u8])
-    requires { ⌜ (clocks ≤ 8) × (3 * clocks + 4 ≤ length (now buffer)) ⌝ }
-    ensures { λ _. ⌜ now (buffer .exit) ≡ puts (now (buffer .entry)) 0 (instantBytes (instantValue clocks v)) ⌝ }
+// The clocks of an instant, one behind the other, where they have room.
+fn put_cells(v: Instant, clocks: u8, buffer: &mut [u8], at: usize)
+    requires { ⌜ (clocks ≤ 8) × (at + 3 * clocks ≤ length (now buffer)) ⌝ }
+    ensures { λ _. ⌜ now (buffer .exit) ≡ puts (now (buffer .entry)) at (cellsBytes (instantValue clocks v .cells)) ⌝ }
 {
     let n = wide_byte(clocks);
     let ticks = v.ticks;
     let tags = v.tags;
-    put_head(buffer, 0, (number::CELL_LENGTH * n) as u16, number::INSTANT);
     let mut i = 0;
     while i < n {
         put_cell(
             buffer,
-            number::HEAD_LENGTH + number::CELL_LENGTH * i,
+            at + number::CELL_LENGTH * i,
             tick_at(ticks, i),
             tag_at(tags, i),
         );
         i += 1;
     }
+}
+
+// An instant's record, where it has room.
+fn put_instant(v: Instant, clocks: u8, buffer: &mut [u8])
+    requires { ⌜ (clocks ≤ 8) × (length (instantBytes (instantValue clocks v)) ≤ length (now buffer)) ⌝ }
+    ensures { λ _. ⌜ now (buffer .exit) ≡ puts (now (buffer .entry)) 0 (instantBytes (instantValue clocks v)) ⌝ }
+{
+    let form = v.form;
+    let before = form_length(form);
+    let len = before + number::CELL_LENGTH * wide_byte(clocks);
+    put_head(buffer, 0, len as u16, form_kind(form));
+    put_number(buffer, number::HEAD_LENGTH, form);
+    put_cells(v, clocks, buffer, number::HEAD_LENGTH + before);
 }
 
 // Writes an instant of a clock count at the buffer's front, or refuses it and changes no byte.
@@ -204,7 +240,9 @@ pub fn write_instant(instant: Instant, clocks: u8, buffer: &mut [u8]) -> Written
     if !clock_count(clocks) {
         return Written::Refused(number::CLOCK_COUNT);
     }
-    let size = number::HEAD_LENGTH + number::CELL_LENGTH * wide_byte(clocks);
+    let form = instant.form;
+    let size =
+        number::HEAD_LENGTH + form_length(form) + number::CELL_LENGTH * wide_byte(clocks);
     if buffer.len() < size {
         return Written::Refused(number::SHORT_BUFFER);
     }

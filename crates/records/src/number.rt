@@ -37,6 +37,8 @@ pub const NOT_ABOVE: u8 = 17;
 
 pub const NO_COUNT: u8 = 18;
 
+pub const NOT_NEXT: u8 = 19;
+
 // Kinds of records.
 pub const CLOCKS: u16 = 1;
 
@@ -66,7 +68,9 @@ pub const LAST_BASE_LINE: u16 = KILLS;
 
 pub const INSTANT: u16 = 32;
 
-// Lengths: of a record's length and kind, of the bodies of the clocks record and of lines, of a clock in an instant.
+pub const NUMBERED: u16 = 33;
+
+// Lengths: of a record's length and kind, of the bodies of the clocks record and of lines, of an instant's number and of a clock in it.
 pub const HEAD_LENGTH: usize = 4;
 
 pub const CLOCKS_BODY: usize = 1;
@@ -83,6 +87,8 @@ pub const COUNTED_BODY: usize = 4;
 
 // The longest body of a line.
 pub const MAX_BODY: usize = RELATION_BODY;
+
+pub const NUMBER_LENGTH: usize = 2;
 
 pub const CELL_LENGTH: usize = 3;
 
@@ -101,3 +107,6 @@ pub const MAX_OWED: usize = 8;
 
 // The longest sheet: the clocks record and 16 of the longest lines.
 pub const MAX_SHEET: usize = HEAD_LENGTH + CLOCKS_BODY + MAX_LINES * (HEAD_LENGTH + MAX_BODY);
+
+// The longest instant: eight clocks, with a number.
+pub const MAX_INSTANT: usize = HEAD_LENGTH + NUMBER_LENGTH + MAX_CLOCKS as usize * CELL_LENGTH;

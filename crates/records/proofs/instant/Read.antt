@@ -8,19 +8,19 @@ use lib.Seq.{take-append-seam}
 use Rattle.records.specs.declared.record.Decision.the-variants.{Done, Refused}
 use Rattle.records.specs.Outcome.{Outcome, taken, refused}
 use Rattle.records.specs.Lists.{filled}
-use Rattle.records.specs.Instant.{Cell, instantOf, instantRead}
+use Rattle.records.specs.Instant.{InstantValue, instantOf, instantRead}
 
-pub read-refused : (o : Outcome (List Cell)) {n : ℕ} → instantRead o .answer ≡ Refused n → o ≡ refused n
-read-refused (taken i) e = let z : _≡_ {A = ℕ} 0 1 = cc in absurd (omega arith)
+pub read-refused : (o : Outcome InstantValue) {n : ℕ} → instantRead o .answer ≡ Refused n → o ≡ refused n
+read-refused (taken v) e = let z : _≡_ {A = ℕ} 0 1 = cc in absurd (omega arith)
 read-refused (refused k) {n} e = let z : k ≡ n = cc in ap refused z
 
-pub record Read (o : Outcome (List Cell)) : Type 0 where
-  pub cells : List Cell
-  pub is : o ≡ taken cells
-  pub struct : instantRead o .instant ≡ instantOf cells
+pub record Read (o : Outcome InstantValue) : Type 0 where
+  pub value : InstantValue
+  pub is : o ≡ taken value
+  pub struct : instantRead o .instant ≡ instantOf value
 
-pub read-done : (o : Outcome (List Cell)) → instantRead o .answer ≡ Done → Read o
-read-done (taken i) e = record { cells = i; is = refl; struct = refl }
+pub read-done : (o : Outcome InstantValue) → instantRead o .answer ≡ Done → Read o
+read-done (taken v) e = record { value = v; is = refl; struct = refl }
 read-done (refused n) e = let z : _≡_ {A = ℕ} 0 1 = cc in absurd (omega arith)
 
 -- the places in use of an array that reading filled

@@ -12,7 +12,7 @@ use Rattle.records.proofs.instant.read_cells.Tie as tie
 
 abbrev Inv-loop : tie.InvT-loop
 Inv-loop body clocks n v₀ i₀ v i =
-    (i ≤ n) × (instantRead (cellsRead body) ≡ cellsFrom v i (rawCells (drop (3 * i) body)))
+    (i ≤ n) × (instantRead (cellsRead (v₀ .form) body) ≡ cellsFrom v i (rawCells (drop (3 * i) body)))
 
 abbrev μ-loop : tie.MeasureT-loop
 μ-loop body clocks n v₀ i₀ v i = n - i
