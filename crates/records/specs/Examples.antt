@@ -1,17 +1,21 @@
--- The order of lines on bytes (document 02, Q-1), and lines that count (Q-2): a row each, by computation. Assumes nothing.
+-- The order of lines on bytes (document 02, Q-1), lines that count (Q-2), and numbered instants (Q-5): a row each, by computation. Assumes nothing.
 use mathlib.Core.List.{List, [], _∷_, _++_}
 use mathlib.Core.Path.{_≡_, refl}
 use Prim.Native.Nat.{ℕ}
-use lib.IntN.{pos}
+use lib.IntN.{pos, negsuc}
+use Rattle.records.specs.declared.form.Form.{Form}
+use Rattle.records.specs.declared.form.Form.the-variants.{Plain, Numbered}
+use Rattle.records.specs.declared.instant.Tick.the-variants.{Ticks}
 use Rattle.records.specs.declared.line.Line.{Line}
 use Rattle.records.specs.declared.line.Line.the-variants.{Sporadic, Implies, Counted}
 use Rattle.records.specs.declared.order.Order.the-variants.{Any}
-use Rattle.records.specs.Outcome.{taken, refused}
-use Rattle.records.specs.Word.{signed}
+use Rattle.records.specs.Outcome.{Outcome, taken, refused}
+use Rattle.records.specs.Word.{signed, unsigned}
 use Rattle.records.specs.Record.{isTorn, front, cut}
 use Rattle.records.specs.Line.{lengthOf, clocksOf, lineOf}
 use Rattle.records.specs.Order.{above}
 use Rattle.records.specs.Sheet.{SheetValue, readBy, readSheet, readUnordered, readBase}
+use Rattle.records.specs.Instant.{InstantValue, tickOf, rawCells, readInstant, instantBytes}
 
 -- one clock; its sporadic lines at 1 and at 256; 0 implies 0; 0 implies 1, which is no clock
 abbrev clock : List ℕ
@@ -79,3 +83,42 @@ pub record CountedExamples : Type 0 where
 pub counted-examples : CountedExamples
 unfolding signed isTorn front cut lengthOf clocksOf lineOf above readBy
 counted-examples = record { read = (refl, refl); zero = (refl, refl, refl); order = (refl, refl); last = (refl, refl, refl) }
+
+-- one clock ticking at -3, as a record of a kind and a length, with what stands before the clock
+abbrev instant : ℕ → ℕ → List ℕ → List ℕ
+instant size kind before = size ∷ 0x00 ∷ kind ∷ 0x00 ∷ before ++ (0x01 ∷ 0xFD ∷ 0xFF ∷ [])
+
+abbrev ticking : Form → Outcome InstantValue
+ticking form = taken (record { form = form; cells = record { tick = Ticks; tag = negsuc 2 } ∷ [] })
+
+-- the bytes of what was read
+abbrev writtenAgain : Outcome InstantValue → List ℕ
+writtenAgain (taken v) = instantBytes v
+writtenAgain (refused n) = []
+
+pub record NumberedExamples : Type 0 where
+  -- plain; numbered 0, 1, 4,000 and 65,535, low byte first: reading alone takes every number
+  read :
+      (readInstant 1 (instant 3 32 []) ≡ ticking Plain)
+      × (readInstant 1 (instant 5 33 (0x00 ∷ 0x00 ∷ [])) ≡ ticking (Numbered 0))
+      × (readInstant 1 (instant 5 33 (0x01 ∷ 0x00 ∷ [])) ≡ ticking (Numbered 1))
+      × (readInstant 1 (instant 5 33 (0xA0 ∷ 0x0F ∷ [])) ≡ ticking (Numbered 4000))
+      × (readInstant 1 (instant 5 33 (0xFF ∷ 0xFF ∷ [])) ≡ ticking (Numbered 65535))
+  -- the kinds beside these two
+  kinds : (readInstant 1 (instant 3 31 []) ≡ refused 13) × (readInstant 1 (instant 5 34 (0x01 ∷ 0x00 ∷ [])) ≡ refused 13)
+  -- each kind with the other's length
+  lengths : (readInstant 1 (instant 5 32 (0x01 ∷ 0x00 ∷ [])) ≡ refused 14) × (readInstant 1 (instant 3 33 []) ≡ refused 14)
+  -- the number's bytes are no tick bytes; one behind it is
+  ticks : (readInstant 1 (instant 5 33 (0x03 ∷ 0x03 ∷ [])) ≡ ticking (Numbered 771)) × (readInstant 1 (0x05 ∷ 0x00 ∷ 0x21 ∷ 0x00 ∷ 0x01 ∷ 0x00 ∷ 0x03 ∷ 0x00 ∷ 0x00 ∷ []) ≡ refused 15)
+  -- read and written again: kind and number with it
+  again : (writtenAgain (readInstant 1 (instant 5 33 (0xA0 ∷ 0x0F ∷ []))) ≡ instant 5 33 (0xA0 ∷ 0x0F ∷ [])) × (writtenAgain (readInstant 1 (instant 3 32 [])) ≡ instant 3 32 [])
+
+pub numbered-examples : NumberedExamples
+unfolding signed unsigned isTorn front cut tickOf rawCells readInstant instantBytes
+numbered-examples = record {
+  read = (refl, refl, refl, refl, refl);
+  kinds = (refl, refl);
+  lengths = (refl, refl);
+  ticks = (refl, refl);
+  again = (refl, refl);
+}

@@ -1,23 +1,40 @@
 -- The plain machine: its state is the sheet and the list of accepted instants. It is opened with a sheet's bytes and called with an instant's.
+use mathlib.Core.Bool.{Bool, true, not}
 use mathlib.Core.List.{List, [], _∷_, _++_, map}
 use Prim.Native.Nat.{ℕ, suc}
-use lib.Dec.{leb}
+use lib.Dec.{leb, eqb}
 use lib.ListN.{length}
+use Rattle.records.specs.declared.form.Form.{Form}
+use Rattle.records.specs.declared.form.Form.the-variants.{Plain, Numbered}
 use Rattle.records.specs.Outcome.{Outcome, taken, refused, _⇒_, decide}
 use Rattle.records.specs.Record.{Piece, whole, torn, pieces, recordBytes}
 use Rattle.records.specs.Sheet.{SheetValue, readSheet}
-use Rattle.records.specs.Instant.{readInstant}
+use Rattle.records.specs.Instant.{InstantValue, readInstant}
 use Rattle.tesl.specs.Run.{Instant}
 use Rattle.tesl.specs.Answer.{Answer, answer}
 
--- 16: 4,000 instants held, checked last
-abbrev pub unlessFull : ℕ → Outcome Instant → Outcome Instant
-unlessFull held (refused n) = refused n
-unlessFull held (taken i) = decide ((leb 4000 held ⇒ 16) ∷ []) i
+-- a numbered record is the next if its number is one above the instants held; a plain one always is
+abbrev pub isNext : ℕ → Form → Bool
+isNext held Plain = true
+isNext held (Numbered n) = eqb n (suc held)
 
--- what the machine takes a call's bytes for: 12 to 15 as reading gives them, then 16; a machine has no limits of its own, so 11 never arises
+-- what was read, where so many instants are held; 16: 4,000 of them; 19: the number is not one above them
+abbrev pub ifNext : ℕ → Outcome InstantValue → Outcome InstantValue
+ifNext held (refused n) = refused n
+ifNext held (taken v) = decide ((leb 4000 held ⇒ 16) ∷ (not (isNext held (v .form)) ⇒ 19) ∷ []) v
+
+-- a record of c clocks read as the next instant: 4 and 12 to 15 as reading alone gives them, then 16, then 19
+unfoldable pub readNext : ℕ → ℕ → List ℕ → Outcome InstantValue
+readNext c held bytes = ifNext held (readInstant c bytes)
+
+-- the ticks and tags of what was read
+abbrev pub judgedPart : Outcome InstantValue → Outcome Instant
+judgedPart (refused n) = refused n
+judgedPart (taken v) = taken (v .cells)
+
+-- what the machine takes a call's bytes for; a machine has no limits of its own, so 11 never arises
 unfoldable pub accepts : SheetValue → List Instant → List ℕ → Outcome Instant
-accepts s run bytes = unlessFull (length run) (readInstant (s .clocks) bytes)
+accepts s run bytes = judgedPart (readNext (s .clocks) (length run) bytes)
 
 -- an accepted instant is appended; a refused one changes nothing
 abbrev pub listAfter : List Instant → Outcome Instant → List Instant
