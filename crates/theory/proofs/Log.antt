@@ -4,12 +4,13 @@ use mathlib.Core.Path.{_≡_, sym, ap, _∙_}
 use Prim.Native.Nat.{ℕ, _+_}
 use lib.ListN.{length, drop}
 use Rattle.records.specs.Record.{Piece, whole, torn, front, pieces, TheRecord, recordBytes}
+use Rattle.records.specs.Outcome.{Outcome}
 use Rattle.records.specs.Sheet.{SheetValue}
-use Rattle.records.specs.Instant.{readInstant}
+use Rattle.records.specs.Instant.{InstantValue, readInstant}
 use Rattle.records.proofs.record.Cut.{no-pieces}
 use Rattle.records.proofs.record.Inverse.{pieces-record}
 use Rattle.tesl.specs.Run.{Instant}
-use Rattle.tesl.specs.Machine.{accepts, listAfter, reply, machine, listAfterCalls, acceptsEach, callOf, callsOf}
+use Rattle.tesl.specs.Machine.{ifNext, readNext, judgedPart, accepts, listAfter, reply, machine, listAfterCalls, acceptsEach, callOf, callsOf}
 
 -- ---- a call
 
@@ -22,8 +23,8 @@ same-read c p (whole kind body) e =
     rw (e, k)
 
 pub same-call : (s : SheetValue) (run : List Instant) (p : List ℕ) (q : Piece) → pieces p ≡ q ∷ [] → accepts s run p ≡ accepts s run (callOf q)
-unfolding accepts
-same-call s run p q e = rw (same-read (s .clocks) p q e)
+unfolding accepts readNext
+same-call s run p q e = ap (λ (o : Outcome InstantValue). judgedPart (ifNext (length run) o)) (same-read (s .clocks) p q e)
 
 module _ {log : List ℕ} {at : ℕ} {p : List ℕ} (h : TheRecord log at p) where
   -- the machine's reply to the record, and the rest

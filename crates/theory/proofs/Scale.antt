@@ -12,7 +12,7 @@ use Rattle.records.specs.Outcome.{Outcome, taken, refused, _⇒_}
 use Rattle.records.specs.Word.{signed, tagOf}
 use Rattle.records.specs.Record.{Piece, whole, torn, pieces}
 use Rattle.records.specs.Sheet.{SheetValue, clockCount}
-use Rattle.records.specs.Instant.{Cell, RawCell, cellOf, rawCells, instantIn, oneInstantChecks, readInstant}
+use Rattle.records.specs.Instant.{InstantValue, Cell, RawCell, cellOf, rawCells, clocksPart, instantIn, oneInstantChecks, readInstant}
 use Rattle.records.specs.Types.{All}
 use Rattle.records.proofs.Lists.{taken-passed}
 use Rattle.tesl.specs.Run.{Instant, tagsOf, Filled, tagIn}
@@ -21,7 +21,7 @@ use Rattle.tesl.specs.Machine.{accepts, listAfter}
 use Rattle.tesl.specs.Formula.{WithinScale}
 use Rattle.theory.specs.Limits.{TagsWithin, OnScale}
 use Rattle.theory.proofs.Lists.{each-snoc}
-use Rattle.theory.proofs.Accepted.{taken-read}
+use Rattle.theory.proofs.Accepted.{taken-next}
 
 -- ---- what is read
 
@@ -37,15 +37,15 @@ cells-scale : (cs : List RawCell) → TagsWithin mostTag (map cellOf cs)
 cells-scale [] = tt
 cells-scale (c ∷ cs) = (tag-scale (c .word), cells-scale cs)
 
-piece-scale : (ps : List Piece) → TagsWithin mostTag (instantIn ps)
+piece-scale : (ps : List Piece) → TagsWithin mostTag (instantIn ps .cells)
 piece-scale [] = tt
 piece-scale (torn ∷ ps) = tt
-piece-scale (whole kind body ∷ ps) = cells-scale (rawCells body)
+piece-scale (whole kind body ∷ ps) = cells-scale (rawCells (clocksPart kind body))
 
-read-scale : (c : ℕ) (bytes : List ℕ) {i : Instant} → readInstant c bytes ≡ taken i → TagsWithin mostTag i
+read-scale : (c : ℕ) (bytes : List ℕ) {v : InstantValue} → readInstant c bytes ≡ taken v → TagsWithin mostTag (v .cells)
 unfolding readInstant
 read-scale c bytes e =
-    subst (TagsWithin mostTag) (taken-passed ((not (clockCount c) ⇒ 4) ∷ oneInstantChecks c (pieces bytes)) e .1) (piece-scale (pieces bytes))
+    subst (λ (v : InstantValue). TagsWithin mostTag (v .cells)) (taken-passed ((not (clockCount c) ⇒ 4) ∷ oneInstantChecks c (pieces bytes)) e .1) (piece-scale (pieces bytes))
 
 -- the machine's list stays on the scale, whatever a call is handed
 pub list-scale : (s : SheetValue) (run : List Instant) (bytes : List ℕ) → OnScale mostTag run → OnScale mostTag (listAfter run (accepts s run bytes))
@@ -53,7 +53,9 @@ list-scale s run bytes h = by-outcome (accepts s run bytes) refl
   where
     by-outcome : (o : Outcome Instant) → accepts s run bytes ≡ o → OnScale mostTag (listAfter run o)
     by-outcome (refused n) e = h
-    by-outcome (taken i) e = each-snoc (TagsWithin mostTag) run h (read-scale (s .clocks) bytes (taken-read s run bytes e .0))
+    by-outcome (taken i) e =
+        let t = taken-next s run bytes e in
+        each-snoc (TagsWithin mostTag) run h (subst (TagsWithin mostTag) (t .cells) (read-scale (s .clocks) bytes (t .next .read)))
 
 -- a beginning of it does
 pub front-scale : (front rest : List Instant) → OnScale mostTag (front ++ rest) → OnScale mostTag front
