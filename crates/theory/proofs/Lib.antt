@@ -32,5 +32,7 @@ pub mod Machine
 pub mod Said
 -- The same sheet in another order.
 pub mod SameLines
+-- Numbered instants.
+pub mod Numbered
 -- The machine along a log.
 pub mod Log

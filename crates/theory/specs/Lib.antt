@@ -13,6 +13,8 @@ pub mod Seen
 pub mod Said
 -- the same sheet in another order
 pub mod SameLines
+-- numbered instants
+pub mod Numbered
 -- ---- for proofs only: adding to sets, one instant on a remainder, the remainders held after a run, their limits, and what a monitor keeps
 pub mod Adding
 pub mod Step
