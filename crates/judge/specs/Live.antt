@@ -50,7 +50,7 @@ pub record OpenedIn (read : Reader) (bytes : List ℕ) (r : Reply) (a b : List �
 
 -- ---- observing
 
--- what a call is taken for: 11: no monitor within its limits; 12 to 15 as reading gives them; then 16
+-- what a call is taken for: 11: no monitor within its limits; 12 to 15 as reading gives them; then 16, then 19
 unfoldable pub observesIn : List ℕ → List ℕ → Outcome Instant
 observesIn w bytes = cond (isState w) (observes (stateMonitor w) bytes) (refused 11)
 

@@ -8,13 +8,12 @@ use lib.Dec.{T}
 use lib.ListN.{length}
 use Rattle.records.specs.Outcome.{Outcome, taken, refused}
 use Rattle.records.specs.Sheet.{SheetValue}
-use Rattle.records.specs.Instant.{readInstant}
 use Rattle.records.specs.Types.{All}
 use Rattle.tesl.specs.Lists.{lastOf}
 use Rattle.tesl.specs.Run.{Instant, tagsOf}
 use Rattle.tesl.specs.Remainder.{Remainder, sameObligation, sameCountdown, sameRemainder}
 use Rattle.tesl.specs.Answer.{exhausted, remainders, answer}
-use Rattle.tesl.specs.Machine.{unlessFull, Reader}
+use Rattle.tesl.specs.Machine.{readNext, judgedPart, Reader}
 use Rattle.theory.specs.Sets.{apart, EachOnce}
 use Rattle.work.specs.View.{heldList}
 use Rattle.judge.specs.declared.monitor.Monitor.{Monitor}
@@ -45,9 +44,9 @@ pub record Opened (read : Reader) (bytes : List ℕ) (r : CallResult) : Type 0 w
 
 -- ---- observing
 
--- what a call is taken for: 11: monitor outside its limits; 12 to 15 as reading gives them; then 16
+-- what a call is taken for: 11: monitor outside its limits; 12 to 15 as reading gives them; then 16, then 19
 unfoldable pub observes : Monitor → List ℕ → Outcome Instant
-observes m bytes = cond (monitorWithin m) (unlessFull (m .instants) (readInstant (m .sheet .clocks) bytes)) (refused 11)
+observes m bytes = cond (monitorWithin m) (judgedPart (readNext (m .sheet .clocks) (m .instants) bytes)) (refused 11)
 
 -- an accepted instant: the answer is what those then held say, and the monitor is within its limits; for every run that the monitor followed, it is the machine's answer, and the monitor follows the longer run
 -- free is what is then held by a monitor that follows no run

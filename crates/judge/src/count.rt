@@ -1,6 +1,5 @@
 // How many instants of a log are taken, by reading alone.
-use records::instant::read_instant;
-use records::number;
+use crate::next::read_next;
 use records::record::Decision;
 use records::record::record_bytes;
 use records::sheet::read_sheet;
@@ -13,11 +12,8 @@ fn count_instants(log: &[u8], clocks: u8) -> usize
     let mut count = 0;
     let mut at = 0;
     while at < log.len() {
-        if number::MAX_INSTANTS <= count {
-            return count;
-        }
         let record = record_bytes(log, at);
-        let read = read_instant(record, clocks);
+        let read = read_next(record, clocks, count);
         let answer = read.answer;
         match answer {
             Decision::Refused(_) => {

@@ -6,14 +6,13 @@ use crate::fill::work_rows;
 use crate::held::Status;
 use crate::list::LIST;
 use crate::monitor::Monitor;
+use crate::next::read_next;
 use crate::plan::NUMBERS;
 use crate::plan::Plan;
 use crate::rows::HEAD;
 use crate::rows::SIDES;
 use crate::rows::SIZE;
 use records::instant::Instant;
-use records::instant::read_instant;
-use records::number;
 use records::record::Decision;
 ghost use mathlib.Core.Path.{_≡_};
 ghost use Prim.Native.Nat.{_<_};
@@ -116,7 +115,7 @@ pub(crate) fn observe_rows(
     ensures { λ t. ⌜ Takes progress plan (now (bytes .entry)) (now (lines .entry)) t (now (rows .entry)) (now (rows .exit)) (now (list .exit)) ⌝ }
 {
     let clocks = plan.clocks as u8;
-    let read = read_instant(bytes, clocks);
+    let read = read_next(bytes, clocks, progress.instants);
     let answer = read.answer;
     match answer {
         Decision::Refused(n) => InstantResult {
@@ -124,13 +123,6 @@ pub(crate) fn observe_rows(
             progress,
         },
         Decision::Done => {
-            let instants = progress.instants;
-            if number::MAX_INSTANTS <= instants {
-                return InstantResult {
-                    reply: Reply::Refused(number::INSTANTS_HELD),
-                    progress,
-                };
-            }
             let instant = read.instant;
             work_instant(progress, plan, lines, instant, rows, list)
         }

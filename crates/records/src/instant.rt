@@ -71,7 +71,8 @@ fn blank_instant(form: Form) -> Instant
     Instant { form, ticks, tags }
 }
 
-fn refused_instant(n: u8) -> InstantRead
+// What reading answers where it refuses with a number.
+pub fn refused_instant(n: u8) -> InstantRead
     ensures { λ r. ⌜ r ≡ instantRead (refused n) ⌝ }
 {
     let instant = blank_instant(Form::Plain);

@@ -2,7 +2,7 @@
 use crate::line::column_line;
 use crate::line::refusal_line;
 use crate::put::put_line;
-use records::instant::read_instant;
+use judge::next::read_next;
 use records::number;
 use records::record::Decision;
 use records::record::record_bytes;
@@ -52,16 +52,13 @@ fn put_instants(clocks: u8, log: &[u8], out: &mut [u8]) -> usize
     let mut at = 0;
     while at < log.len() {
         let record = record_bytes(log, at);
-        let read = read_instant(record, clocks);
+        let read = read_next(record, clocks, taken);
         let answer = read.answer;
         match answer {
             Decision::Refused(n) => {
                 return put_line(out, end, refusal_line(n));
             }
             Decision::Done => {
-                if number::MAX_INSTANTS <= taken {
-                    return put_line(out, end, refusal_line(number::INSTANTS_HELD));
-                }
                 let instant = read.instant;
                 let tags = instant.tags;
                 end = put_tags(out, end, tags, clocks);

@@ -1,26 +1,23 @@
 -- A log's instants, read one by one: as many are taken as the machine of any sheet with these clocks takes. Assumes nothing.
-use mathlib.Core.Bool.{false}
 use mathlib.Core.List.{List, [], _∷_, _++_}
 use mathlib.Core.Path.{_≡_, refl, sym, ap, _∙_}
-use Prim.Native.Nat.{ℕ, suc, _+_, _≤_, _<_}
+use Prim.Native.Nat.{ℕ, suc, _+_, _≤_}
 use native.Mathlib.Omega.{arith}
 use lib.ListN.{length, drop, length-append, drop-of-length-le}
-use lib.Dec.{leb}
-use borrow.Author.Tests.{lt-leb}
 use Rattle.records.specs.declared.record.Decision.the-variants.{Done, Refused}
 use Rattle.records.specs.declared.instant.InstantRead.{InstantRead}
 use Rattle.records.specs.Outcome.{Outcome, taken, refused}
 use Rattle.records.specs.Record.{TheRecord}
 use Rattle.records.specs.Sheet.{SheetValue}
-use Rattle.records.specs.Instant.{readInstant, instantRead}
+use Rattle.records.specs.Instant.{InstantValue, instantRead}
 use Rattle.records.proofs.record.Cut.{no-pieces}
 use Rattle.records.proofs.instant.Read.{read-refused, read-done}
 use Rattle.tesl.specs.Run.{Instant}
-use Rattle.tesl.specs.Machine.{accepts, machine, callsOf}
+use Rattle.tesl.specs.Machine.{readNext, judgedPart, accepts, machine}
+use Rattle.theory.proofs.Accepted.{next-read}
 use Rattle.theory.proofs.Log.{next-replies}
 use Rattle.judge.specs.Entry.{answersFrom}
 use Rattle.judge.specs.Records.{Counted}
-use Rattle.judge.proofs.log.Answers.{answers-few}
 
 -- ---- a turn
 
@@ -47,31 +44,27 @@ module _ {log : List ℕ} {clocks n at : ℕ} (w : Counting log clocks n at) whe
   unfolding machine
   counted-end h = counted (λ s run e c. rw (drop-of-length-le log {i = at} h, no-pieces))
 
-  pub counted-full : 4000 ≤ n → Counted log clocks n
-  counted-full h = counted (λ s run e c. omega (arith, answers-few s run (callsOf (drop at log)) (omega (arith, w .most))))
+  module _ {p : List ℕ} (h : TheRecord log at p) {x : InstantRead} (r : x ≡ instantRead (readNext clocks n p)) where
+    -- what the machine of such a sheet takes the record for
+    taken-for : {o : Outcome InstantValue} → readNext clocks n p ≡ o → (s : SheetValue) (run : List Instant) → s .clocks ≡ clocks → length run ≡ n → accepts s run p ≡ judgedPart o
+    unfolding accepts
+    taken-for q s run e c = rw (e, c, q)
 
-  module _ {p : List ℕ} (h : TheRecord log at p) {x : InstantRead} (r : x ≡ instantRead (readInstant clocks p)) where
     pub counted-refused : {k : ℕ} → x .answer ≡ Refused k → Counted log clocks n
-    unfolding accepts
     counted-refused q =
-        let k = read-refused (readInstant clocks p) (sym (ap (λ (y : InstantRead). y .answer) r) ∙ q) in
-        counted (λ s run e c. rw (next-replies h s run, e, k))
+        let k = read-refused (readNext clocks n p) (sym (ap (λ (y : InstantRead). y .answer) r) ∙ q) in
+        counted (λ s run e c. rw (next-replies h s run, taken-for k s run e c))
 
-    pub counting-more : n < 4000 → x .answer ≡ Done → Counting log clocks (n + 1) (at + length p)
-    unfolding accepts
-    counting-more l q =
-        let d = read-done (readInstant clocks p) (sym (ap (λ (y : InstantRead). y .answer) r) ∙ q) in
+    pub counting-more : x .answer ≡ Done → Counting log clocks (n + 1) (at + length p)
+    counting-more q =
+        let d = read-done (readNext clocks n p) (sym (ap (λ (y : InstantRead). y .answer) r) ∙ q) in
+        let i : Instant = d .value .cells in
         record {
-          most = omega arith;
+          most = omega (arith, next-read clocks n p (d .is) .room);
           ends = h .within;
           same = λ s e.
               let a = w .same s e in
-              let f : leb 4000 (length (a .run)) ≡ false = lt-leb 4000 (length (a .run)) (omega (arith, a .counted)) in
-              let m : length (answersFrom s (a .run) (drop at log))
-              ≡ suc (length (answersFrom s (a .run ++ (d .cells ∷ [])) (drop (at + length p) log))) = rw (next-replies h s (a .run), ap (λ (c : ℕ). readInstant c p) e ∙ d .is, f) in
-              record {
-                run = a .run ++ (d .cells ∷ []);
-                counted = omega (arith, a .counted, length-append (a .run) (d .cells ∷ []));
-                all = omega (arith, a .all, m);
-              };
+              let m : length (answersFrom s (a .run) (drop at log)) ≡ suc (length (answersFrom s (a .run ++ (i ∷ [])) (drop (at + length p) log))) =
+              rw (next-replies h s (a .run), taken-for (d .is) s (a .run) e (a .counted)) in
+              record { run = a .run ++ (i ∷ []); counted = omega (arith, a .counted, length-append (a .run) (i ∷ [])); all = omega (arith, a .all, m) };
         }

@@ -13,7 +13,7 @@ use Rattle.tesl.specs.Run.{Instant}
 use Rattle.tesl.specs.Answer.{Answer, exhausted, broken, holding, mostLive, answer}
 use Rattle.tesl.specs.Machine.{accepts, listAfter, reply, machine, concluded}
 use Rattle.theory.proofs.Answers.{holding-few}
-use Rattle.theory.proofs.Accepted.{taken-read}
+use Rattle.theory.proofs.Accepted.{taken-next}
 use Rattle.judge.specs.Entry.{liveCode, answersTaken, entry, storedEntry}
 
 -- ---- live is at most 32
@@ -50,7 +50,7 @@ answers-few s run (bytes ∷ calls) h = by-outcome (accepts s run bytes) refl (�
         → length run + length (answersTaken (reply s run o ∷ machine s (listAfter run o) calls)) ≤ 4000
     by-outcome (refused n) e ih = omega arith
     by-outcome (taken i) e ih =
-        let r = taken-read s run bytes e .1 in
+        let r = taken-next s run bytes e .next .room in
         let l = length-append run (i ∷ []) in
         let k = ih (run ++ (i ∷ [])) (omega arith) in
         omega arith

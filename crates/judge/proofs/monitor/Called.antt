@@ -1,10 +1,9 @@
--- A call of `observe`, by what it is taken for: 11; 12 to 15 as reading gives them; 16; or an accepted instant. Assumes nothing.
+-- A call of `observe`, by what it is taken for: 11; 12 to 15 as reading gives them; 16; 19; or an accepted instant. Assumes nothing.
 use mathlib.Core.Bool.{Bool, true, false, not}
 use mathlib.Core.List.{List, map}
 use mathlib.Core.Path.{_≡_, sym, ap, _∙_, subst}
-use Prim.Native.Nat.{ℕ, _≤_, _<_}
+use Prim.Native.Nat.{ℕ}
 use native.Mathlib.Omega.{arith}
-use lib.Dec.{leb, le→leb, leb→le, not-T}
 use lib.IntN.{pos}
 use lib.ListN.{length, length-map}
 use borrow.Author.Tests.{not-true, not-false}
@@ -12,14 +11,15 @@ use Rattle.records.specs.declared.record.Decision.the-variants.{Done, Refused}
 use Rattle.records.specs.declared.instant.Instant as code
 use Rattle.records.specs.declared.instant.InstantRead.{InstantRead}
 use Rattle.records.specs.Outcome.{taken, refused}
-use Rattle.records.specs.Instant.{Cell, readInstant, instantRead}
+use Rattle.records.specs.Instant.{Cell, instantRead}
 use Rattle.records.specs.Types.{All, IsBytes}
 use Rattle.records.proofs.Lists.{both, refused-taken}
 use Rattle.records.proofs.instant.Read.{Read, read-refused, read-done}
 use Rattle.records.proofs.instant.RoundTrip.{read-writes}
 use Rattle.tesl.specs.Run.{Instant}
-use Rattle.tesl.proofs.Tests.{T→≡, ≡→T}
-use Rattle.theory.proofs.Lists.{F→≡}
+use Rattle.tesl.specs.Machine.{readNext}
+use Rattle.tesl.proofs.Tests.{≡→T}
+use Rattle.theory.proofs.Accepted.{NextRead, next-read}
 use Rattle.tesl.specs.Answer.{mostLive}
 use Rattle.judge.specs.declared.remainder.Remainder as arrays
 use Rattle.judge.specs.declared.monitor.Monitor.{Monitor}
@@ -58,44 +58,41 @@ module _ (m : Monitor) (bytes : List ℕ) (r : CallResult) where
       record { called = called-refused f q; unused = λ i g. refused-taken (sym f ∙ g) }
 
 module _ (m : Monitor) (bytes : List ℕ) {b : Bool} (l : Limited m b) (e : not b ≡ false)
-    {x : InstantRead} (h : x ≡ instantRead (readInstant (m .sheet .clocks) bytes)) where
+    {x : InstantRead} (h : x ≡ instantRead (readNext (m .sheet .clocks) (m .instants) bytes)) where
   inside : monitorWithin m ≡ true
   inside = sym (l .answer) ∙ not-false b e
 
   its-limits : Limits m
   its-limits = limits-of m (l .value (not-false b e)) inside
 
-  -- 12 to 15
+  -- 12 to 16, 19
   pub called-unread : {r : CallResult} {n : ℕ} → x .answer ≡ Refused n → r ≡ refusal n m → Called m bytes r
   unfolding observes
   called-unread {r} q g =
-      let k = read-refused (readInstant (m .sheet .clocks) bytes) (sym (ap (λ (y : InstantRead). y .answer) h) ∙ q) in
+      let k = read-refused (readNext (m .sheet .clocks) (m .instants) bytes) (sym (ap (λ (y : InstantRead). y .answer) h) ∙ q) in
       called-refused m bytes r (rw (inside, k)) g
 
   module _ (q : x .answer ≡ Done) where
-    was-read : Read (readInstant (m .sheet .clocks) bytes)
-    was-read = read-done (readInstant (m .sheet .clocks) bytes) (sym (ap (λ (y : InstantRead). y .answer) h) ∙ q)
+    was-read : Read (readNext (m .sheet .clocks) (m .instants) bytes)
+    was-read = read-done (readNext (m .sheet .clocks) (m .instants) bytes) (sym (ap (λ (y : InstantRead). y .answer) h) ∙ q)
 
-    -- 16
-    pub called-full : {r : CallResult} → 4000 ≤ m .instants → r ≡ refusal 16 m → Called m bytes r
-    unfolding observes
-    called-full {r} k g = called-refused m bytes r (rw (inside, was-read .is, T→≡ (leb 4000 (m .instants)) (le→leb 4000 (m .instants) k))) g
+    is-next : NextRead (m .sheet .clocks) (m .instants) bytes (was-read .value)
+    is-next = next-read (m .sheet .clocks) (m .instants) bytes (was-read .is)
 
     -- tags past those read
     pub blank-tags : IsBytes bytes → BlankFrom (m .sheet .clocks) (pos 0) (x .instant .tags)
     blank-tags u k l =
-        let w = read-writes (m .sheet .clocks) bytes u (was-read .is) in
-        let tags = map (λ (c : Cell). c .tag) (was-read .cells) in
+        let w = read-writes (m .sheet .clocks) bytes u (is-next .read) in
+        let cells : List Cell = was-read .value .cells in
         rw (ap (λ (y : InstantRead). y .instant .tags) h ∙ ap (λ (i : code.Instant). i .tags) (was-read .struct))
-        (filled-past (pos 0) 8 tags k (omega (arith, w .size, length-map (was-read .cells) (λ (c : Cell). c .tag))))
+        (filled-past (pos 0) 8 (map (λ (c : Cell). c .tag) cells) k (omega (arith, w .size, length-map cells (λ (c : Cell). c .tag))))
 
-    pub called : {r : CallResult} → IsBytes bytes → All (λ (s : arrays.Remainder). length (s .stopped) ≡ 8) (m .held .remainders) → m .instants < 4000
+    pub called : {r : CallResult} → IsBytes bytes → All (λ (s : arrays.Remainder). length (s .stopped) ≡ 8) (m .held .remainders)
         → Accepts mostLive m (x .instant) r → Called m bytes r
     unfolding observes monitorWithin
-    called {r} u stops k a =
-        let w = read-writes (m .sheet .clocks) bytes u (was-read .is) in
-        let n = F→≡ (leb 4000 (m .instants)) (not-T (leb 4000 (m .instants)) (λ t. let f = leb→le 4000 (m .instants) t in omega arith)) in
-        called-taken m bytes r (rw (inside, was-read .is, n))
-        (accepted m its-limits (≡→T (both (sheetWithin (sheetBy m)) inside .0)) k (was-read .cells) (w .value) (w .size) r
+    called {r} u stops a =
+        let w = read-writes (m .sheet .clocks) bytes u (is-next .read) in
+        called-taken m bytes r (rw (inside, was-read .is))
+        (accepted m its-limits (≡→T (both (sheetWithin (sheetBy m)) inside .0)) (is-next .room) (was-read .value) (w .value .1) (w .size) r
         (subst (λ (v : _). Accepts mostLive m v r) (ap (λ (y : InstantRead). y .instant) h ∙ was-read .struct) a)
         (held-shaped (sheetBy m) (its-limits .sheet .clocks-most) (m .held .count) (m .held .remainders) stops (its-limits .fits)))

@@ -15,7 +15,7 @@ use Rattle.records.specs.declared.instant.Tick.the-variants.{Idle}
 use Rattle.records.specs.Lists.{filled}
 use Rattle.records.specs.Outcome.{taken}
 use Rattle.records.specs.Sheet.{SheetValue, sheetValue}
-use Rattle.records.specs.Instant.{Cell, tickSlot, instantOf}
+use Rattle.records.specs.Instant.{Cell, InstantValue, tickSlot, instantOf}
 use Rattle.records.proofs.instant.Read.{places-in-use}
 use Rattle.records.specs.Types.{All, IsInstant}
 use Rattle.tesl.specs.Lists.{all}
@@ -90,19 +90,23 @@ module _ (room : ℕ) where
 
 -- ---- the instant that was read
 
-seen-of : (c : ℕ) (i : Instant) → length i ≡ c → seenOf c (instantOf i .ticks) ≡ ticksOf i
-seen-of c i e =
-    ap (map (λ (t : TickSlot). t .tick)) (places-in-use (λ (x : Cell). tickSlot (x .tick)) (tickSlot Idle) c i e)
-    ∙ map-map (λ (t : TickSlot). t .tick) (λ (x : Cell). tickSlot (x .tick)) i
+seen-of : (c : ℕ) (v : InstantValue) → length (v .cells) ≡ c → seenOf c (instantOf v .ticks) ≡ ticksOf (v .cells)
+seen-of c v e =
+    ap (map (λ (t : TickSlot). t .tick)) (places-in-use (λ (x : Cell). tickSlot (x .tick)) (tickSlot Idle) c (v .cells) e)
+    ∙ map-map (λ (t : TickSlot). t .tick) (λ (x : Cell). tickSlot (x .tick)) (v .cells)
 
 -- ---- the monitor after it
 
 module _ (m : Monitor) (l : Limits m) (sheet : T (sheetWithin (sheetBy m))) (room : m .instants < 4000)
-    (i : Instant) (value : IsInstant i) (size : length i ≡ m .sheet .clocks) (r : CallResult) (a : Accepts mostLive m (instantOf i) r)
+    (v : InstantValue) (value : IsInstant (v .cells)) (size : length (v .cells) ≡ m .sheet .clocks) (r : CallResult) (a : Accepts mostLive m (instantOf v) r)
     (shaped : All (Shaped (m .sheet .clocks)) (heldList (heldBy m))) where
+  -- its ticks and tags
+  abbrev i : Instant
+  i = v .cells
+
   found : Works mostLive (sheetBy m) (lastBy m) i (heldBy m) (heldBy (r .monitor))
   found = works mostLive (sheetBy m) (eqb (m .instants) 0) (m .tags) i (let c = l .sheet .clocks-most in omega arith) (heldBy m) (heldBy (r .monitor)) shaped
-      (rw (← seen-of (m .sheet .clocks) i size) (sym (a .held)))
+      (rw (← seen-of (m .sheet .clocks) v size) (sym (a .held)))
 
   same-sheet : sheetBy (r .monitor) ≡ sheetBy m
   same-sheet = ap sheetValue (a .sheet)

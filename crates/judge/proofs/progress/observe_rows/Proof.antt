@@ -5,21 +5,23 @@ use Prim.Native.Nat.{ℕ}
 use native.Mathlib.Omega.{arith}
 use borrow.Author.Needs.{needs}
 use Rattle.records.specs.declared.sheet.Sheet.{Sheet}
-use Rattle.records.specs.Instant.{readInstant, instantRead}
+use Rattle.records.specs.Instant.{instantRead}
 use Rattle.records.specs.Types.{IsBytes}
 use Rattle.judge.specs.declared.monitor.Monitor.{Monitor}
 use Rattle.judge.specs.Limits.{Limited}
 use Rattle.judge.specs.Progress.{rowsMonitor, given, Ready}
 use Rattle.judge.specs.Promises.{Called}
+use Rattle.tesl.specs.Machine.{readNext}
 use Rattle.records.proofs.word.Bytes.{each-byte}
-use Rattle.judge.proofs.monitor.Called.{called-unread, called-full, blank-tags, called}
+use Rattle.judge.proofs.next.Laws.{done-room}
+use Rattle.judge.proofs.monitor.Called.{called-unread, blank-tags, called}
 use Rattle.judge.proofs.monitor.InRows.{answered-refused, answered-within}
 use Rattle.judge.proofs.progress.Laws.{limited, eight-rows}
 use Rattle.judge.proofs.progress.observe_rows.Statement.{statement}
 use Rattle.judge.proofs.progress.observe_rows.Tie as tie
 
 -- ---- where the instant was read
-module _ (r : tie.After-read-instant) where
+module _ (r : tie.After-read-next) where
   abbrev known : tie.After-shared-slice-known
   known = r .before .before
 
@@ -34,24 +36,11 @@ module _ (r : tie.After-read-instant) where
     within : Limited (rowsMonitor s (first .args .progress) (first .args .rows .now)) true
     within = limited s (first .args .progress) (first .args .rows .now) (ready .value) (ready .limits)
 
-    reads : r .read-instant .result ≡ instantRead (readInstant (s .clocks) (first .args .bytes .now))
-    reads = r .read-instant .ensures ∙ ap (λ (n : ℕ). instantRead (readInstant n (first .args .bytes .now))) (ready .planned .as-many)
+    reads : r .read-next .result ≡ instantRead (readNext (s .clocks) (first .args .progress .instants) (first .args .bytes .now))
+    reads = r .read-next .ensures ∙ ap (λ (n : ℕ). instantRead (readNext n (first .args .progress .instants) (first .args .bytes .now))) (ready .planned .as-many)
 
 returns : tie.Need-returns
 returns c =
-    let e = c .before in
-    let r = e .before .before in
-    record {
-      room = first r .pre;
-      refused = λ n f. (refl, refl);
-      moved = λ x f. answered-refused (sym f);
-      called = λ s ready. called-full (start r s ready) (first r .args .bytes .now) (within r s ready) refl (reads r s ready) (e .enum-told .given .1) (c .if1 .taken) refl;
-      tags = λ s ready x f. answered-refused (sym f);
-      ready = λ s ready. ready;
-    }
-
-returns-2 : tie.Need-returns-2
-returns-2 c =
     let a = c .before in
     let r = a .before .before in
     record {
@@ -63,25 +52,25 @@ returns-2 c =
       ready = λ s ready. ready;
     }
 
--- ---- where there is room for an instant
-abbrev room : tie.After-work-instant-arg2 → tie.Else1
-room c = c .before .before .before
+-- ---- where it was taken
+abbrev done : tie.After-work-instant-arg2 → tie.After-enum-told
+done c = c .before .before .before
 
-abbrev read : tie.Else1 → tie.After-read-instant
-read e = e .before .before .before
+abbrev read : tie.After-enum-told → tie.After-read-next
+read e = e .before .before
 
 work-instant-requires : tie.Need-work-instant-requires
-work-instant-requires c κs = let e = room c in (first (read e) .pre, omega (arith, e .if1 .left))
+work-instant-requires c κs = let e = done c in (first (read e) .pre, done-room _ _ _ (read e .read-next .ensures) (e .enum-told .given .1))
 
 module _ (c : tie.After-work-instant) where
-  abbrev few : tie.Else1
-  few = room (c .before)
+  abbrev taken : tie.After-enum-told
+  taken = done (c .before)
 
-  abbrev was-read : tie.After-read-instant
-  was-read = read (room (c .before))
+  abbrev was-read : tie.After-read-next
+  was-read = read (done (c .before))
 
   abbrev entry : tie.Start
-  entry = first (read (room (c .before)))
+  entry = first (read (done (c .before)))
 
   bytes : IsBytes (entry .args .bytes .now)
   bytes = each-byte (entry .args .bytes .now) (λ i. known was-read .shared-slice-known .given i .fits)
@@ -89,20 +78,20 @@ module _ (c : tie.After-work-instant) where
   observes : (s : Sheet) (ready : Ready s (entry .args .progress) (entry .args .plan) (entry .args .lines .now) (entry .args .rows .now)) → Called (rowsMonitor s (entry .args .progress) (entry .args .rows .now)) (entry .args .bytes .now) (given (c .work-instant .result .reply) (rowsMonitor s (c .work-instant .result .progress) (c .work-instant .last .1 .1 .1 .1 .0)))
   observes s ready =
       let k = entry .args .progress in
-      called (start was-read s ready) (entry .args .bytes .now) (within was-read s ready) refl (reads was-read s ready) (few .before .enum-told .given .1)
-      bytes (eight-rows (entry .args .rows .now) (k .from) (k .count)) (omega (arith, few .if1 .left)) (c .work-instant .ensures .accepts s ready)
+      called (start was-read s ready) (entry .args .bytes .now) (within was-read s ready) refl (reads was-read s ready) (taken .enum-told .given .1)
+      bytes (eight-rows (entry .args .rows .now) (k .from) (k .count)) (c .work-instant .ensures .accepts s ready)
 
-returns-3 : tie.Need-returns-3
-returns-3 c = record {
+returns-2 : tie.Need-returns-2
+returns-2 c = record {
   room = c .work-instant .ensures .room;
   refused = λ n f. absurd (c .work-instant .ensures .answered n f);
   moved = λ x f. c .work-instant .ensures .moved;
   called = observes c;
-  tags = λ s ready x f. rw (c .work-instant .ensures .accepts s ready .tags) (blank-tags (start (was-read c) s ready) (entry c .args .bytes .now) (within (was-read c) s ready) refl (reads (was-read c) s ready) (few c .before .enum-told .given .1) (bytes c));
+  tags = λ s ready x f. rw (c .work-instant .ensures .accepts s ready .tags) (blank-tags (start (was-read c) s ready) (entry c .args .bytes .now) (within (was-read c) s ready) refl (reads (was-read c) s ready) (taken c .enum-told .given .1) (bytes c));
   ready = λ s ready. record { value = ready .value; planned = ready .planned; limits = answered-within (observes c s ready) (c .work-instant .ensures .accepts s ready .said) };
 }
 
 pub observe-rows-spec : {M : Type 1} → statement M
 observe-rows-spec =
     tie.close (tie.spec (λ c. omega (arith, c .before .before .pre .plan .clocks)) (λ c κs. search needs) (λ c. search needs) (λ c. search needs)
-    returns work-instant-requires returns-2 returns-3)
+    work-instant-requires returns returns-2)
