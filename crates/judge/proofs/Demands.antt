@@ -14,6 +14,7 @@ use Rattle.theory.specs.Session as machine
 use Rattle.theory.specs.Limits.{OnScale}
 use Rattle.theory.specs.Said.{Said}
 use Rattle.theory.specs.Seen.{SeenJudged}
+use Rattle.theory.proofs.Numbered.{runs-along}
 use Rattle.theory.proofs.Machine.{same-session, each-answer}
 use Rattle.theory.proofs.Said.{answer-said}
 use Rattle.theory.proofs.Seen.{seen-judged}
@@ -21,7 +22,7 @@ use Rattle.judge.specs.declared.monitor.Monitor.{Monitor}
 use Rattle.judge.specs.declared.monitor.CallResult.{CallResult}
 use Rattle.judge.specs.Answer.{replyOf}
 use Rattle.judge.specs.Promises.{Follows, observes, Called}
-use Rattle.judge.specs.Demands.{openedOf, Opens, Observes, Demand3, Demand3Said, Demand2}
+use Rattle.judge.specs.Demands.{openedOf, Opens, Observes, Demand3, Demand3Said, Demand2, NumberedRun}
 
 -- ---- opening
 
@@ -84,3 +85,8 @@ demand3-said read sheet calls answered last ran = each-said (demand3 read sheet 
 
 pub demand2 : (read : Reader) → Demand2 read
 demand2 read sheet calls answered last ran = each-seen (demand3 read sheet calls answered last ran)
+
+-- ---- numbered instants
+
+pub numbered-run : (read : Reader) → NumberedRun read
+numbered-run read all sheet calls answered last ran = runs-along all (demand3 read sheet calls answered last ran)

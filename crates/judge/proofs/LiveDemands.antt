@@ -10,13 +10,14 @@ use Rattle.tesl.specs.Answer.{Answer}
 use Rattle.tesl.specs.Machine.{accepts, Reader}
 use Rattle.theory.specs.Session.{Opening, refuses, opens, Observing, FollowsMachine}
 use Rattle.theory.specs.Session as machine
+use Rattle.theory.proofs.Numbered.{runs-along}
 use Rattle.theory.proofs.Machine.{same-session}
 use Rattle.judge.specs.declared.live.Replied.{Replied}
 use Rattle.judge.specs.Answer.{replyOf}
 use Rattle.judge.specs.Progress.{given}
 use Rattle.judge.specs.Promises.{Follows, observes, Called}
 use Rattle.judge.specs.State.{isState, stateMonitor}
-use Rattle.judge.specs.Live.{observesIn, FollowsIn, ObservedIn, openedAs, OpensIn, ObservesIn, Demand3In, Demand3SaidIn, Demand2In}
+use Rattle.judge.specs.Live.{observesIn, FollowsIn, ObservedIn, openedAs, OpensIn, ObservesIn, Demand3In, Demand3SaidIn, Demand2In, NumberedRunIn}
 use Rattle.judge.proofs.Demands.{same-call, called-follows, each-said, each-seen}
 
 -- ---- opening
@@ -66,3 +67,6 @@ demand3-said-in read sheet calls answered last ran = each-said (demand3-in read 
 
 pub demand2-in : (read : Reader) → Demand2In read
 demand2-in read sheet calls answered last ran = each-seen (demand3-in read sheet calls answered last ran)
+
+pub numbered-run-in : (read : Reader) → NumberedRunIn read
+numbered-run-in read all sheet calls answered last ran = runs-along all (demand3-in read sheet calls answered last ran)

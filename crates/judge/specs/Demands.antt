@@ -1,4 +1,4 @@
--- Demand 3, one statement about the list of calls, as the machine has it and in document 01's words; demand 2 for the program; and the same sheet in another order. Each hypothesis is what a call ensures;
+-- Demand 3, one statement about the list of calls, as the machine has it and in document 01's words; demand 2 for the program; the same sheet in another order; and numbered instants. Each hypothesis is what a call ensures;
 -- `read` is how the sheet's bytes are read, by `open` as `readSheet`, by `open_unordered` as `readBase`.
 use mathlib.Core.List.{List, _∷_, _++_, List·Permᴰ}
 use mathlib.Core.Option.{Option}
@@ -11,6 +11,7 @@ use Rattle.records.specs.Outcome.{Outcome, taken, refused}
 use Rattle.records.specs.Sheet.{SheetValue, readSheet, readBase}
 use Rattle.records.specs.Sort.{IsIn, SortsBytes}
 use Rattle.records.specs.Types.{IsBytes}
+use Rattle.tesl.specs.Run.{Instant}
 use Rattle.tesl.specs.Answer.{Answer, mostLive}
 use Rattle.tesl.specs.Machine.{Session, Reader}
 use Rattle.theory.specs.Session.{Ran, SameSession, EachAnswer}
@@ -18,6 +19,7 @@ use Rattle.theory.specs.Session as machine
 use Rattle.theory.specs.Said.{Said}
 use Rattle.theory.specs.Seen.{SeenJudged}
 use Rattle.theory.specs.SameLines.{SameClocksAndLines}
+use Rattle.theory.specs.Numbered.{AcceptedFrom, RunsAlong}
 use Rattle.judge.specs.declared.monitor.Monitor.{Monitor}
 use Rattle.judge.specs.declared.monitor.CallResult.{CallResult}
 use Rattle.judge.specs.Answer.{replyOf}
@@ -81,3 +83,12 @@ abbrev pub SortedAnswers : Type 0
 SortedAnswers =
     (b before after : List ℕ) (n : ℕ) (v : SheetValue) → IsBytes b → readBase b ≡ taken v → SortsBytes b before (Bytes n) after
     → AnsweredAlike readBase b readSheet (take n after)
+
+-- ---- numbered instants (document 02, Q-5)
+
+-- for every list of instants `all` and every list of calls of which each that was accepted was handed bytes that are read as kind 33, with the number k + 1 and the ticks and tags of all[k], for some k of its own:
+-- the run is a beginning of `all`, and the last monitor follows it, whatever was dropped, repeated or reordered on the way, and whatever bytes the refused calls were handed
+abbrev pub NumberedRun : Reader → Type 0
+NumberedRun read = (all : List Instant) (sheet : List ℕ) (calls : List (List ℕ)) (answered : Session) (last : Option Monitor)
+    → Ran (Opens read) Observes sheet calls answered last
+    → (s : SheetValue) → read sheet ≡ taken s → AcceptedFrom all (s .clocks) calls (answered .replies) → RunsAlong Follows all s calls last

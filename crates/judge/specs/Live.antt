@@ -13,6 +13,7 @@ use Rattle.theory.specs.Session.{Ran, SameSession, EachAnswer}
 use Rattle.theory.specs.Session as machine
 use Rattle.theory.specs.Said.{Said}
 use Rattle.theory.specs.Seen.{SeenJudged}
+use Rattle.theory.specs.Numbered.{AcceptedFrom, RunsAlong}
 use Rattle.judge.specs.declared.answer.Reply.{Reply}
 use Rattle.judge.specs.declared.answer.Reply.the-variants.{Refused}
 use Rattle.judge.specs.declared.live.Replied.{Replied}
@@ -107,3 +108,9 @@ Demand3SaidIn read = (sheet : List ℕ) (calls : List (List ℕ)) (answered : Se
 abbrev pub Demand2In : Reader → Type 0
 Demand2In read = (sheet : List ℕ) (calls : List (List ℕ)) (answered : Session) (last : Option (List ℕ))
     → Ran (OpensIn read) ObservesIn sheet calls answered last → EachAnswer SeenJudged read sheet calls answered
+
+-- calls of which each that was accepted was handed a record of `all`, numbered from 1: the run is a beginning of `all`, and the last words follow it
+abbrev pub NumberedRunIn : Reader → Type 0
+NumberedRunIn read = (all : List Instant) (sheet : List ℕ) (calls : List (List ℕ)) (answered : Session) (last : Option (List ℕ))
+    → Ran (OpensIn read) ObservesIn sheet calls answered last
+    → (s : SheetValue) → read sheet ≡ taken s → AcceptedFrom all (s .clocks) calls (answered .replies) → RunsAlong FollowsIn all s calls last

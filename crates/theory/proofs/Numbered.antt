@@ -45,7 +45,7 @@ accepted-next all s run bytes {i} e r b =
 
 -- ---- a list of calls
 
-along : (all : List Instant) (s : SheetValue) (run : List Instant) (calls : List (List ℕ)) → AcceptedFrom all (s .clocks) calls (machine s run calls) → IsBeginning run all
+pub along : (all : List Instant) (s : SheetValue) (run : List Instant) (calls : List (List ℕ)) → AcceptedFrom all (s .clocks) calls (machine s run calls) → IsBeginning run all
     → IsBeginning (listAfterCalls s run calls) all
 unfolding machine listAfterCalls
 along all s run [] from b = b
