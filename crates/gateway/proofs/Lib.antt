@@ -1,3 +1,4 @@
 pub mod Held
 pub mod Machine
 pub mod Live
+pub mod Numbered

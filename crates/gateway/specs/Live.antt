@@ -1,14 +1,16 @@
 -- What the calls on a state of words return, and demand 3 of exactly these calls. Words are read as `judge` reads them (its specs/State.antt and Live.antt).
 use mathlib.Core.Bool.{cond}
 use mathlib.Core.List.{List, [], _∷_}
+use mathlib.Core.Option.{some}
 use mathlib.Core.Path.{_≡_}
-use Prim.Native.Nat.{ℕ}
+use Prim.Native.Nat.{ℕ, _%_}
 use lib.ListN.{length}
 use Rattle.records.specs.Outcome.{Outcome, taken, refused}
 use Rattle.records.specs.Sheet.{SheetValue, readSheet}
 use Rattle.tesl.specs.Run.{Instant}
 use Rattle.tesl.specs.Answer.{Answer, answer}
 use Rattle.tesl.specs.Machine.{accepts, listAfter, reply, listAfterCalls}
+use Rattle.theory.specs.Numbered.{RecordOf, RunsAlong}
 use Rattle.judge.specs.declared.answer.Reply.{Reply}
 use Rattle.judge.specs.declared.live.Replied.{Replied}
 use Rattle.judge.specs.Answer.{replyOf, saidBy}
@@ -96,3 +98,16 @@ pub record LiftSame {sheet : List ℕ} {calls : List (List ℕ)} (r : LiftRan sh
 -- for every sheet's bytes, every list of records' bytes and every state before
 abbrev pub LiftDemand3 : Type 0
 LiftDemand3 = (sheet : List ℕ) (calls : List (List ℕ)) (r : LiftRan sheet calls) → LiftSame r
+
+-- ---- numbered instants (document 02, Q-5)
+
+-- each call that was accepted, as the number in its result's lowest byte tells, was handed a record of `all`, numbered from 1
+abbrev pub LiftAcceptedFrom : List Instant → ℕ → List (List ℕ) → List ℕ → Type 0
+LiftAcceptedFrom all c [] results = Unit {0}
+LiftAcceptedFrom all c (bytes ∷ calls) [] = Unit {0}
+LiftAcceptedFrom all c (bytes ∷ calls) (r ∷ results) = (r % 256 ≡ 0 → RecordOf all c bytes) × LiftAcceptedFrom all c calls results
+
+-- then the run is a beginning of `all`, and the last words follow it
+abbrev pub LiftNumbered : Type 0
+LiftNumbered = (all : List Instant) (sheet : List ℕ) (calls : List (List ℕ)) (r : LiftRan sheet calls) (s : SheetValue) → readSheet sheet ≡ taken s
+    → LiftAcceptedFrom all (s .clocks) calls (r .results) → RunsAlong FollowsIn all s calls (some (r .last))

@@ -29,7 +29,7 @@ module _ (text : List ℕ → List ℕ → List ℕ) (a b : ℕ) (decides : (s l
   }
 
 -- the rooms that are large enough
-module _ {a b : ℕ} (sheet-room : 65704 ≤ a) (log-room : 177539 ≤ b) (sheet log : List ℕ) {before after : List ℕ} {size : ℕ} where
+module _ {a b : ℕ} (sheet-room : 65704 ≤ a) (log-room : 185539 ≤ b) (sheet log : List ℕ) {before after : List ℕ} {size : ℕ} where
   pub watch-printed : printedAs size after ≡ printed (watchText sheet log) before → FilesPrinted watchText a b sheet log before size after
   watch-printed p = files-printed watchText a b (front-decides a b sheet-room log-room .watch) sheet log p
 

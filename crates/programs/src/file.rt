@@ -10,10 +10,8 @@ const LONGEST_RECORD: usize = number::HEAD_LENGTH + 65535;
 // How much of a sheet file is read: the clocks, 16 of the longest lines and one record more, which is refused whatever it is. So no byte beyond can change what is printed.
 pub(crate) const SHEET_ROOM: usize = number::MAX_SHEET + LONGEST_RECORD;
 
-// How much of a log file is read: 4,000 instants of eight clocks and one record more, which is refused whatever it is.
-pub(crate) const LOG_ROOM: usize = number::MAX_INSTANTS
-    * (number::HEAD_LENGTH + number::CELL_LENGTH * number::MAX_CLOCKS as usize)
-    + LONGEST_RECORD;
+// How much of a log file is read: 4,000 of the longest instants and one record more, which is refused whatever it is.
+pub(crate) const LOG_ROOM: usize = number::MAX_INSTANTS * number::MAX_INSTANT + LONGEST_RECORD;
 
 // The bytes that were read.
 pub(crate) fn front(buffer: &[u8], n: usize) -> &[u8]

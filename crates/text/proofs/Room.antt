@@ -1,6 +1,6 @@
 -- How long the whole text gets: at most 4,000 instants' lines, each of bounded length, and a refusal's. Assumes nothing.
 use mathlib.Core.List.{List, [], _∷_, _++_, map}
-use mathlib.Core.Path.{_≡_, refl, ap, _∙_}
+use mathlib.Core.Path.{_≡_, refl, ap, _∙_, subst}
 use Prim.Native.Nat.{ℕ, suc, _+_, _-_, _*_, _/_, _≤_, _<_}
 use native.Mathlib.Omega.{arith}
 use native.Mathlib.Nat.{suc-mul}
@@ -22,7 +22,7 @@ use Rattle.tesl.specs.Run.{Instant, tagsOf}
 use Rattle.tesl.specs.Answer.{Answer, exhausted, broken, holding, clear, owed, mostLive, answer}
 use Rattle.tesl.specs.Machine.{accepts, callOf, callsOf}
 use Rattle.theory.proofs.Answers.{holding-few}
-use Rattle.theory.proofs.Accepted.{taken-read, refused-number}
+use Rattle.theory.proofs.Accepted.{taken-next, refused-number}
 use Rattle.text.specs.Text.{line, live, answerLine, refusalLine, cents, hundredths, columnLine}
 use Rattle.text.specs.Output.{watchText, columnsText}
 use Rattle.text.proofs.build.Digits.{length-digits}
@@ -91,7 +91,7 @@ module _ (lines : List Instant → Instant → List ℕ) (w : ℕ) (s : SheetVal
           → length (walkedBy lines run (λ run′. walked lines s run′ calls) o) ≤ j * w + 11
       by-outcome (refused n) e later = omega (arith, refusal-short n (omega (arith, refused-number s run bytes e)))
       by-outcome (taken i) e later =
-          let r = taken-read s run bytes e .1 in
+          let r = taken-next s run bytes e .next .room in
           let m : j ≡ suc (j - 1) = omega arith in
           let more : j * w ≡ (j - 1) * w + w = ap (λ (k : ℕ). k * w) m ∙ suc-mul (j - 1) w in
           rw length-append (omega (arith, each .0 run i e, later (j - 1) (run ++ (i ∷ [])) (omega (arith, length-append run (i ∷ [])))))
@@ -108,7 +108,7 @@ all-room lines w sheet calls each = by-sheet (readSheet sheet) refl
 
 all-narrow : (s : SheetValue) (calls : List (List ℕ)) → All (Narrow (watchLines s) 22 s) calls
 all-narrow s [] = tt
-all-narrow s (bytes ∷ calls) = (λ run i e. answer-short (suc (length run)) (answer s (run ++ (i ∷ []))) (omega (arith, taken-read s run bytes e .1)) (live-most s (run ++ (i ∷ []))), all-narrow s calls)
+all-narrow s (bytes ∷ calls) = (λ run i e. answer-short (suc (length run)) (answer s (run ++ (i ∷ []))) (omega (arith, taken-next s run bytes e .next .room)) (live-most s (run ++ (i ∷ []))), all-narrow s calls)
 
 pub watch-room : (sheet log : List ℕ) → length (watchText sheet log) ≤ 88011
 watch-room sheet log = rw watch-walk (all-room watchLines 22 sheet (callsOf log) (λ s. all-narrow s (callsOf log)))
@@ -117,10 +117,11 @@ watch-room sheet log = rw watch-walk (all-room watchLines 22 sheet (callsOf log)
 
 one-narrow : (s : SheetValue) (p : Piece) → IsBody p → Narrow (columnsLines s) 112 s (callOf p)
 unfolding instantBytes
-one-narrow s torn d run i e = absurd (omega (arith, ap length (read-writes (s .clocks) [] tt (taken-read s run [] e .0) .bytes)))
+one-narrow s torn d run i e = absurd (omega (arith, ap length (read-writes (s .clocks) [] tt (taken-next s run [] e .next .read) .bytes)))
 one-narrow s (whole kind body) d run i e =
-    let t = taken-short (s .clocks) kind body (taken-read s run (recordBytes kind body) e .0) in
-    omega (arith, tags-short i (t .value d), t .few d)
+    let n = taken-next s run (recordBytes kind body) e in
+    let t = taken-short (s .clocks) kind body (n .next .read) in
+    omega (arith, tags-short i (subst IsInstant (n .cells) (t .value d .1)), ap length (n .cells), t .few d)
 
 records-narrow : (s : SheetValue) (ps : List Piece) → All IsBody ps → All (Narrow (columnsLines s) 112 s) (map callOf ps)
 records-narrow s [] d = tt

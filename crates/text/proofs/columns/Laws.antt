@@ -5,11 +5,9 @@ use mathlib.Core.Path.{_≡_, refl, sym, ap, _∙_, subst}
 use Prim.Native.Nat.{ℕ, zero, suc, _+_, _≤_, _<_}
 use native.Mathlib.Numerals.{add-one}
 use native.Mathlib.Omega.{arith}
-use lib.Dec.{leb}
 use lib.IntN.{ℤ, pos}
 use lib.ListN.{length, take, drop, getD, length-append, drop-of-length-le}
 use lib.Seq.{take-suc}
-use borrow.Author.Tests.{le-leb, lt-leb}
 use Rattle.records.specs.declared.record.Decision.the-variants.{Done, Refused}
 use Rattle.records.specs.declared.record.Record.{Record}
 use Rattle.records.specs.declared.record.Record.the-variants.{Whole, Torn}
@@ -20,7 +18,7 @@ use Rattle.records.specs.Outcome.{Outcome, taken, refused}
 use Rattle.records.specs.Record.{recordAt, spanOf, recordSpan, TheRecord}
 use Rattle.records.specs.declared.order.Order.the-variants.{Rising}
 use Rattle.records.specs.Sheet.{SheetValue, readSheet, sheetRead}
-use Rattle.records.specs.Instant.{Cell, readInstant, instantOf, instantRead}
+use Rattle.records.specs.Instant.{Cell, InstantValue, instantOf, instantRead}
 use Rattle.records.specs.Store.{puts}
 use Rattle.records.specs.Types.{IsByte, IsBytes}
 use Rattle.records.proofs.Lists.{all-take, all-drop}
@@ -30,7 +28,8 @@ use Rattle.records.proofs.instant.Read.{Read, read-refused, read-done, places-i
 use Rattle.records.proofs.instant.RoundTrip.{read-writes}
 use Rattle.tesl.specs.Lists.{flatMap}
 use Rattle.tesl.specs.Run.{Instant, tagsOf}
-use Rattle.tesl.specs.Machine.{accepts, listAfter, acceptsEach, callsOf}
+use Rattle.tesl.specs.Machine.{readNext, judgedPart, accepts, listAfter, acceptsEach, callsOf}
+use Rattle.theory.proofs.Accepted.{NextRead, next-read}
 use Rattle.theory.proofs.Log.{next-accepts}
 use Rattle.theory.proofs.Opened.{read-limits}
 use Rattle.text.specs.Text.{columnLine, refusalLine}
@@ -141,40 +140,44 @@ module _ {c : ℕ} {log out₀ out : List ℕ} {n end at : ℕ} (w : Telling c l
       pub told-refused : {next : List ℕ} {last : ℕ} → next ≡ puts out end (refusalLine k) → last ≡ end + length (refusalLine k) → printedAs last next ≡ printed (instantsText c log) out₀
       told-refused q f = all-put (putting-more (w .putting) (refusalLine k) [] refused-lines q f) refl (ready .room)
 
-    module _ {x : InstantRead} (r : x ≡ instantRead (readInstant c p)) where
-      -- 12 to 15
-      pub reading-refused : {k : ℕ} → x .answer ≡ Refused k → accepts (clocksOnly c) (w .run) p ≡ refused k
+    module _ {x : InstantRead} (r : x ≡ instantRead (readNext c n p)) where
+      -- what the machine takes the record for
+      taken-for : {o : Outcome InstantValue} → readNext c n p ≡ o → accepts (clocksOnly c) (w .run) p ≡ judgedPart o
       unfolding accepts
-      reading-refused q = rw (read-refused (readInstant c p) (sym (ap (λ (y : InstantRead). y .answer) r) ∙ q))
+      taken-for q = rw (← w .counted, q)
+
+      -- 12 to 16, 19
+      pub reading-refused : {k : ℕ} → x .answer ≡ Refused k → accepts (clocksOnly c) (w .run) p ≡ refused k
+      reading-refused q = taken-for (read-refused (readNext c n p) (sym (ap (λ (y : InstantRead). y .answer) r) ∙ q))
 
       module _ (q : x .answer ≡ Done) where
-        was-read : Read (readInstant c p)
-        was-read = read-done (readInstant c p) (sym (ap (λ (y : InstantRead). y .answer) r) ∙ q)
+        was-read : Read (readNext c n p)
+        was-read = read-done (readNext c n p) (sym (ap (λ (y : InstantRead). y .answer) r) ∙ q)
 
-        -- 16
-        pub full-refused : 4000 ≤ n → accepts (clocksOnly c) (w .run) p ≡ refused 16
-        unfolding accepts
-        full-refused l = rw (was-read .is, le-leb 4000 (length (w .run)) (omega (arith, w .counted)))
+        is-next : NextRead c n p (was-read .value)
+        is-next = next-read c n p (was-read .is)
 
-        module _ (bytes : IsBytes p) (l : n < 4000) where
-          read-taken : accepts (clocksOnly c) (w .run) p ≡ taken (was-read .cells)
-          unfolding accepts
-          read-taken = rw (was-read .is, lt-leb 4000 (length (w .run)) (omega (arith, w .counted)))
+        pub few-taken : n < 4000
+        few-taken = is-next .room
 
+        abbrev cells : List Cell
+        cells = was-read .value .cells
+
+        module _ (bytes : IsBytes p) where
           -- the tags in use are the instant's
-          tags-read : tagsText c (x .instant .tags) ≡ flatMap columnLine (tagsOf (was-read .cells))
+          tags-read : tagsText c (x .instant .tags) ≡ flatMap columnLine (tagsOf cells)
           tags-read =
-              let e : x .instant ≡ instantOf (was-read .cells) = ap (λ (y : InstantRead). y .instant) r ∙ was-read .struct in
-              ap (λ (v : code.Instant). tagsText c (v .tags)) e ∙ (ap (flatMap columnLine) (places-in-use (λ (cell : Cell). cell .tag) (pos 0) c (was-read .cells) (read-writes c p bytes (was-read .is) .size)))
+              let e : x .instant ≡ instantOf (was-read .value) = ap (λ (y : InstantRead). y .instant) r ∙ was-read .struct in
+              ap (λ (v : code.Instant). tagsText c (v .tags)) e ∙ (ap (flatMap columnLine) (places-in-use (λ (cell : Cell). cell .tag) (pos 0) c cells (read-writes c p bytes (is-next .read) .size)))
 
           abbrev rest : List ℕ
-          rest = linesAt c (w .run ++ (was-read .cells ∷ [])) log (at + length p)
+          rest = linesAt c (w .run ++ (cells ∷ [])) log (at + length p)
 
           taken-lines : linesAt c (w .run) log at ≡ tagsText c (x .instant .tags) ++ rest
           unfolding linesFrom
           taken-lines =
-              let k : suc (length (w .run)) ≡ length (w .run ++ (was-read .cells ∷ [])) = omega (arith, length-append (w .run) (was-read .cells ∷ [])) in
-              rw (next-accepts h (clocksOnly c) (w .run), read-taken, tags-read, k)
+              let k : suc (length (w .run)) ≡ length (w .run ++ (cells ∷ [])) = omega (arith, length-append (w .run) (cells ∷ [])) in
+              rw (next-accepts h (clocksOnly c) (w .run), taken-for (was-read .is), tags-read, k)
 
           pub tags-room : end + length (tagsText c (x .instant .tags)) ≤ length out
           tags-room = lines-room (w .putting) (tagsText c (x .instant .tags)) rest taken-lines (ready .room)
@@ -182,8 +185,8 @@ module _ {c : ℕ} {log out₀ out : List ℕ} {n end at : ℕ} (w : Telling c l
           pub told-more : {next : List ℕ} {last : ℕ} → next ≡ puts out end (tagsText c (x .instant .tags)) → last ≡ end + length (tagsText c (x .instant .tags))
               → Telling c log out₀ next (n + 1) last (at + length p)
           told-more q f = record {
-            run = w .run ++ (was-read .cells ∷ []);
-            counted = omega (arith, w .counted, length-append (w .run) (was-read .cells ∷ []));
+            run = w .run ++ (cells ∷ []);
+            counted = omega (arith, w .counted, length-append (w .run) (cells ∷ []));
             putting = putting-more (w .putting) (tagsText c (x .instant .tags)) rest taken-lines q f;
           }
 

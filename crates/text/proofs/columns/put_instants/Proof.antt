@@ -10,7 +10,7 @@ use Rattle.records.proofs.Store.{length-puts}
 use Rattle.records.proofs.record.Span.{the-record}
 use Rattle.records.proofs.word.Bytes.{each-byte}
 use Rattle.text.proofs.put.Laws.{put-size, put-bytes, put-end, same-size}
-use Rattle.text.proofs.columns.Laws.{span-bytes, Telling, telling-start, told-end, refused-room, told-refused, reading-refused, full-refused, tags-room, told-more}
+use Rattle.text.proofs.columns.Laws.{span-bytes, Telling, telling-start, told-end, refused-room, told-refused, reading-refused, few-taken, tags-room, told-more}
 use Rattle.text.proofs.columns.put_instants.Statement.{statement}
 use Rattle.text.proofs.columns.put_instants.Tie as tie
 
@@ -25,18 +25,15 @@ abbrev μ-loop : tie.MeasureT-loop
 abbrev start : tie.At-loop Inv-loop μ-loop → tie.Start Inv-loop μ-loop
 start c = c .before .before .before
 
-abbrev head : tie.After-read-instant Inv-loop μ-loop → tie.At-loop Inv-loop μ-loop
+abbrev head : tie.After-read-next Inv-loop μ-loop → tie.At-loop Inv-loop μ-loop
 head c = c .before .before .before
 
--- 12 to 15, 16, and an instant that is taken
+-- 12 to 16, 19, and an instant that is taken
 abbrev refusing : tie.After-refusal-line Inv-loop μ-loop → tie.After-answer Inv-loop μ-loop
 refusing c = c .before .before .before
 
-abbrev full : tie.After-refusal-line2 Inv-loop μ-loop → tie.Then1 Inv-loop μ-loop
-full c = c .before .before
-
-abbrev taking : tie.After-put-tags-arg Inv-loop μ-loop → tie.Else1 Inv-loop μ-loop
-taking c = c .before .before .before
+abbrev taking : tie.After-put-tags-arg Inv-loop μ-loop → tie.After-enum-told Inv-loop μ-loop
+taking c = c .before .before
 
 -- the record at this place of the log
 here : (c : tie.After-record-bytes Inv-loop μ-loop) → TheRecord (c .before .before .before .before .before .args .log .now) (c .before .before .loop .at) (c .record-bytes .result .now)
@@ -59,7 +56,7 @@ put-line-requires c κs =
     let h = head r in
     record {
       len = c .refusal-line .ensures .0;
-      room = rw (c .refusal-line .ensures .1) (refused-room (h .loop .inv) (start h .pre) (here (r .before)) (reading-refused (h .loop .inv) (start h .pre) (here (r .before)) (r .read-instant .ensures) (a .answer .given .1)));
+      room = rw (c .refusal-line .ensures .1) (refused-room (h .loop .inv) (start h .pre) (here (r .before)) (reading-refused (h .loop .inv) (start h .pre) (here (r .before)) (r .read-next .ensures) (a .answer .given .1)));
     }
 
 same-length : tie.Need-same-length Inv-loop μ-loop
@@ -74,47 +71,29 @@ returns c =
     let a = refusing line in
     let r = a .before .before in
     let h = head r in
-    told-refused (h .loop .inv) (start h .pre) (here (r .before)) (reading-refused (h .loop .inv) (start h .pre) (here (r .before)) (r .read-instant .ensures) (a .answer .given .1))
+    told-refused (h .loop .inv) (start h .pre) (here (r .before)) (reading-refused (h .loop .inv) (start h .pre) (here (r .before)) (r .read-next .ensures) (a .answer .given .1))
     (put-bytes (p .put-line .ensures) (line .refusal-line .ensures .1)) (put-end (p .put-line .ensures) (line .refusal-line .ensures .1))
-
-put-line-requires-2 : tie.Need-put-line-requires-2 Inv-loop μ-loop
-put-line-requires-2 c κs =
-    let f = full c in
-    let r = f .before .before .before in
-    let h = head r in
-    record {
-      len = c .refusal-line2 .ensures .0;
-      room = rw (c .refusal-line2 .ensures .1) (refused-room (h .loop .inv) (start h .pre) (here (r .before)) (full-refused (h .loop .inv) (start h .pre) (here (r .before)) (r .read-instant .ensures) (f .before .enum-told .given .1) (f .if1 .taken)));
-    }
-
-same-length-2 : tie.Need-same-length-2 Inv-loop μ-loop
-same-length-2 c =
-    let p = c .before .before in
-    put-size (p .put-line2 .ensures) ∙ same-size (head (full (p .before) .before .before .before) .loop .inv .putting)
-
-returns-2 : tie.Need-returns-2 Inv-loop μ-loop
-returns-2 c =
-    let p = c .before .before in
-    let line = p .before in
-    let f = full line in
-    let r = f .before .before .before in
-    let h = head r in
-    told-refused (h .loop .inv) (start h .pre) (here (r .before)) (full-refused (h .loop .inv) (start h .pre) (here (r .before)) (r .read-instant .ensures) (f .before .enum-told .given .1) (f .if1 .taken))
-    (put-bytes (p .put-line2 .ensures) (line .refusal-line2 .ensures .1)) (put-end (p .put-line2 .ensures) (line .refusal-line2 .ensures .1))
 
 put-tags-requires : tie.Need-put-tags-requires Inv-loop μ-loop
 put-tags-requires c κs =
     let e = taking c in
-    let r = e .before .before .before in
+    let r = e .before .before in
     let h = head r in
-    record { clocks = start h .pre .clocks; room = tags-room (h .loop .inv) (start h .pre) (here (r .before)) (r .read-instant .ensures) (e .before .enum-told .given .1) (bytes (r .before)) (e .if1 .left) }
+    record { clocks = start h .pre .clocks; room = tags-room (h .loop .inv) (start h .pre) (here (r .before)) (r .read-next .ensures) (e .enum-told .given .1) (bytes (r .before)) }
 
 -- after the lines of an instant
 abbrev put : tie.After-slice-known4 Inv-loop μ-loop → tie.After-put-tags Inv-loop μ-loop
 put c = c .before .before
 
 abbrev record-read : tie.After-put-tags Inv-loop μ-loop → tie.After-record-bytes Inv-loop μ-loop
-record-read c = c .before .before .before .before .before .before .before .before
+record-read c = taking (c .before) .before .before .before
+
+add-taken : tie.Need-add-taken Inv-loop μ-loop
+add-taken c =
+    let e = taking (put c .before) in
+    let r = e .before .before in
+    let h = head r in
+    record { fits = omega (arith, few-taken (h .loop .inv) (start h .pre) (here (r .before)) (r .read-next .ensures) (e .enum-told .given .1)) }
 
 add-at : tie.Need-add-at Inv-loop μ-loop
 add-at c = omega (arith, here (record-read (put c)) .within)
@@ -126,17 +105,17 @@ loop-again : tie.Need-loop-again Inv-loop μ-loop
 loop-again c =
     let p = put c in
     let e = taking (p .before) in
-    let r = e .before .before .before in
+    let r = e .before .before in
     let h = head r in
-    told-more (h .loop .inv) (start h .pre) (here (r .before)) (r .read-instant .ensures) (e .before .enum-told .given .1) (bytes (r .before)) (e .if1 .left) (p .put-tags .ensures .stored) (p .put-tags .ensures .ends)
+    told-more (h .loop .inv) (start h .pre) (here (r .before)) (r .read-next .ensures) (e .enum-told .given .1) (bytes (r .before)) (p .put-tags .ensures .stored) (p .put-tags .ensures .ends)
 
-same-length-3 : tie.Need-same-length-3 Inv-loop μ-loop
-same-length-3 c = same-size (c .before .loop .inv .putting)
+same-length-2 : tie.Need-same-length-2 Inv-loop μ-loop
+same-length-2 c = same-size (c .before .loop .inv .putting)
 
-returns-3 : tie.Need-returns-3 Inv-loop μ-loop
-returns-3 c = told-end (c .before .loop .inv) (start (c .before) .pre) (c .loop-test .left)
+returns-2 : tie.Need-returns-2 Inv-loop μ-loop
+returns-2 c = told-end (c .before .loop .inv) (start (c .before) .pre) (c .loop-test .left)
 
 pub put-instants-spec : {M : Type 1} → statement M
 put-instants-spec =
-    tie.close
-    (tie.spec Inv-loop μ-loop loop-holds (λ c κs. search needs) (λ c κs. search needs) (λ c. search needs) (λ c κs. search needs) put-line-requires same-length returns (λ c. search needs) (λ c κs. search needs) put-line-requires-2 same-length-2 returns-2 put-tags-requires (λ c. search needs) add-at loop-less loop-again same-length-3 returns-3)
+    tie.close (tie.spec Inv-loop μ-loop loop-holds (λ c κs. search needs) (λ c κs. search needs) (λ c. search needs) (λ c κs. search needs)
+    put-line-requires same-length returns (λ c. search needs) put-tags-requires add-taken add-at loop-less loop-again same-length-2 returns-2)
