@@ -13,7 +13,8 @@ use Rattle.tesl.specs.Lists.{lastOf}
 use Rattle.tesl.specs.Run.{Instant, tagsOf}
 use Rattle.tesl.specs.Remainder.{Remainder, sameObligation, sameCountdown, sameRemainder}
 use Rattle.tesl.specs.Answer.{exhausted, remainders, answer}
-use Rattle.tesl.specs.Machine.{readNext, judgedPart, Reader}
+use Rattle.records.specs.Next.{readNext}
+use Rattle.tesl.specs.Machine.{judgedPart, Reader}
 use Rattle.theory.specs.Sets.{apart, EachOnce}
 use Rattle.work.specs.View.{heldList}
 use Rattle.judge.specs.declared.monitor.Monitor.{Monitor}

@@ -1,5 +1,5 @@
 // How many instants of a log are taken, by reading alone.
-use crate::next::read_next;
+use records::next::read_next;
 use records::record::Decision;
 use records::record::record_bytes;
 use records::sheet::read_sheet;

@@ -21,7 +21,6 @@ mod list;
 pub mod live;
 pub mod log;
 pub mod monitor;
-pub mod next;
 pub mod obligation;
 mod plan;
 mod progress;

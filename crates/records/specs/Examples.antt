@@ -16,6 +16,7 @@ use Rattle.records.specs.Line.{lengthOf, clocksOf, lineOf}
 use Rattle.records.specs.Order.{above}
 use Rattle.records.specs.Sheet.{SheetValue, readBy, readSheet, readUnordered, readBase}
 use Rattle.records.specs.Instant.{InstantValue, tickOf, rawCells, readInstant, instantBytes}
+use Rattle.records.specs.Next.{ifNext}
 
 -- one clock; its sporadic lines at 1 and at 256; 0 implies 0; 0 implies 1, which is no clock
 abbrev clock : List ℕ
@@ -122,3 +123,15 @@ numbered-examples = record {
   ticks = (refl, refl);
   again = (refl, refl);
 }
+
+pub record NextExamples : Type 0 where
+  -- 16: the 4,000th instant is taken, one more is refused, and a fault of its own comes first
+  full : (ifNext 3999 (ticking Plain) ≡ ticking Plain) × (ifNext 4000 (ticking Plain) ≡ refused 16) × (ifNext 4000 (refused 15) ≡ refused 15)
+  -- 19: the first is 1; the number held already and one too high are refused; all of the number counts, not its low byte
+  first : (ifNext 0 (ticking (Numbered 1)) ≡ ticking (Numbered 1)) × (ifNext 0 (ticking (Numbered 0)) ≡ refused 19) × (ifNext 0 (ticking (Numbered 2)) ≡ refused 19) × (ifNext 0 (ticking (Numbered 257)) ≡ refused 19)
+  last : (ifNext 3999 (ticking (Numbered 4000)) ≡ ticking (Numbered 4000)) × (ifNext 3999 (ticking (Numbered 3999)) ≡ refused 19)
+  -- 16 before 19: with 4,000 held it is 16 whatever the number
+  order : (ifNext 4000 (ticking (Numbered 4001)) ≡ refused 16) × (ifNext 4000 (ticking (Numbered 1)) ≡ refused 16) × (ifNext 4000 (ticking (Numbered 65535)) ≡ refused 16)
+
+pub next-examples : NextExamples
+next-examples = record { full = (refl, refl, refl); first = (refl, refl, refl, refl); last = (refl, refl); order = (refl, refl, refl) }

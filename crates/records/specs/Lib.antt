@@ -7,6 +7,7 @@ pub mod Line
 pub mod Order
 pub mod Sheet
 pub mod Instant
+pub mod Next
 -- Document 02: a sheet's one form, and the order on bytes.
 pub mod Sort
 pub mod Examples

@@ -72,7 +72,7 @@ fn blank_instant(form: Form) -> Instant
 }
 
 // What reading answers where it refuses with a number.
-pub fn refused_instant(n: u8) -> InstantRead
+pub(crate) fn refused_instant(n: u8) -> InstantRead
     ensures { λ r. ⌜ r ≡ instantRead (refused n) ⌝ }
 {
     let instant = blank_instant(Form::Plain);
@@ -242,8 +242,7 @@ pub fn write_instant(instant: Instant, clocks: u8, buffer: &mut [u8]) -> Written
         return Written::Refused(number::CLOCK_COUNT);
     }
     let form = instant.form;
-    let size =
-        number::HEAD_LENGTH + form_length(form) + number::CELL_LENGTH * wide_byte(clocks);
+    let size = number::HEAD_LENGTH + form_length(form) + number::CELL_LENGTH * wide_byte(clocks);
     if buffer.len() < size {
         return Written::Refused(number::SHORT_BUFFER);
     }

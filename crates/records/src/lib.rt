@@ -2,6 +2,7 @@
 pub mod form;
 pub mod instant;
 pub mod line;
+pub mod next;
 pub mod number;
 pub mod order;
 pub mod record;

@@ -1,29 +1,28 @@
--- The lift examples L1 to L11 of document 01, and our own (refused calls, 4,000 instants, numbered ones, the whole log, the lines in another order, a product beyond 16 bits, a delay counted in ticks, the end of the scale): one statement, a row each, by computation. Assumes nothing.
+-- The lift examples L1 to L11 of document 01, and our own (refused calls, numbered instants, the whole log, the lines in another order, a product beyond 16 bits, a delay counted in ticks, the end of the scale): one statement, a row each, by computation. Assumes nothing.
 use mathlib.Core.Bool.{Bool, true, false}
 use mathlib.Core.List.{List, [], _∷_, _++_, map}
 use mathlib.Core.Path.{_≡_, refl}
 use Prim.Native.Nat.{ℕ}
 use lib.IntN.{ℤ, pos, negsuc}
 use lib.ListN.{drop}
-use Rattle.records.specs.declared.form.Form.{Form}
-use Rattle.records.specs.declared.form.Form.the-variants.{Plain, Numbered}
 use Rattle.records.specs.declared.instant.Tick.{Tick}
 use Rattle.records.specs.declared.instant.Tick.the-variants.{Idle, Ticks, Unseen}
 use Rattle.records.specs.declared.line.Line.{Line}
 use Rattle.records.specs.declared.line.Line.the-variants.{Sporadic, Relation, Implies, Excludes, Delayed, Weakly, Strictly, Kills, Counted}
-use Rattle.records.specs.Outcome.{Outcome, taken, refused}
+use Rattle.records.specs.Outcome.{taken, refused}
 use Rattle.records.specs.Lists.{joined}
 use Rattle.records.specs.Word.{signed, tagOf}
 use Rattle.records.specs.Record.{isTorn, front, cut}
 use Rattle.records.specs.Line.{lengthOf, clocksOf, lineOf}
 use Rattle.records.specs.Order.{above}
 use Rattle.records.specs.Sheet.{SheetValue, readBy, readSheet, readBase}
-use Rattle.records.specs.Instant.{InstantValue, tickOf, rawCells, readInstant}
+use Rattle.records.specs.Instant.{tickOf, rawCells, readInstant}
+use Rattle.records.specs.Next.{readNext}
 use Rattle.tesl.specs.Run.{Instant, fillings, runFillings}
 use Rattle.tesl.specs.Fits.{Countdown, fits}
 use Rattle.tesl.specs.Remainder.{Remainder, remainder, sameRemainder, owes, counts, overfull, isClear}
 use Rattle.tesl.specs.Answer.{exhausted, broken, holding, clear, owed, remainders, tooMany, over, judged, answerWithin, answer}
-use Rattle.tesl.specs.Machine.{ifNext, readNext, accepts, machine, session, judgeLog}
+use Rattle.tesl.specs.Machine.{accepts, machine, session, judgeLog}
 
 -- a sheet of c clocks with one line
 abbrev sheet : ℕ → Line → SheetValue
@@ -85,10 +84,6 @@ instants = first ∷ second ∷ third ∷ fourthRecord ∷ fifth ∷ []
 -- a record of the listing as kind 33, its number's two bytes before its clocks
 abbrev numbered : ℕ → ℕ → List ℕ → List ℕ
 numbered low high plain = 0x08 ∷ 0x00 ∷ 0x21 ∷ 0x00 ∷ low ∷ high ∷ drop 4 plain
-
--- an instant of a form, as it was read
-abbrev ofForm : Form → Outcome InstantValue
-ofForm form = taken (record { form = form; cells = idle })
 
 -- the line '0 weakly precedes 1'; and the listing's sheet with that line before its own, and once more behind it
 abbrev precedes : List ℕ
@@ -216,17 +211,6 @@ pub record Examples : Type 0 where
         opening = taken (holding 1 clear);
         replies = taken (holding 1 owed) ∷ refused 12 ∷ refused 13 ∷ refused 15 ∷ taken (holding 2 owed) ∷ [];
       }
-  -- 16: the 4,000th instant is taken, one more is refused, and a fault of its own comes first
-  full :
-      (ifNext 3999 (ofForm Plain) ≡ ofForm Plain)
-      × (ifNext 4000 (ofForm Plain) ≡ refused 16)
-      × (ifNext 4000 (refused 15) ≡ refused 15)
-  -- 19 after 16: with 3,999 held 4,000 is the next number; with 4,000 held every number is 16
-  numberedFull :
-      (ifNext 3999 (ofForm (Numbered 4000)) ≡ ofForm (Numbered 4000))
-      × (ifNext 3999 (ofForm (Numbered 3999)) ≡ refused 19)
-      × (ifNext 4000 (ofForm (Numbered 4001)) ≡ refused 16)
-      × (ifNext 4000 (ofForm (Numbered 1)) ≡ refused 16)
   -- the listing with numbers, and with some: answered as the listing; plain ones count among those held
   mixed : session readSheet lift (numbered 1 0 first ∷ second ∷ numbered 3 0 third ∷ fourthRecord ∷ numbered 5 0 fifth ∷ []) ≡ session readSheet lift instants
   -- 0 is never next, nor is 257 for 1; a repeated number and one too high are refused and change nothing; the one that is wanted is taken when it comes
@@ -316,8 +300,6 @@ examples = record {
   L11 = refl;
   anyOrder = (refl, refl, refl);
   calls = refl;
-  full = (refl, refl, refl);
-  numberedFull = (refl, refl, refl, refl);
   mixed = refl;
   outOfTurn = refl;
   log = (refl, refl, refl, refl, refl, refl);

@@ -1,38 +1,21 @@
 -- The plain machine: its state is the sheet and the list of accepted instants. It is opened with a sheet's bytes and called with an instant's.
-use mathlib.Core.Bool.{Bool, true, not}
 use mathlib.Core.List.{List, [], _∷_, _++_, map}
 use Prim.Native.Nat.{ℕ, suc}
-use lib.Dec.{leb, eqb}
 use lib.ListN.{length}
-use Rattle.records.specs.declared.form.Form.{Form}
-use Rattle.records.specs.declared.form.Form.the-variants.{Plain, Numbered}
-use Rattle.records.specs.Outcome.{Outcome, taken, refused, _⇒_, decide}
+use Rattle.records.specs.Outcome.{Outcome, taken, refused}
 use Rattle.records.specs.Record.{Piece, whole, torn, pieces, recordBytes}
 use Rattle.records.specs.Sheet.{SheetValue, readSheet}
-use Rattle.records.specs.Instant.{InstantValue, readInstant}
+use Rattle.records.specs.Instant.{InstantValue}
+use Rattle.records.specs.Next.{readNext}
 use Rattle.tesl.specs.Run.{Instant}
 use Rattle.tesl.specs.Answer.{Answer, answer}
-
--- a numbered record is the next if its number is one above the instants held; a plain one always is
-abbrev pub isNext : ℕ → Form → Bool
-isNext held Plain = true
-isNext held (Numbered n) = eqb n (suc held)
-
--- what was read, where so many instants are held; 16: 4,000 of them; 19: the number is not one above them
-abbrev pub ifNext : ℕ → Outcome InstantValue → Outcome InstantValue
-ifNext held (refused n) = refused n
-ifNext held (taken v) = decide ((leb 4000 held ⇒ 16) ∷ (not (isNext held (v .form)) ⇒ 19) ∷ []) v
-
--- a record of c clocks read as the next instant: 4 and 12 to 15 as reading alone gives them, then 16, then 19
-unfoldable pub readNext : ℕ → ℕ → List ℕ → Outcome InstantValue
-readNext c held bytes = ifNext held (readInstant c bytes)
 
 -- the ticks and tags of what was read
 abbrev pub judgedPart : Outcome InstantValue → Outcome Instant
 judgedPart (refused n) = refused n
 judgedPart (taken v) = taken (v .cells)
 
--- what the machine takes a call's bytes for; a machine has no limits of its own, so 11 never arises
+-- what the machine takes a call's bytes for: 12 to 15 as reading gives them, then 16, then 19; a machine has no limits of its own, so 11 never arises
 unfoldable pub accepts : SheetValue → List Instant → List ℕ → Outcome Instant
 accepts s run bytes = judgedPart (readNext (s .clocks) (length run) bytes)
 

@@ -2,7 +2,7 @@
 use crate::line::column_line;
 use crate::line::refusal_line;
 use crate::put::put_line;
-use judge::next::read_next;
+use records::next::read_next;
 use records::number;
 use records::record::Decision;
 use records::record::record_bytes;

@@ -1,64 +1,21 @@
 -- The machine's list: at most 4,000 instants, each with a cell for each clock and tags of 16 bits; and what a call is taken for. Assumes nothing.
-use mathlib.Core.Bool.{true, not}
 use mathlib.Core.List.{List, [], _∷_}
-use mathlib.Core.Path.{_≡_, refl, sym, _∙_, subst}
-use Prim.Native.Nat.{ℕ, suc, _≤_, _<_}
+use mathlib.Core.Path.{_≡_, refl, sym}
+use Prim.Native.Nat.{ℕ, _≤_}
 use native.Mathlib.Omega.{arith}
-use lib.Dec.{leb, eqb}
 use lib.ListN.{length, length-append}
-use borrow.Author.Tests.{leb-false, lt-leb, eqb-true, not-false}
-use Rattle.records.specs.declared.form.Form.the-variants.{Numbered}
-use Rattle.records.specs.Outcome.{Outcome, taken, refused, Check, _⇒_}
+use Rattle.records.specs.Outcome.{Outcome, taken, refused}
 use Rattle.records.specs.Sheet.{SheetValue}
-use Rattle.records.specs.Instant.{InstantValue, readInstant}
+use Rattle.records.specs.Instant.{InstantValue}
+use Rattle.records.specs.Next.{readNext}
 use Rattle.records.specs.Types.{All, IsBytes, IsInstant}
-use Rattle.records.proofs.Lists.{refused-taken, taken-same, refused-same, taken-passed}
-use Rattle.records.proofs.Lists as checks
-use Rattle.records.proofs.instant.Front.{read-number}
+use Rattle.records.proofs.Lists.{refused-taken, taken-same, refused-same}
 use Rattle.records.proofs.instant.RoundTrip.{read-writes}
+use Rattle.records.proofs.next.Laws.{NextRead, next-read, next-refused}
 use Rattle.tesl.specs.Run.{Instant}
-use Rattle.tesl.specs.Machine.{isNext, ifNext, readNext, judgedPart, accepts, listAfter, listAfterCalls}
+use Rattle.tesl.specs.Machine.{judgedPart, accepts, listAfter, listAfterCalls}
 use Rattle.theory.specs.Limits.{ListLimits}
 use Rattle.theory.proofs.Lists.{each-snoc}
-
--- ---- the next instant
-
--- 16 and 19
-abbrev nextChecks : ℕ → InstantValue → List Check
-nextChecks held v = (leb 4000 held ⇒ 16) ∷ (not (isNext held (v .form)) ⇒ 19) ∷ []
-
--- what was read as the next instant is what reading alone gives; fewer than 4,000 are held, and a number is one above them
-pub record NextRead (c held : ℕ) (bytes : List ℕ) (v : InstantValue) : Type 0 where
-  pub read : readInstant c bytes ≡ taken v
-  pub room : held < 4000
-  pub next : isNext held (v .form) ≡ true
-
-pub next-read : (c held : ℕ) (bytes : List ℕ) {v : InstantValue} → readNext c held bytes ≡ taken v → NextRead c held bytes v
-unfolding readNext
-next-read c held bytes {v} e = by-outcome (readInstant c bytes) refl e
-  where
-    by-outcome : (o : Outcome InstantValue) → readInstant c bytes ≡ o → ifNext held o ≡ taken v → NextRead c held bytes v
-    by-outcome (refused n) r x = refused-taken x
-    by-outcome (taken w) r x =
-        let p = taken-passed (nextChecks held w) x in
-        subst (NextRead c held bytes) (p .1) (record { read = r; room = leb-false 4000 held (p .0 .0); next = not-false (isNext held (w .form)) (p .0 .1 .0) })
-
-pub read-next : (c held : ℕ) (bytes : List ℕ) {v : InstantValue} → NextRead c held bytes v → readNext c held bytes ≡ taken v
-unfolding readNext
-read-next c held bytes r = rw (r .read, lt-leb 4000 held (r .room), r .next)
-
--- the number of a numbered one
-pub next-number : (held n : ℕ) → isNext held (Numbered n) ≡ true → n ≡ suc held
-next-number held n e = eqb-true n (suc held) e
-
--- refused with a number up to 19
-pub next-refused : (c held : ℕ) (bytes : List ℕ) {n : ℕ} → readNext c held bytes ≡ refused n → n ≤ 19
-unfolding readNext
-next-refused c held bytes {n} e = by-outcome (readInstant c bytes) refl e
-  where
-    by-outcome : (o : Outcome InstantValue) → readInstant c bytes ≡ o → ifNext held o ≡ refused n → n ≤ 19
-    by-outcome (refused k) r x = omega (arith, read-number c bytes (r ∙ x))
-    by-outcome (taken w) r x = checks.refused-number (λ (k : ℕ). k ≤ 19) (nextChecks held w) w (omega arith, (omega arith, tt)) x
 
 -- ---- a call
 

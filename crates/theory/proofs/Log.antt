@@ -10,7 +10,8 @@ use Rattle.records.specs.Instant.{InstantValue, readInstant}
 use Rattle.records.proofs.record.Cut.{no-pieces}
 use Rattle.records.proofs.record.Inverse.{pieces-record}
 use Rattle.tesl.specs.Run.{Instant}
-use Rattle.tesl.specs.Machine.{ifNext, readNext, judgedPart, accepts, listAfter, reply, machine, listAfterCalls, acceptsEach, callOf, callsOf}
+use Rattle.records.specs.Next.{ifNext, readNext}
+use Rattle.tesl.specs.Machine.{judgedPart, accepts, listAfter, reply, machine, listAfterCalls, acceptsEach, callOf, callsOf}
 
 -- ---- a call
 

@@ -12,10 +12,12 @@ use Rattle.records.specs.Instant.{InstantValue}
 use Rattle.records.proofs.Lists.{taken-same}
 use Rattle.tesl.specs.Run.{Instant}
 use Rattle.tesl.specs.Answer.{Answer}
-use Rattle.tesl.specs.Machine.{isNext, accepts, listAfter, reply, machine, listAfterCalls, Session, Reader, session}
+use Rattle.records.specs.Next.{isNext}
+use Rattle.tesl.specs.Machine.{accepts, listAfter, reply, machine, listAfterCalls, Session, Reader, session}
 use Rattle.theory.specs.Session.{SameSession}
 use Rattle.theory.specs.Numbered.{RecordOf, AcceptedFrom, IsBeginning, RunsAlong}
-use Rattle.theory.proofs.Accepted.{taken-next, next-number}
+use Rattle.records.proofs.next.Laws.{next-number}
+use Rattle.theory.proofs.Accepted.{taken-next}
 
 -- ---- a beginning, and the next of its list
 

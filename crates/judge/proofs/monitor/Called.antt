@@ -17,9 +17,9 @@ use Rattle.records.proofs.Lists.{both, refused-taken}
 use Rattle.records.proofs.instant.Read.{Read, read-refused, read-done}
 use Rattle.records.proofs.instant.RoundTrip.{read-writes}
 use Rattle.tesl.specs.Run.{Instant}
-use Rattle.tesl.specs.Machine.{readNext}
+use Rattle.records.specs.Next.{readNext}
 use Rattle.tesl.proofs.Tests.{≡→T}
-use Rattle.theory.proofs.Accepted.{NextRead, next-read}
+use Rattle.records.proofs.next.Laws.{NextRead, next-read}
 use Rattle.tesl.specs.Answer.{mostLive}
 use Rattle.judge.specs.declared.remainder.Remainder as arrays
 use Rattle.judge.specs.declared.monitor.Monitor.{Monitor}

@@ -28,8 +28,9 @@ use Rattle.records.proofs.instant.Read.{Read, read-refused, read-done, places-i
 use Rattle.records.proofs.instant.RoundTrip.{read-writes}
 use Rattle.tesl.specs.Lists.{flatMap}
 use Rattle.tesl.specs.Run.{Instant, tagsOf}
-use Rattle.tesl.specs.Machine.{readNext, judgedPart, accepts, listAfter, acceptsEach, callsOf}
-use Rattle.theory.proofs.Accepted.{NextRead, next-read}
+use Rattle.records.specs.Next.{readNext}
+use Rattle.tesl.specs.Machine.{judgedPart, accepts, listAfter, acceptsEach, callsOf}
+use Rattle.records.proofs.next.Laws.{NextRead, next-read}
 use Rattle.theory.proofs.Log.{next-accepts}
 use Rattle.theory.proofs.Opened.{read-limits}
 use Rattle.text.specs.Text.{columnLine, refusalLine}

@@ -11,9 +11,9 @@ use Rattle.judge.specs.declared.monitor.Monitor.{Monitor}
 use Rattle.judge.specs.Limits.{Limited}
 use Rattle.judge.specs.Progress.{rowsMonitor, given, Ready}
 use Rattle.judge.specs.Promises.{Called}
-use Rattle.tesl.specs.Machine.{readNext}
+use Rattle.records.specs.Next.{readNext}
 use Rattle.records.proofs.word.Bytes.{each-byte}
-use Rattle.judge.proofs.next.Laws.{done-room}
+use Rattle.records.proofs.next.Laws.{done-room}
 use Rattle.judge.proofs.monitor.Called.{called-unread, blank-tags, called}
 use Rattle.judge.proofs.monitor.InRows.{answered-refused, answered-within}
 use Rattle.judge.proofs.progress.Laws.{limited, eight-rows}

@@ -1,14 +1,14 @@
 // The next instant of a run: what reading alone takes, held against the instants held.
-use records::form::Form;
-use records::instant::InstantRead;
-use records::instant::read_instant;
-use records::instant::refused_instant;
-use records::number;
-use records::record::Decision;
+use crate::form::Form;
+use crate::instant::InstantRead;
+use crate::instant::read_instant;
+use crate::instant::refused_instant;
+use crate::number;
+use crate::record::Decision;
 ghost use mathlib.Core.Path.{_≡_};
 ghost use Prim.Native.Nat.{_<_};
 ghost use Rattle.records.specs.Instant.{instantRead};
-ghost use Rattle.tesl.specs.Machine.{isNext, readNext};
+ghost use Rattle.records.specs.Next.{isNext, readNext};
 
 // Whether a record of a form may follow so many instants: a number is one above them.
 fn is_next(form: Form, held: usize) -> bool

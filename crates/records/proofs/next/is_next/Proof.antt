@@ -1,8 +1,8 @@
 -- `is_next` meets its contract: the arms are the definition's. Assumes nothing.
 use native.Mathlib.Numerals.{add-one}
 use borrow.Author.Needs.{needs}
-use Rattle.judge.proofs.next.is_next.Statement.{statement}
-use Rattle.judge.proofs.next.is_next.Tie as tie
+use Rattle.records.proofs.next.is_next.Statement.{statement}
+use Rattle.records.proofs.next.is_next.Tie as tie
 
 returns : tie.Need-returns
 returns c = rw (c .enum-told .given .1)

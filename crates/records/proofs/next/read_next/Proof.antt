@@ -1,8 +1,8 @@
 -- `read_next` meets its contract: each way through the code is a law of `readNext`. Assumes nothing.
 use borrow.Author.Needs.{needs}
-use Rattle.judge.proofs.next.Laws.{next-unread, next-full, next-other, next-taken}
-use Rattle.judge.proofs.next.read_next.Statement.{statement}
-use Rattle.judge.proofs.next.read_next.Tie as tie
+use Rattle.records.proofs.next.Laws.{next-unread, next-full, next-other, next-taken}
+use Rattle.records.proofs.next.read_next.Statement.{statement}
+use Rattle.records.proofs.next.read_next.Tie as tie
 
 -- where reading alone takes the record
 abbrev read : tie.After-enum-told2 → tie.After-read-instant
