@@ -14,6 +14,9 @@ const MAX_COUNTDOWNS: usize = 8;
 const MOST_TAG: i32 = i16::MAX as i32;
 
 const HEAD: usize = 4;
+const CELL: usize = 3;
+/// Bytes of a numbered instant's number, in front of its cells.
+const NUMBER: usize = 2;
 const ENTRY: usize = 3;
 
 const EXHAUSTED: u8 = 1;
@@ -250,27 +253,35 @@ fn read_line(sheet: &mut Sheet, kind: u16, body: &[u8]) -> Result<(), u8> {
     Ok(())
 }
 
-/// Ticks as masks.
 struct Instant {
+    /// Of a numbered instant, kind 33.
+    number: Option<u16>,
+    /// The clocks that tick, a mask.
     ticks: u8,
+    /// The clocks whose tick is unseen, a mask.
     unseen: u8,
+    /// A tag for each clock.
     tags: [i16; MAX_CLOCKS],
 }
 
-/// 13 to 15, or the instant.
+/// 13 to 15, or the instant; its number may be any.
 fn read_instant(kind: u16, body: &[u8], clocks: usize) -> Result<Instant, u8> {
-    if kind != 32 {
-        return Err(13);
-    }
-    if body.len() != 3 * clocks {
+    let before = match kind {
+        32 => 0,
+        33 => NUMBER,
+        _ => return Err(13),
+    };
+    if body.len() != before + CELL * clocks {
         return Err(14);
     }
+    let (number, cells) = body.split_at(before);
     let mut instant = Instant {
+        number: (kind == 33).then(|| word(number)),
         ticks: 0,
         unseen: 0,
         tags: [0; MAX_CLOCKS],
     };
-    for (k, cell) in body.chunks_exact(3).enumerate() {
+    for (k, cell) in cells.chunks_exact(CELL).enumerate() {
         match cell[0] {
             0 => {}
             1 => instant.ticks |= 1 << k,
@@ -287,6 +298,17 @@ fn whole_instant(bytes: &[u8], clocks: usize) -> Result<Instant, u8> {
     match record(bytes) {
         Some((kind, body)) if bytes.len() == HEAD + body.len() => read_instant(kind, body, clocks),
         _ => Err(12),
+    }
+}
+
+/// 16, then 19, or the instant, where so many are held.
+fn next_instant(instant: Instant, held: u32) -> Result<Instant, u8> {
+    if held == MAX_INSTANTS {
+        return Err(16);
+    }
+    match instant.number {
+        Some(number) if number as u32 != held + 1 => Err(19),
+        _ => Ok(instant),
     }
 }
 
@@ -623,9 +645,9 @@ impl Monitor {
 
     /// Takes an instant's record.
     pub fn call(&mut self, bytes: &[u8]) -> u64 {
-        let number = match whole_instant(bytes, self.sheet.clocks) {
+        let read = whole_instant(bytes, self.sheet.clocks);
+        let number = match read.and_then(|i| next_instant(i, self.instants)) {
             Err(number) => number,
-            Ok(_) if self.instants == MAX_INSTANTS => 16,
             Ok(instant) => {
                 self.observe(&instant);
                 0
@@ -733,9 +755,9 @@ fn follow(m: &mut Monitor, log: &[u8], mut each: impl FnMut([u8; ENTRY])) -> u8 
         let Some((kind, body)) = record(&log[at..]) else {
             return 12;
         };
-        match read_instant(kind, body, m.sheet.clocks) {
+        let read = read_instant(kind, body, m.sheet.clocks);
+        match read.and_then(|i| next_instant(i, m.instants)) {
             Err(number) => return number,
-            Ok(_) if m.instants == MAX_INSTANTS => return 16,
             Ok(instant) => m.observe(&instant),
         }
         each(m.answer());
@@ -748,13 +770,12 @@ fn follow(m: &mut Monitor, log: &[u8], mut each: impl FnMut([u8; ENTRY])) -> u8 
 fn count(clocks: usize, log: &[u8]) -> u32 {
     let mut at = 0;
     let mut n = 0;
-    while at < log.len() && n < MAX_INSTANTS {
-        match record(&log[at..]) {
-            Some((kind, body)) if read_instant(kind, body, clocks).is_ok() => {
-                at += HEAD + body.len()
-            }
-            _ => break,
+    while let Some((kind, body)) = record(&log[at..]) {
+        let read = read_instant(kind, body, clocks);
+        if read.and_then(|i| next_instant(i, n)).is_err() {
+            break;
         }
+        at += HEAD + body.len();
         n += 1;
     }
     n
@@ -833,4 +854,10 @@ pub fn instant_number(bytes: &[u8], clocks: u8) -> u8 {
         return 4;
     }
     whole_instant(bytes, clocks as usize).err().unwrap_or(0)
+}
+
+/// The refusal number of an instant's record where so many instants are held.
+pub fn next_number(bytes: &[u8], clocks: usize, held: u32) -> u8 {
+    let read = whole_instant(bytes, clocks);
+    read.and_then(|i| next_instant(i, held)).err().unwrap_or(0)
 }

@@ -4,6 +4,7 @@ use crate::plan::Plan;
 use crate::plan::tag_above;
 use crate::plan::word;
 use crate::random::below;
+use records::form::Form;
 use records::instant::Instant;
 use records::instant::Tick;
 use records::instant::TickSlot;
@@ -20,7 +21,11 @@ pub struct Course {
 pub fn idle_instant() -> Instant {
     let ticks = [TickSlot { tick: Tick::Idle }; 8];
     let tags = [0i16; 8];
-    Instant { ticks, tags }
+    Instant {
+        form: Form::Plain,
+        ticks,
+        tags,
+    }
 }
 
 pub fn begin(p: Plan) -> Course {
@@ -34,11 +39,12 @@ pub fn begin(p: Plan) -> Course {
 // An instant with another tick and tag at a clock below 8.
 pub fn with_clock(v: Instant, at: usize, tick: Tick, tag: i16) -> Instant {
     if at < 8 {
+        let form = v.form;
         let mut ticks = v.ticks;
         let mut tags = v.tags;
         ticks[at] = TickSlot { tick };
         tags[at] = tag;
-        return Instant { ticks, tags };
+        return Instant { form, ticks, tags };
     }
     v
 }
@@ -143,6 +149,7 @@ fn followed(p: Plan, c: Course) -> Course {
     let above = c.above;
     let unseen = c.unseen;
     let v = c.instant;
+    let form = v.form;
     let ticks = v.ticks;
     let mut tags = v.tags;
     let x = above[1] % 65536 + 32768;
@@ -150,7 +157,7 @@ fn followed(p: Plan, c: Course) -> Course {
     Course {
         above,
         unseen,
-        instant: Instant { ticks, tags },
+        instant: Instant { form, ticks, tags },
     }
 }
 

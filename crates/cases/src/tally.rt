@@ -1,8 +1,9 @@
 // Counts, a place each.
+pub const PLACES: usize = 64;
 
 // One more at a place.
-pub fn count(t: [u64; 40], at: usize) -> [u64; 40] {
-    if 40 <= at {
+pub fn count(t: [u64; PLACES], at: usize) -> [u64; PLACES] {
+    if PLACES <= at {
         return t;
     }
     let n = t[at];
@@ -14,13 +15,13 @@ pub fn count(t: [u64; 40], at: usize) -> [u64; 40] {
     t
 }
 
-pub fn count_if(wanted: bool, t: [u64; 40], at: usize) -> [u64; 40] {
+pub fn count_if(wanted: bool, t: [u64; PLACES], at: usize) -> [u64; PLACES] {
     if wanted {
         return count(t, at);
     }
     t
 }
 
-pub fn counted(t: [u64; 40], at: usize) -> u64 {
-    if at < 40 { t[at] } else { 0 }
+pub fn counted(t: [u64; PLACES], at: usize) -> u64 {
+    if at < PLACES { t[at] } else { 0 }
 }

@@ -1,4 +1,5 @@
 // A run of at most 16 instants, in the order in which they happened.
+use records::form::Form;
 use records::instant::Instant;
 use records::instant::Tick;
 use records::instant::TickSlot;
@@ -12,7 +13,12 @@ pub struct Run {
 pub fn no_instants() -> Run {
     let ticks = [TickSlot { tick: Tick::Idle }; 8];
     let tags = [0i16; 8];
-    let instants = [Instant { ticks, tags }; 16];
+    let instant = Instant {
+        form: Form::Plain,
+        ticks,
+        tags,
+    };
+    let instants = [instant; 16];
     Run { count: 0, instants }
 }
 

@@ -9,6 +9,7 @@ use crate::due::result_due;
 use crate::due::short_due;
 use crate::tally;
 use crate::tally::Answers;
+use cases::tally::PLACES;
 use cases::tally::count;
 use cases::tally::count_if;
 use gateway::lift_judge;
@@ -23,12 +24,12 @@ use judge::log::judge_log;
 const BLANK: u8 = 165;
 
 // Counts a call, and a difference where it isn't as due.
-pub fn held(is_due: bool, t: [u64; 40], at: usize) -> [u64; 40] {
+pub fn held(is_due: bool, t: [u64; PLACES], at: usize) -> [u64; PLACES] {
     count_if(!is_due, count(t, at), tally::DIFFERENT)
 }
 
 // Counts a refusal by its number.
-pub fn with_number(n: u8, t: [u64; 40]) -> [u64; 40] {
+pub fn with_number(n: u8, t: [u64; PLACES]) -> [u64; PLACES] {
     let at = n as usize;
     count(t, tally::NUMBERS + at)
 }
@@ -50,7 +51,7 @@ fn packed(j: Judged) -> u64 {
 }
 
 // Counts a result by its answer, if it has one.
-fn with_answer(r: u64, t: [u64; 40], places: Answers) -> [u64; 40] {
+fn with_answer(r: u64, t: [u64; PLACES], places: Answers) -> [u64; PLACES] {
     match r / 256 % 256 {
         1 => count(t, places.exhausted),
         2 => count(t, places.broken),
@@ -65,7 +66,7 @@ fn with_answer(r: u64, t: [u64; 40], places: Answers) -> [u64; 40] {
 }
 
 // Counts a result by its number, or its answer.
-fn with_result(r: u64, is_counted: bool, t: [u64; 40]) -> [u64; 40] {
+fn with_result(r: u64, is_counted: bool, t: [u64; PLACES]) -> [u64; PLACES] {
     let t = with_number((r % 256) as u8, t);
     let t = with_answer(r, t, tally::all_answers());
     if is_counted {
@@ -74,7 +75,7 @@ fn with_result(r: u64, is_counted: bool, t: [u64; 40]) -> [u64; 40] {
     t
 }
 
-fn judged(sheet: &[u8], log: &[u8], due: Due, t: [u64; 40]) -> [u64; 40] {
+fn judged(sheet: &[u8], log: &[u8], due: Due, t: [u64; PLACES]) -> [u64; PLACES] {
     let wanted = result_due(due);
     let j = judge_log(sheet, log);
     let t = held(packed(j) == wanted, t, tally::JUDGE_LOG);
@@ -131,7 +132,7 @@ fn is_watched(w: Outcome, wanted: u64, entries: [u8; 51], n: usize) -> bool {
 }
 
 // With room for the entries, and for up to two bytes more.
-fn watched(sheet: &[u8], log: &[u8], due: Due, t: [u64; 40]) -> [u64; 40] {
+fn watched(sheet: &[u8], log: &[u8], due: Due, t: [u64; PLACES]) -> [u64; PLACES] {
     let n = entry_bytes(due);
     let entries = due.entries;
     let w = watch(sheet, log, n + due.taken % 3);
@@ -140,7 +141,7 @@ fn watched(sheet: &[u8], log: &[u8], due: Due, t: [u64; 40]) -> [u64; 40] {
 }
 
 // With a byte too little.
-fn watched_short(sheet: &[u8], log: &[u8], due: Due, t: [u64; 40]) -> [u64; 40] {
+fn watched_short(sheet: &[u8], log: &[u8], due: Due, t: [u64; PLACES]) -> [u64; PLACES] {
     let n = entry_bytes(due);
     if n == 0 {
         return t;
@@ -153,7 +154,7 @@ fn watched_short(sheet: &[u8], log: &[u8], due: Due, t: [u64; 40]) -> [u64; 40] 
 }
 
 // Counts a panel's result that has a tick owed.
-fn with_owing(r: u64, is_counted: bool, t: [u64; 40]) -> [u64; 40] {
+fn with_owing(r: u64, is_counted: bool, t: [u64; PLACES]) -> [u64; PLACES] {
     if r / 65536 % 256 == 0 {
         return t;
     }
@@ -161,7 +162,7 @@ fn with_owing(r: u64, is_counted: bool, t: [u64; 40]) -> [u64; 40] {
 }
 
 // Every clock, and one that no sheet has.
-fn shown(sheet: &[u8], log: &[u8], due: Due, tally: [u64; 40]) -> [u64; 40] {
+fn shown(sheet: &[u8], log: &[u8], due: Due, tally: [u64; PLACES]) -> [u64; PLACES] {
     let mut t = tally;
     let mut clock = 0u8;
     while clock < 9 {
@@ -173,7 +174,7 @@ fn shown(sheet: &[u8], log: &[u8], due: Due, tally: [u64; 40]) -> [u64; 40] {
     t
 }
 
-pub fn compare(sheet: &[u8], log: &[u8], due: Due, t: [u64; 40]) -> [u64; 40] {
+pub fn compare(sheet: &[u8], log: &[u8], due: Due, t: [u64; PLACES]) -> [u64; PLACES] {
     let t = judged(sheet, log, due, t);
     let t = watched(sheet, log, due, t);
     let t = watched_short(sheet, log, due, t);

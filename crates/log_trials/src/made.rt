@@ -1,4 +1,4 @@
-// The made cases: a whole log, a beginning of it, a log with a damaged record, and a damaged sheet.
+// The made cases: a whole log, numbered instants among the others, a beginning of it, a log with a damaged record, one with a wrong number, and a damaged sheet.
 use crate::compare::compare;
 use crate::compare::held;
 use crate::compare::with_number;
@@ -8,18 +8,23 @@ use crate::due::entries_of;
 use crate::faulty::WAYS;
 use crate::faulty::faulty_sheet;
 use crate::tally;
-use cases::course;
-use cases::course::idle_instant;
+use cases::damage::DAMAGES;
 use cases::damage::Record;
 use cases::damage::damaged;
 use cases::damage::whole;
-use cases::made::instants_of;
+use cases::list::instant_at;
+use cases::list::run_of;
 use cases::made::plan_of;
-use cases::plan::Plan;
+use cases::numbered::WRONG;
+use cases::numbered::next_of;
+use cases::numbered::out_of_turn;
+use cases::numbered::wrong_number;
 use cases::plan::all_counted;
 use cases::plan::has_counted;
 use cases::random::below;
 use cases::random::draw;
+use cases::random::one_in;
+use cases::tally::PLACES;
 use cases::tally::count;
 use cases::tally::count_if;
 use cases::tape::Tape;
@@ -28,8 +33,6 @@ use cases::tape::no_bytes;
 use cases::tape::sheet_tape;
 use cases::tape::with_record;
 use filler::run::Run;
-use filler::run::no_instants;
-use filler::run::with_instant;
 use filler::whole_run::owing;
 use gateway::lift_instant_number;
 use gateway::lift_sheet_number;
@@ -48,42 +51,22 @@ struct Made {
     entries: [u8; 51],
 }
 
-// The last number drawn, and a run.
-struct Drawn {
-    last: u64,
-    run: Run,
-}
-
 // The last number drawn, and what was counted.
 struct Ended {
     last: u64,
-    tally: [u64; 40],
+    tally: [u64; PLACES],
 }
 
-fn run_of(plan: Plan, from: u64) -> Drawn {
-    let n = instants_of(plan);
-    let mut c = course::begin(plan);
-    let mut run = no_instants();
-    let mut last = from;
+// Each instant of a run with its number or plain, by a draw each.
+fn numbered_run(run: Run, d: [u64; 48]) -> Run {
+    let mut next = run;
     let mut i = 0;
-    while i < n {
-        let drawn = draw(last);
-        let d = drawn.numbers;
-        c = course::next(plan, c, d);
-        let v = c.instant;
-        run = with_instant(run, v);
-        last = drawn.last;
+    while i < 16 {
+        let v = next.instants[i];
+        next.instants[i] = next_of(v, i, one_in(d, 8 + i, 2));
         i += 1;
     }
-    Drawn { last, run }
-}
-
-// The instant at a place below 16.
-fn instant_at(run: Run, i: usize) -> Instant {
-    if i < 16 {
-        return run.instants[i];
-    }
-    idle_instant()
+    next
 }
 
 // A log with the records of the instants from one place to before another.
@@ -98,14 +81,14 @@ fn with_records(log: Tape, clocks: u8, run: Run, from: usize, to: usize) -> Tape
     all
 }
 
-fn compared(sheet: Tape, log: Tape, due: Due, t: [u64; 40]) -> [u64; 40] {
+fn compared(sheet: Tape, log: Tape, due: Due, t: [u64; PLACES]) -> [u64; PLACES] {
     let a = sheet.bytes;
     let b = log.bytes;
     compare(front(&a, sheet.len), front(&b, log.len), due, t)
 }
 
 // A log of the first n instants.
-fn taken(c: Made, n: usize, t: [u64; 40]) -> [u64; 40] {
+fn taken(c: Made, n: usize, t: [u64; PLACES]) -> [u64; PLACES] {
     let sheet = c.sheet;
     let run = c.run;
     let entries = c.entries;
@@ -143,7 +126,7 @@ fn number_in_log(r: Record, how: u64) -> u8 {
 }
 
 // A damaged record after the first n instants; then the others, unless it is torn.
-fn damaged_log(c: Made, n: usize, how: u64, t: [u64; 40]) -> [u64; 40] {
+fn damaged_log(c: Made, n: usize, how: u64, t: [u64; PLACES]) -> [u64; PLACES] {
     let sheet = c.sheet;
     let clocks = sheet.clocks;
     let run = c.run;
@@ -159,14 +142,27 @@ fn damaged_log(c: Made, n: usize, how: u64, t: [u64; 40]) -> [u64; 40] {
     compared(tape, longer, due, t)
 }
 
-fn sheet_number(tape: Tape, wanted: u8, t: [u64; 40]) -> [u64; 40] {
+// A record with a number that is not the next after the first n instants, and then the others.
+fn skipped_log(c: Made, n: usize, how: u64, t: [u64; PLACES]) -> [u64; PLACES] {
+    let sheet = c.sheet;
+    let clocks = sheet.clocks;
+    let run = c.run;
+    let entries = c.entries;
+    let tape = c.tape;
+    let r = out_of_turn(instant_at(run, n), clocks, wrong_number(n, how));
+    let log = with_record(with_records(no_bytes(), clocks, run, 0, n), r);
+    let longer = with_records(log, clocks, run, n, run.count);
+    compared(tape, longer, refused(r.refusal, n, entries), t)
+}
+
+fn sheet_number(tape: Tape, wanted: u8, t: [u64; PLACES]) -> [u64; PLACES] {
     let bytes = tape.bytes;
     let n = lift_sheet_number(front(&bytes, tape.len));
     held(n == wanted, with_number(n, t), tally::SHEET_NUMBER)
 }
 
 // The sheet as it is, then damaged in one way, with a log of the first n instants.
-fn damaged_sheet(c: Made, n: usize, d: [u64; 48], t: [u64; 40]) -> [u64; 40] {
+fn damaged_sheet(c: Made, n: usize, d: [u64; 48], t: [u64; PLACES]) -> [u64; PLACES] {
     let sheet = c.sheet;
     let clocks = sheet.clocks;
     let run = c.run;
@@ -181,43 +177,49 @@ fn damaged_sheet(c: Made, n: usize, d: [u64; 48], t: [u64; 40]) -> [u64; 40] {
     compared(bad, log, refused(f.number, 0, entries), t)
 }
 
-fn instant_number(r: Record, clocks: u8, wanted: u8, t: [u64; 40]) -> [u64; 40] {
+fn instant_number(r: Record, clocks: u8, wanted: u8, t: [u64; PLACES]) -> [u64; PLACES] {
     let bytes = r.bytes;
     let n = lift_instant_number(front(&bytes, r.len), clocks);
     held(n == wanted, with_number(n, t), tally::INSTANT_NUMBER)
 }
 
-// An instant's record as it is, for clock counts that no sheet has, and damaged.
-fn instant_numbers(v: Instant, clocks: u8, how: u64, t: [u64; 40]) -> [u64; 40] {
+// An instant's record as it is, with whatever number, for clock counts that no sheet has, and damaged.
+fn instant_numbers(v: Instant, clocks: u8, how: u64, t: [u64; PLACES]) -> [u64; PLACES] {
     let r = whole(v, clocks);
     let t = instant_number(r, clocks, 0, t);
+    let other = out_of_turn(v, clocks, wrong_number(0, how));
+    let t = instant_number(other, clocks, 0, t);
     let t = instant_number(r, 0, 4, t);
     let t = instant_number(r, 9, 4, t);
     let bad = damaged(v, clocks, how);
     instant_number(bad, clocks, bad.refusal, t)
 }
 
-// All that is compared of a case, with a place in it and two ways of damage drawn.
-fn tried(c: Made, d: [u64; 48], t: [u64; 40]) -> [u64; 40] {
+// All that is compared of a case, with a place in it, ways of damage and a wrong number drawn.
+fn tried(c: Made, d: [u64; 48], t: [u64; PLACES]) -> [u64; PLACES] {
     let sheet = c.sheet;
     let run = c.run;
     let all = run.count;
     let n = below(d, 0, all as u64) as usize;
-    let how = below(d, 1, 8);
+    let how = below(d, 1, DAMAGES);
     let t = taken(c, all, t);
     let t = taken(c, n, t);
     let t = damaged_log(c, n, how, t);
+    let t = skipped_log(c, n, below(d, 4, WRONG), t);
     let t = damaged_sheet(c, n, d, t);
     instant_numbers(instant_at(run, n), sheet.clocks, how, t)
 }
 
-fn case(is_wide: bool, number: u64, from: u64, tally: [u64; 40]) -> Ended {
+fn case(is_wide: bool, number: u64, from: u64, tally: [u64; PLACES]) -> Ended {
     let first = draw(from);
     let d = first.numbers;
     let plan = plan_of(is_wide, number, d);
     let sheet = plan.sheet;
     let made = run_of(plan, first.last);
-    let run = made.run;
+    let drawn = draw(made.last);
+    let e = drawn.numbers;
+    let plain = made.run;
+    let run = numbered_run(plain, e);
     let tape = sheet_tape(sheet);
     let entries = entries_of(sheet, run);
     let c = Made {
@@ -226,8 +228,6 @@ fn case(is_wide: bool, number: u64, from: u64, tally: [u64; 40]) -> Ended {
         run,
         entries,
     };
-    let drawn = draw(made.last);
-    let e = drawn.numbers;
     let place = if is_wide { tally::WIDE } else { tally::NARROW };
     let told = count_if(has_counted(sheet), count(tally, place), tally::COUNTED);
     let told = tried(c, e, told);
@@ -238,7 +238,7 @@ fn case(is_wide: bool, number: u64, from: u64, tally: [u64; 40]) -> Ended {
 }
 
 // So many cases, from the first number of the sequence.
-fn cases_of(is_wide: bool, cases: u64, tally: [u64; 40]) -> [u64; 40] {
+fn cases_of(is_wide: bool, cases: u64, tally: [u64; PLACES]) -> [u64; PLACES] {
     let mut e = Ended { last: 1, tally };
     let mut i = 0;
     while i < cases {
@@ -250,7 +250,7 @@ fn cases_of(is_wide: bool, cases: u64, tally: [u64; 40]) -> [u64; 40] {
     told
 }
 
-pub fn all(tally: [u64; 40]) -> [u64; 40] {
+pub fn all(tally: [u64; PLACES]) -> [u64; PLACES] {
     let t = cases_of(false, NARROW_CASES, tally);
     cases_of(true, WIDE_CASES, t)
 }

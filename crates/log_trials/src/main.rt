@@ -7,6 +7,8 @@ mod report;
 mod tally;
 mod text;
 
+use cases::tally::PLACES;
+
 fn main() {
-    report::table(made::all([0u64; 40]));
+    report::table(made::all([0u64; PLACES]));
 }

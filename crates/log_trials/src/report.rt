@@ -3,13 +3,14 @@ use crate::tally;
 use crate::tally::Answers;
 use crate::text::number;
 use crate::text::say;
+use cases::tally::PLACES;
 use cases::tally::counted;
 
 // The last number of a refusal.
-const LAST_NUMBER: usize = 18;
+const LAST_NUMBER: usize = 19;
 
 // A row: what is counted, and how often.
-fn line(t: [u64; 40], what: &[u8], at: usize) {
+fn line(t: [u64; PLACES], what: &[u8], at: usize) {
     say(b"  ");
     say(what);
     say(b": ");
@@ -17,14 +18,16 @@ fn line(t: [u64; 40], what: &[u8], at: usize) {
     say(b"\n");
 }
 
-fn cases(t: [u64; 40]) {
-    say(b"Cases, each with a whole log, a beginning of it, a damaged log and a damaged sheet\n");
+fn cases(t: [u64; PLACES]) {
+    say(
+        b"Cases, each with a whole log of plain and numbered instants, a beginning of it, a damaged log, one with a wrong number and a damaged sheet\n",
+    );
     line(t, b"of at most four clocks", tally::NARROW);
     line(t, b"of five to eight clocks", tally::WIDE);
     line(t, b"with a counted line", tally::COUNTED);
 }
 
-fn calls(t: [u64; 40]) {
+fn calls(t: [u64; PLACES]) {
     say(b"Calls compared with the judge of the whole run\n");
     line(t, b"judge_log", tally::JUDGE_LOG);
     line(t, b"lift_judge", tally::LIFT_JUDGE);
@@ -41,7 +44,7 @@ fn calls(t: [u64; 40]) {
     line(t, b"lift_instant_number", tally::INSTANT_NUMBER);
 }
 
-fn answers(t: [u64; 40], at: Answers) {
+fn answers(t: [u64; PLACES], at: Answers) {
     line(t, b"holding, clear", at.clear);
     line(t, b"holding, owed", at.owed);
     line(t, b"broken", at.broken);
@@ -49,7 +52,7 @@ fn answers(t: [u64; 40], at: Answers) {
 }
 
 // A row for each number; 11 and 16 are beyond these logs.
-fn numbers(t: [u64; 40]) {
+fn numbers(t: [u64; PLACES]) {
     let mut n = 1;
     while n <= LAST_NUMBER {
         say(b"  ");
@@ -61,7 +64,7 @@ fn numbers(t: [u64; 40]) {
     }
 }
 
-pub fn table(t: [u64; 40]) {
+pub fn table(t: [u64; PLACES]) {
     cases(t);
     calls(t);
     say(b"Answers of lift_judge\n");

@@ -27,7 +27,7 @@ pub const COUNTED: usize = 15;
 // The number n is at the place n further.
 pub const NUMBERS: usize = 16;
 
-pub const COUNTED_OWING: usize = 35;
+pub const COUNTED_OWING: usize = 40;
 
 // The places of the four answers.
 pub struct Answers {
@@ -50,9 +50,9 @@ pub fn all_answers() -> Answers {
 // Of sheets whose lines are all counted.
 pub fn counted_answers() -> Answers {
     Answers {
-        clear: 36,
-        owed: 37,
-        broken: 38,
-        exhausted: 39,
+        clear: 41,
+        owed: 42,
+        broken: 43,
+        exhausted: 44,
     }
 }

@@ -30,7 +30,8 @@ use Rattle.text.proofs.Walk.{walkedBy, walked, walkedAll, watchLines, c
 
 -- ---- lines
 
-pub refusal-short : (n : ℕ) → n ≤ 18 → length (refusalLine n) ≤ 11
+-- 'refused', a space, a number of at most 2 digits and the end
+pub refusal-short : (n : ℕ) → n ≤ 99 → length (refusalLine n) ≤ 11
 unfolding line
 refusal-short n h = simp length-append (omega (arith, length-digits 1 n (omega arith)))
 

@@ -13,6 +13,7 @@ use cases::plan::pair;
 use cases::plan::relation;
 use cases::plan::sporadic;
 use cases::plan::with;
+use cases::tally::PLACES;
 use records::instant::Instant;
 use records::instant::Tick;
 use records::line::Line;
@@ -60,7 +61,7 @@ fn instant_of(b: &[u8], below_end: bool) -> Instant {
     with_clock(v, 1, tick_of(b[2]), tag_by(below_end, b[3]))
 }
 
-fn start(name: &[u8], s: Sheet, tally: [u64; 40]) -> Trial {
+fn start(name: &[u8], s: Sheet, tally: [u64; PLACES]) -> Trial {
     let t = opened(s, 0, tally);
     say(b"  ");
     say(name);
@@ -79,7 +80,13 @@ fn then(t: Trial, v: Instant) -> Trial {
 }
 
 // A sheet and its instants, four bytes each.
-fn example_by(name: &[u8], s: Sheet, below_end: bool, log: &[u8], tally: [u64; 40]) -> [u64; 40] {
+fn example_by(
+    name: &[u8],
+    s: Sheet,
+    below_end: bool,
+    log: &[u8],
+    tally: [u64; PLACES],
+) -> [u64; PLACES] {
     let mut t = start(name, s, tally);
     let mut at = 0;
     while at < log.len() {
@@ -92,17 +99,17 @@ fn example_by(name: &[u8], s: Sheet, below_end: bool, log: &[u8], tally: [u64; 4
 }
 
 // With tags around 0.
-fn example(name: &[u8], s: Sheet, log: &[u8], t: [u64; 40]) -> [u64; 40] {
+fn example(name: &[u8], s: Sheet, log: &[u8], t: [u64; PLACES]) -> [u64; PLACES] {
     example_by(name, s, false, log, t)
 }
 
 // With tags below the end of the scale.
-fn near_end(name: &[u8], s: Sheet, log: &[u8], t: [u64; 40]) -> [u64; 40] {
+fn near_end(name: &[u8], s: Sheet, log: &[u8], t: [u64; PLACES]) -> [u64; PLACES] {
     example_by(name, s, true, log, t)
 }
 
 // An example of two clocks and one line.
-fn of_line(name: &[u8], line: Line, log: &[u8], t: [u64; 40]) -> [u64; 40] {
+fn of_line(name: &[u8], line: Line, log: &[u8], t: [u64; PLACES]) -> [u64; PLACES] {
     example(name, with(empty_sheet(2), line), log, t)
 }
 
@@ -121,7 +128,7 @@ fn nine_ticks(tag: u8, other: u8) -> [u8; 36] {
 }
 
 // A sheet and the instants of nine ticks.
-fn ninth(name: &[u8], s: Sheet, tag: u8, other: u8, t: [u64; 40]) -> [u64; 40] {
+fn ninth(name: &[u8], s: Sheet, tag: u8, other: u8, t: [u64; PLACES]) -> [u64; PLACES] {
     let log = nine_ticks(tag, other);
     example(name, s, &log, t)
 }
@@ -131,7 +138,7 @@ fn later(d: u64) -> Sheet {
     with(empty_sheet(2), delayed(0, d, 0, 1))
 }
 
-fn l2_l3(t: [u64; 40]) -> [u64; 40] {
+fn l2_l3(t: [u64; PLACES]) -> [u64; PLACES] {
     let t = of_line(b"L2 sporadic", sporadic(0, 1, ZERO), b"", t);
     let t = of_line(
         b"L3 0 excludes 0, a tick",
@@ -147,7 +154,7 @@ fn l2_l3(t: [u64; 40]) -> [u64; 40] {
     )
 }
 
-fn l4_l5(t: [u64; 40]) -> [u64; 40] {
+fn l4_l5(t: [u64; PLACES]) -> [u64; PLACES] {
     let both = b"\x01\x00\x01\x00";
     let kills = pair(23, 0, 1);
     let t = of_line(b"L4 weakly, both tick", pair(21, 0, 1), both, t);
@@ -156,7 +163,7 @@ fn l4_l5(t: [u64; 40]) -> [u64; 40] {
     of_line(b"L5 0 kills 1, 1 unseen", kills, b"\x01\x00\x02\x00", t)
 }
 
-fn l6_l7(t: [u64; 40]) -> [u64; 40] {
+fn l6_l7(t: [u64; PLACES]) -> [u64; PLACES] {
     let times_60 = relation(0, 1, 60, 0);
     let due = sporadic(0, 1, ZERO - 1);
     let t = of_line(b"L6 -60 = 60 x -1", times_60, b"\x00\xC4\x00\xFF", t);
@@ -175,7 +182,7 @@ fn l6_l7(t: [u64; 40]) -> [u64; 40] {
     )
 }
 
-fn l8_l11(t: [u64; 40]) -> [u64; 40] {
+fn l8_l11(t: [u64; PLACES]) -> [u64; PLACES] {
     let by_100 = later(100);
     let t = example(b"L8 d = 0, both tick", later(0), b"\x01\x00\x01\x00", t);
     let t = ninth(b"L9 ticks at 1 to 9", by_100, 9, 0, t);
@@ -194,7 +201,7 @@ fn l8_l11(t: [u64; 40]) -> [u64; 40] {
 }
 
 // 31: a tick of 1 has one of 0 before it. 33: 1 may tick where 0 never did.
-fn lives(t: [u64; 40]) -> [u64; 40] {
+fn lives(t: [u64; PLACES]) -> [u64; PLACES] {
     let by_100 = later(100);
     let weakly = with(by_100, pair(21, 0, 1));
     let kills = with(with(by_100, delayed(1, 100, 0, 0)), pair(23, 0, 1));
@@ -213,14 +220,14 @@ fn lives(t: [u64; 40]) -> [u64; 40] {
 }
 
 // A ninth obligation begins where one of eight is met, or is late.
-fn ninths(t: [u64; 40]) -> [u64; 40] {
+fn ninths(t: [u64; PLACES]) -> [u64; PLACES] {
     let by_8 = later(8);
     let t = ninth(b"a ninth, one met", by_8, 9, 1, t);
     ninth(b"a ninth, one late", by_8, 10, 0, t)
 }
 
 // A count met by its own instant's ticks would be clear; one that an unseen tick may have brought down has two remainders.
-fn counted(t: [u64; 40]) -> [u64; 40] {
+fn counted(t: [u64; PLACES]) -> [u64; PLACES] {
     let t = of_line(
         b"a count of 1, both tick",
         counts(0, 1, 0, 1),
@@ -242,7 +249,7 @@ fn counted(t: [u64; 40]) -> [u64; 40] {
 }
 
 // Eight obligations and eight countdowns; then a ninth countdown, with an equal obligation; a ninth obligation, a countdown met; neither; a ninth obligation, a countdown missed.
-fn both(t: [u64; 40]) -> [u64; 40] {
+fn both(t: [u64; PLACES]) -> [u64; PLACES] {
     let far = counts(0, 255, 0, 1);
     let near = with(later(100), counts(0, 8, 0, 1));
     let t = ninth(b"nine countdowns", with(empty_sheet(2), far), 9, 0, t);
@@ -277,7 +284,7 @@ fn last_nine(tick: u8) -> [u8; 36] {
 }
 
 // A delay that is due at the end begins an obligation; one that would be due past it begins none.
-fn scale_end(t: [u64; 40]) -> [u64; 40] {
+fn scale_end(t: [u64; PLACES]) -> [u64; PLACES] {
     let t = near_end(
         b"begun at 32,767, d = 0, met there",
         later(0),
@@ -294,7 +301,7 @@ fn scale_end(t: [u64; 40]) -> [u64; 40] {
 }
 
 // With d = 8 the first of the nine is due at the end.
-fn nine_at_end(t: [u64; 40]) -> [u64; 40] {
+fn nine_at_end(t: [u64; PLACES]) -> [u64; PLACES] {
     let ticks = last_nine(1);
     let unseen = last_nine(2);
     let t = near_end(b"nine begun past the end", later(100), &ticks, t);
@@ -302,7 +309,7 @@ fn nine_at_end(t: [u64; 40]) -> [u64; 40] {
     near_end(b"one of nine due at the end", later(8), &ticks, t)
 }
 
-pub fn all(t: [u64; 40]) -> [u64; 40] {
+pub fn all(t: [u64; PLACES]) -> [u64; PLACES] {
     say(b"Lift examples, some at the limits, counted lines, and the end of the scale\n");
     let t = l8_l11(l6_l7(l4_l5(l2_l3(t))));
     let t = both(counted(ninths(lives(t))));

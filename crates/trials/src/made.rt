@@ -11,13 +11,22 @@ use crate::trial::taken;
 use cases::course;
 use cases::course::Course;
 use cases::course::unseen_from;
+use cases::damage::DAMAGES;
+use cases::damage::damaged;
 use cases::disorder::out_of_order;
 use cases::made::instants_of;
 use cases::made::plan_of;
+use cases::numbered::WRONG;
+use cases::numbered::is_numbered;
+use cases::numbered::next_of;
+use cases::numbered::out_of_turn;
+use cases::numbered::with_number;
+use cases::numbered::wrong_number;
 use cases::plan::Plan;
 use cases::random::below;
 use cases::random::draw;
 use cases::random::one_in;
+use cases::tally::PLACES;
 use cases::tally::count;
 use cases::tally::count_if;
 use records::instant::Instant;
@@ -60,7 +69,7 @@ fn kind_place(l: Line) -> usize {
 }
 
 // The lines of a sheet by their kind.
-fn with_kinds(tally: [u64; 40], s: Sheet) -> [u64; 40] {
+fn with_kinds(tally: [u64; PLACES], s: Sheet) -> [u64; PLACES] {
     let n = s.count;
     let mut t = tally;
     let mut i = 0;
@@ -72,14 +81,35 @@ fn with_kinds(tally: [u64; 40], s: Sheet) -> [u64; 40] {
     t
 }
 
-// None, one or two calls with a damaged instant.
+// A call with a damaged instant, whose number may be wrong too: the damage comes first.
+fn with_damage(t: Trial, v: Instant, how: u64, is_wrong: bool) -> Trial {
+    let sheet = t.sheet;
+    let clocks = sheet.clocks;
+    if is_wrong {
+        return refused(t, damaged(with_number(v, 0), clocks, how));
+    }
+    refused(t, damaged(v, clocks, how))
+}
+
+// A call with an instant whose number is not the next.
+fn with_wrong(t: Trial, v: Instant, how: u64) -> Trial {
+    let sheet = t.sheet;
+    let run = t.run;
+    let n = wrong_number(run.count, how);
+    refused(t, out_of_turn(v, sheet.clocks, n))
+}
+
+// None, one or two calls with a damaged instant, and one with a wrong number.
 fn with_refusals(t: Trial, v: Instant, d: [u64; 48]) -> Trial {
     if one_in(d, 20, 8) {
-        let once = refused(t, v, below(d, 21, 8));
+        let once = with_damage(t, v, below(d, 21, DAMAGES), one_in(d, 25, 4));
         if one_in(d, 22, 2) {
-            return refused(once, v, below(d, 23, 8));
+            return with_damage(once, v, below(d, 23, DAMAGES), false);
         }
         return once;
+    }
+    if one_in(d, 26, 8) {
+        return with_wrong(t, v, below(d, 27, WRONG));
     }
     t
 }
@@ -94,16 +124,16 @@ struct Stand {
 // The last number drawn, and what was counted.
 struct Ended {
     last: u64,
-    tally: [u64; 40],
+    tally: [u64; PLACES],
 }
 
 // A sheet by its lines and its clocks.
-fn with_sheet(tally: [u64; 40], s: Sheet) -> [u64; 40] {
+fn with_sheet(tally: [u64; PLACES], s: Sheet) -> [u64; PLACES] {
     count_if(s.clocks == 8, with_kinds(tally, s), tally::EIGHT)
 }
 
 // Of one case in eight, where it has a line, the sheet with its lines out of order.
-fn with_disorder(plan: Plan, d: [u64; 48], tally: [u64; 40]) -> [u64; 40] {
+fn with_disorder(plan: Plan, d: [u64; 48], tally: [u64; PLACES]) -> [u64; PLACES] {
     let sheet = plan.sheet;
     let lines = sheet.count;
     if lines == 0 {
@@ -117,7 +147,7 @@ fn with_disorder(plan: Plan, d: [u64; 48], tally: [u64; 40]) -> [u64; 40] {
 }
 
 // A line of the sheet is drawn, to be repeated where the sheet is opened in another order.
-fn begin(plan: Plan, d: [u64; 48], last: u64, tally: [u64; 40]) -> Stand {
+fn begin(plan: Plan, d: [u64; 48], last: u64, tally: [u64; PLACES]) -> Stand {
     let sheet = plan.sheet;
     let i = below(d, 44, sheet.count as u64) as usize;
     Stand {
@@ -127,10 +157,11 @@ fn begin(plan: Plan, d: [u64; 48], last: u64, tally: [u64; 40]) -> Stand {
     }
 }
 
-// An instant by its unseen ticks, and by the delays that it may begin.
+// An instant by its form, its unseen ticks, and the delays that it may begin.
 fn with_instant(t: Trial, v: Instant) -> Trial {
     let sheet = t.sheet;
     let told = t.tally;
+    let told = count_if(is_numbered(v), told, tally::NUMBERED);
     let told = with_dues(told, sheet, v);
     let told = count_if(is_on_unseen(t, v), told, tally::ON_UNSEEN);
     let told = count_if(0 < unseen_from(v, 4), told, tally::HIGH_UNSEEN);
@@ -140,14 +171,16 @@ fn with_instant(t: Trial, v: Instant) -> Trial {
     next
 }
 
-// One instant more, calls with damaged ones before it.
+// One instant more, plain or numbered, and refused calls before it.
 fn step(plan: Plan, s: Stand) -> Stand {
     let drawn = draw(s.last);
     let d = drawn.numbers;
     let before = s.course;
     let course = course::next(plan, before, d);
     let t = s.trial;
+    let run = t.run;
     let v = course.instant;
+    let v = next_of(v, run.count, one_in(d, 24, 2));
     Stand {
         trial: taken(with_refusals(with_instant(t, v), v, d), v),
         course,
@@ -172,7 +205,7 @@ fn is_holding(s: Stand) -> bool {
 }
 
 // Runs a case from a number of the sequence; after an answer that isn't holding comes one instant more.
-fn case(is_wide: bool, number: u64, from: u64, tally: [u64; 40]) -> Ended {
+fn case(is_wide: bool, number: u64, from: u64, tally: [u64; PLACES]) -> Ended {
     let drawn = draw(from);
     let d = drawn.numbers;
     let plan = plan_of(is_wide, number, d);
@@ -192,7 +225,7 @@ fn case(is_wide: bool, number: u64, from: u64, tally: [u64; 40]) -> Ended {
 }
 
 // So many cases, from the first number of the sequence.
-fn all(is_wide: bool, cases: u64, tally: [u64; 40]) -> [u64; 40] {
+fn all(is_wide: bool, cases: u64, tally: [u64; PLACES]) -> [u64; PLACES] {
     let mut e = Ended { last: 1, tally };
     let mut i = 0;
     while i < cases {
@@ -205,11 +238,11 @@ fn all(is_wide: bool, cases: u64, tally: [u64; 40]) -> [u64; 40] {
 }
 
 // Cases of at most four clocks.
-pub fn narrow(tally: [u64; 40]) -> [u64; 40] {
+pub fn narrow(tally: [u64; PLACES]) -> [u64; PLACES] {
     all(false, NARROW_CASES, tally)
 }
 
 // Cases of five to eight clocks.
-pub fn wide(tally: [u64; 40]) -> [u64; 40] {
+pub fn wide(tally: [u64; PLACES]) -> [u64; PLACES] {
     all(true, WIDE_CASES, tally)
 }

@@ -5,6 +5,7 @@ use crate::tally;
 use cases::disorder::Disordered;
 use cases::disorder::repeated;
 use cases::disorder::reversed;
+use cases::tally::PLACES;
 use cases::tally::count_if;
 use cases::tape::front;
 use judge::answer::Reply;
@@ -109,7 +110,7 @@ pub fn both_next(x: Others, bytes: &[u8], due: Reply) -> Others {
 }
 
 // What is counted of a call.
-fn counted(t: [u64; 40], o: Other, at: usize) -> [u64; 40] {
+fn counted(t: [u64; PLACES], o: Other, at: usize) -> [u64; PLACES] {
     let n = o.refusal;
     let t = count_if(o.called, t, at);
     let t = count_if(n == number::LINE_KIND, t, tally::ANY_BY_KIND);
@@ -118,7 +119,7 @@ fn counted(t: [u64; 40], o: Other, at: usize) -> [u64; 40] {
 }
 
 // What is counted of a call of both.
-pub fn both_counted(t: [u64; 40], x: Others) -> [u64; 40] {
+pub fn both_counted(t: [u64; PLACES], x: Others) -> [u64; PLACES] {
     let reversed = x.reversed;
     let repeated = x.repeated;
     counted(

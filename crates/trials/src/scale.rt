@@ -1,5 +1,6 @@
 // The end of the scale: which delays that an instant may begin are due at it, and which past it.
 use crate::tally;
+use cases::tally::PLACES;
 use cases::tally::count;
 use records::instant::Instant;
 use records::instant::Tick;
@@ -35,7 +36,7 @@ fn may_tick(v: Instant, clock: u8) -> bool {
 }
 
 // A delay from a clock's tag, by where that stands to the last tag from which its due is on the scale.
-fn with_due(t: [u64; 40], v: Instant, on: u8, by: u16) -> [u64; 40] {
+fn with_due(t: [u64; PLACES], v: Instant, on: u8, by: u16) -> [u64; PLACES] {
     let k = on as usize;
     if 7 < k {
         return t;
@@ -51,7 +52,7 @@ fn with_due(t: [u64; 40], v: Instant, on: u8, by: u16) -> [u64; 40] {
     count(t, tally::DUE_PAST_END)
 }
 
-fn with_line(t: [u64; 40], l: Line, v: Instant) -> [u64; 40] {
+fn with_line(t: [u64; PLACES], l: Line, v: Instant) -> [u64; PLACES] {
     match l {
         Line::Delayed { a, b, d: _, by } => {
             if may_tick(v, a) {
@@ -64,7 +65,7 @@ fn with_line(t: [u64; 40], l: Line, v: Instant) -> [u64; 40] {
 }
 
 // The delays of a sheet that an instant may begin.
-pub fn with_dues(tally: [u64; 40], s: Sheet, v: Instant) -> [u64; 40] {
+pub fn with_dues(tally: [u64; PLACES], s: Sheet, v: Instant) -> [u64; PLACES] {
     let n = s.count;
     let mut t = tally;
     let mut i = 0;

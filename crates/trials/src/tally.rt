@@ -75,3 +75,17 @@ pub const ANY_BY_KIND: usize = 35;
 pub const ANY_BY_NINTH: usize = 36;
 
 pub const UNLIKE_SORTED: usize = 37;
+
+pub const BY_NUMBER: usize = 38;
+
+pub const NUMBERED: usize = 39;
+
+pub const REPEATED_NUMBER: usize = 40;
+
+pub const EARLY_NUMBER: usize = 41;
+
+pub const NO_NUMBER: usize = 42;
+
+pub const WHOLE_LIST: usize = 43;
+
+pub const PART_OF_LIST: usize = 44;

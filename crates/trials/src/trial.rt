@@ -7,11 +7,12 @@ use crate::reply::is_refused;
 use crate::reply::is_verdict;
 use crate::reply::live_of;
 use crate::tally;
-use cases::damage::damaged;
+use cases::damage::Record;
 use cases::damage::whole;
 use cases::disorder::Disordered;
 use cases::plan::all_counted;
 use cases::plan::has_counted;
+use cases::tally::PLACES;
 use cases::tally::count;
 use cases::tally::count_if;
 use cases::tape::front;
@@ -40,11 +41,11 @@ pub struct Trial {
     pub monitor: Monitor,
     pub others: Others,
     pub answer: Answer,
-    pub tally: [u64; 40],
+    pub tally: [u64; PLACES],
 }
 
 // An answer by its kind.
-fn counted(t: [u64; 40], a: Answer) -> [u64; 40] {
+fn counted(t: [u64; PLACES], a: Answer) -> [u64; PLACES] {
     match a {
         Answer::Exhausted => count(t, tally::EXHAUSTED),
         Answer::Broken => count(t, tally::BROKEN),
@@ -58,13 +59,13 @@ fn counted(t: [u64; 40], a: Answer) -> [u64; 40] {
 }
 
 // A ninth owed by its sort, where the sheet has lines of one sort alone.
-fn with_ninth(t: [u64; 40], s: Sheet) -> [u64; 40] {
+fn with_ninth(t: [u64; PLACES], s: Sheet) -> [u64; PLACES] {
     let t = count_if(all_counted(s), t, tally::NINTH_COUNTDOWN);
     count_if(!has_counted(s), t, tally::NINTH_OBLIGATION)
 }
 
 // Cases that became exhausted. Of at most four clocks an instant has at most 16 fillings: where live was 1, it was nine owed.
-fn counted_end(t: [u64; 40], before: usize, a: Answer, s: Sheet) -> [u64; 40] {
+fn counted_end(t: [u64; PLACES], before: usize, a: Answer, s: Sheet) -> [u64; PLACES] {
     match a {
         Answer::Exhausted => {
             let t = count_if(17 <= before, t, tally::BY_LIVE);
@@ -84,7 +85,7 @@ fn first_of(m: Monitor) -> Remainder {
 }
 
 // A remainder by its eight obligations, its eight countdowns.
-fn with_full(t: [u64; 40], r: Remainder) -> [u64; 40] {
+fn with_full(t: [u64; PLACES], r: Remainder) -> [u64; PLACES] {
     let owes = r.owed == number::MAX_OWED;
     let counts = r.counting == number::MAX_OWED;
     let t = count_if(owes, t, tally::FULL);
@@ -93,7 +94,7 @@ fn with_full(t: [u64; 40], r: Remainder) -> [u64; 40] {
 }
 
 // What is counted of an answer.
-fn tallied(t: [u64; 40], before: usize, a: Answer, m: Monitor) -> [u64; 40] {
+fn tallied(t: [u64; PLACES], before: usize, a: Answer, m: Monitor) -> [u64; PLACES] {
     let live = live_of(a);
     let sheet = m.sheet;
     let t = counted_end(counted(t, a), before, a, sheet);
@@ -179,7 +180,7 @@ fn answered(t: Trial, run: Run, g: CallResult, others: Others) -> Trial {
 }
 
 // Opens a sheet, in another order with the line at a place repeated; one that can't be written counts as a difference.
-pub fn opened(sheet: Sheet, i: usize, tally: [u64; 40]) -> Trial {
+pub fn opened(sheet: Sheet, i: usize, tally: [u64; PLACES]) -> Trial {
     let tape = sheet_tape(sheet);
     let bytes = tape.bytes;
     let run = no_instants();
@@ -211,21 +212,22 @@ pub fn taken(t: Trial, v: Instant) -> Trial {
     answered(t, with_instant(run, v), g, others)
 }
 
-// Hands a damaged instant over; the case goes on with the monitor given back.
-pub fn refused(t: Trial, v: Instant, how: u64) -> Trial {
+// Hands a record over that is due a refusal; the case goes on with the monitor given back.
+pub fn refused(t: Trial, r: Record) -> Trial {
     let sheet = t.sheet;
     let run = t.run;
     let answer = t.answer;
     let told = t.tally;
     let before = t.monitor;
     let others = t.others;
-    let r = damaged(v, sheet.clocks, how);
+    let due = r.refusal;
     let bytes = r.bytes;
     let g = observe(before, front(&bytes, r.len));
     let monitor = g.monitor;
     let reply = g.reply;
     let others = both_next(others, front(&bytes, r.len), reply);
-    let at = if is_refused(reply, r.refusal) {
+    let told = count_if(due == number::NOT_NEXT, told, tally::BY_NUMBER);
+    let at = if is_refused(reply, due) {
         tally::REFUSED
     } else {
         tally::DIFFERENT
@@ -241,7 +243,7 @@ pub fn refused(t: Trial, v: Instant, how: u64) -> Trial {
 }
 
 // Opens a sheet with its lines out of order, which is refused.
-pub fn not_opened(x: Disordered, told: [u64; 40]) -> [u64; 40] {
+pub fn not_opened(x: Disordered, told: [u64; PLACES]) -> [u64; PLACES] {
     let tape = x.tape;
     let bytes = tape.bytes;
     let due = x.refusal;

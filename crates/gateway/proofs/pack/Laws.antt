@@ -7,7 +7,7 @@ use Rattle.records.specs.declared.sheet.SheetRead.{SheetRead}
 use Rattle.records.specs.declared.instant.InstantRead.{InstantRead}
 use Rattle.records.specs.Outcome.{Outcome, taken, refused}
 use Rattle.records.specs.Sheet.{SheetValue, readSheet, sheetRead}
-use Rattle.records.specs.Instant.{Cell, readInstant, instantRead}
+use Rattle.records.specs.Instant.{InstantValue, readInstant, instantRead}
 use Rattle.judge.specs.declared.answer.Answer as code
 use Rattle.judge.specs.declared.answer.Reply.{Reply}
 use Rattle.judge.specs.declared.answer.Reply.the-variants as reply
@@ -28,7 +28,7 @@ pub instant-number : (clocks : ℕ) (bytes : List ℕ) {x : InstantRead} {n : �
     → x ≡ instantRead (readInstant clocks bytes) → n ≡ numberOf (readInstant clocks bytes)
 instant-number clocks bytes e q = e ∙ ap (λ (r : InstantRead). readingNumber (r .answer)) q ∙ by-outcome (readInstant clocks bytes)
   where
-    by-outcome : (o : Outcome (List Cell)) → readingNumber (instantRead o .answer) ≡ numberOf o
+    by-outcome : (o : Outcome InstantValue) → readingNumber (instantRead o .answer) ≡ numberOf o
     by-outcome (taken i) = refl
     by-outcome (refused k) = refl
 

@@ -33,7 +33,7 @@ abbrev refusing : tie.After-refusal-line Inv-loop μ-loop → tie.After-answer I
 refusing c = c .before .before .before
 
 abbrev taking : tie.After-put-tags-arg Inv-loop μ-loop → tie.After-enum-told Inv-loop μ-loop
-taking c = c .before .before
+taking c = c .before .before .before
 
 -- the record at this place of the log
 here : (c : tie.After-record-bytes Inv-loop μ-loop) → TheRecord (c .before .before .before .before .before .args .log .now) (c .before .before .loop .at) (c .record-bytes .result .now)
@@ -82,7 +82,7 @@ put-tags-requires c κs =
     record { clocks = start h .pre .clocks; room = tags-room (h .loop .inv) (start h .pre) (here (r .before)) (r .read-next .ensures) (e .enum-told .given .1) (bytes (r .before)) }
 
 -- after the lines of an instant
-abbrev put : tie.After-slice-known4 Inv-loop μ-loop → tie.After-put-tags Inv-loop μ-loop
+abbrev put : tie.After-slice-known3 Inv-loop μ-loop → tie.After-put-tags Inv-loop μ-loop
 put c = c .before .before
 
 abbrev record-read : tie.After-put-tags Inv-loop μ-loop → tie.After-record-bytes Inv-loop μ-loop

@@ -38,7 +38,7 @@ module _ (c : tie.After-refusal-line) where
   told = c .before .before .before
 
   short : length (refusalLine (told .n .given .0 .0)) ≤ 11
-  short = refusal-short (told .n .given .0 .0) (refuses told .small)
+  short = refusal-short (told .n .given .0 .0) (omega (arith, refuses told .small))
 
 put-line-requires : tie.Need-put-line-requires
 put-line-requires c κs =
