@@ -73,3 +73,26 @@ pub fn instant(cells: &[(u8, i16)]) -> Vec<u8> {
     }
     record(32, &body)
 }
+
+/// The same instant with a number, kind 33; it may have one already.
+pub fn numbered(number: u16, instant: &[u8]) -> Vec<u8> {
+    let mut body = number.to_le_bytes().to_vec();
+    body.extend(&instant[cells_at(instant)..]);
+    record(33, &body)
+}
+
+/// The same instant without a number, kind 32.
+pub fn unnumbered(instant: &[u8]) -> Vec<u8> {
+    record(32, &instant[cells_at(instant)..])
+}
+
+pub fn is_numbered(instant: &[u8]) -> bool {
+    instant.get(2) == Some(&33)
+}
+
+/// Where the cells of an instant's record begin: behind the head, or behind
+/// the number. A damaged record may end before.
+pub fn cells_at(instant: &[u8]) -> usize {
+    let at = if is_numbered(instant) { 6 } else { 4 };
+    at.min(instant.len())
+}

@@ -1,7 +1,9 @@
 //! The differential test of the live calls: random lists of calls on states
 //! that are opened, reopened, copied, stored and damaged, beside plain
 //! monitors that go through the same.
-use crate::random::{damage_bytes, damage_head, hex, input, Input, Room, Seen};
+use crate::bytes::{is_numbered, numbered, unnumbered};
+use crate::random::{damage_bytes, damage_head, damage_tick, misnumbered, wrong_number};
+use crate::random::{hex, input, Input, Room, Seen};
 use crate::state::{self, Words, FORMAT, SIDES, WIDTH, WORDS};
 use crate::state::{COUNTDOWNS, FREE, OWED, PLACES};
 use crate::xorshift::Xorshift;
@@ -22,6 +24,35 @@ struct Slot {
     /// The records that are handed over, and the next of them.
     instants: Vec<Vec<u8>>,
     next: usize,
+    /// Whether a 19 was met, and no instant taken since.
+    out_of_step: bool,
+}
+
+impl Slot {
+    /// Instants held, 0 of no monitor.
+    fn held(&self) -> usize {
+        self.plain.as_ref().map_or(0, |m| (m.last() >> 32) as usize)
+    }
+
+    fn has_numbers(&self) -> bool {
+        self.instants.iter().any(|i| is_numbered(i))
+    }
+
+    /// Where the radio driver goes on in a log with numbers: mostly at the next
+    /// record; at times behind it, which drops it, at the one before, which
+    /// repeats it, or anywhere; once out of step often at the wanted one, from
+    /// which it sends again.
+    fn drive(&mut self, r: &mut Xorshift) {
+        let count = self.instants.len();
+        let at = match r.below(12) {
+            0 => self.next + 1,
+            1 => self.next.saturating_sub(1),
+            2 => r.below(count as u64 + 1) as usize,
+            3..=8 if self.out_of_step => self.held(),
+            _ => self.next,
+        };
+        self.next = at.min(count);
+    }
 }
 
 fn empty_slot(r: &mut Xorshift) -> Slot {
@@ -35,6 +66,7 @@ fn empty_slot(r: &mut Xorshift) -> Slot {
         sheet: Vec::new(),
         instants: Vec::new(),
         next: 0,
+        out_of_step: false,
     }
 }
 
@@ -65,7 +97,7 @@ fn damage_word(r: &mut Xorshift, words: &mut Words) {
         _ => r.below(WORDS as u64) as usize,
     };
     let near = [
-        0, 1, 2, 3, 7, 8, 9, 15, 16, 17, 23, 24, 25, 32, 33, 39, 255, 256, 4000, 4001,
+        0, 1, 2, 3, 7, 8, 9, 15, 16, 17, 23, 24, 25, 32, 33, 39, 255, 256, 3999, 4000, 4001,
     ];
     words[at] = match r.below(4) {
         0 => r.next() as u32,
@@ -109,6 +141,16 @@ fn damage_owing(r: &mut Xorshift, part: &mut [u32], numbers: &[u32]) {
     }
 }
 
+/// A fault in an instant's record: its kind, which may become the other one of
+/// an instant, a tick byte, or any.
+fn damage_record(r: &mut Xorshift, record: &mut Vec<u8>) {
+    match r.below(4) {
+        0 => record[2] = r.pick(&[1, 31, 32, 33, 34]),
+        1 => damage_tick(r, record),
+        _ => damage_bytes(r, record),
+    }
+}
+
 /// The plain monitor's call; what it is after an instant is looked at, but not
 /// again once it is exhausted.
 fn taken(m: &mut plain::Monitor, record: &[u8], room: &mut Room) -> u64 {
@@ -135,6 +177,9 @@ struct Test {
     damaged: u64,
     counting: u64,
     within: u64,
+    /// Numbered instants taken, and of these after a 19.
+    numbered: u64,
+    resumed: u64,
 }
 
 impl Test {
@@ -233,61 +278,102 @@ impl Test {
                 slot.sheet = sheet;
                 slot.instants = std::mem::take(&mut v.instants);
                 slot.next = 0;
+                slot.out_of_step = false;
                 due
             }
         };
         self.opened.result(due);
         self.same("lift_open", slot, result, due);
         if long && due & 0xff == 0 {
-            self.all(slot);
+            self.all(r, slot);
+            if r.once_in(2) {
+                self.limit(r, slot);
+            }
         }
     }
 
-    /// All records of a long log but the last few.
-    fn all(&mut self, slot: &mut Slot) {
+    /// All records of a long log but the last few, some behind one with a wrong
+    /// number.
+    fn all(&mut self, r: &mut Xorshift, slot: &mut Slot) {
         let Some(m) = &mut slot.plain else { return };
+        let most = slot.instants.len() - 4;
         let mut differences = 0;
-        for record in &slot.instants[..slot.instants.len() - 4] {
+        let mut take = |record: &[u8]| {
             let due = taken(m, record, &mut self.room);
             self.calls += 1;
             self.observed.result(due);
             differences += (library::observe(&mut slot.words, record) != due) as u64;
+        };
+        for (held, record) in slot.instants[..most].iter().enumerate() {
+            if r.once_in(100) {
+                take(&misnumbered(r, record, held));
+            }
+            take(record);
         }
-        slot.next = slot.instants.len() - 4;
+        slot.next = most;
         self.same("lift_observe, a long log", slot, differences, 0);
     }
 
-    /// The next record, or one that is damaged, came before, or is another's.
+    /// The end of a long log: with 3,999 instants held a wrong number is
+    /// refused by 19 and the right one taken; with 4,000 the number does not
+    /// matter.
+    fn limit(&mut self, r: &mut Xorshift, slot: &mut Slot) {
+        for n in slot.next..3999 {
+            let record = slot.instants[n].clone();
+            self.observe(slot, &record);
+        }
+        slot.next = slot.instants.len();
+        let last = slot.instants[3998].clone();
+        let numbers = [
+            numbered(wrong_number(r, 4000), &last),
+            numbered(4000, &last),
+            numbered(wrong_number(r, 4001), &last),
+            numbered(4001, &last),
+            unnumbered(&last),
+        ]
+        .map(|record| self.observe(slot, &record) & 0xff);
+        self.same("the limit", slot, numbers, [19, 0, 16, 16, 16]);
+    }
+
+    /// The next record, or one that is damaged, came before, comes too early,
+    /// has a wrong number, or is another's.
     fn record(r: &mut Xorshift, slot: &mut Slot, other: &Slot) -> Vec<u8> {
         let any = |r: &mut Xorshift, all: &[Vec<u8>]| match all.len() {
             0 => vec![6, 0, 32, 0, 1, 0xfd, 0xff, 0, 0, 0],
             n => all[r.below(n as u64) as usize].clone(),
         };
+        let has_numbers = slot.has_numbers();
         match r.below(16) {
             0 => any(r, &other.instants),
             1..=3 => {
                 let mut record = any(r, &slot.instants);
-                match r.below(4) {
-                    0 if record.len() > 2 => record[2] = r.pick(&[1, 31, 33]),
-                    1 if record.len() > 6 => {
-                        let cells = (record.len() - 4) / 3;
-                        record[4 + 3 * r.below(cells as u64) as usize] = r.pick(&[3, 255]);
-                    }
-                    _ => damage_bytes(r, &mut record),
-                }
+                damage_record(r, &mut record);
                 record
             }
-            _ => match slot.instants.get(slot.next) {
-                Some(record) => {
-                    slot.next += 1;
-                    record.clone()
+            4 if has_numbers => {
+                let record = any(r, &slot.instants);
+                misnumbered(r, &record, slot.held())
+            }
+            5 if has_numbers && slot.next + 1 < slot.instants.len() => {
+                slot.instants[slot.next + 1].clone()
+            }
+            _ => {
+                if has_numbers {
+                    slot.drive(r);
                 }
-                None => any(r, &slot.instants),
-            },
+                match slot.instants.get(slot.next) {
+                    Some(record) => {
+                        slot.next += 1;
+                        record.clone()
+                    }
+                    None => any(r, &slot.instants),
+                }
+            }
         }
     }
 
-    fn observe(&mut self, slot: &mut Slot, record: &[u8]) {
+    /// Hands over a record; the result that is due.
+    fn observe(&mut self, slot: &mut Slot, record: &[u8]) -> u64 {
         let before = slot.words.clone();
         let result = library::observe(&mut slot.words, record);
         let due = match &mut slot.plain {
@@ -297,6 +383,16 @@ impl Test {
         self.calls += 1;
         self.observed.result(due);
         self.same("lift_observe", slot, result, due);
+        match due & 0xff {
+            0 => {
+                let number = is_numbered(record);
+                self.numbered += number as u64;
+                self.resumed += (number && slot.out_of_step) as u64;
+                slot.out_of_step = false;
+            }
+            19 => slot.out_of_step = true,
+            _ => {}
+        }
         if due & 0xff != 0 {
             self.same(
                 "the words of a refused call",
@@ -305,16 +401,22 @@ impl Test {
                 true,
             );
         }
+        due
     }
 
     /// All calls on a copy of a state with words changed: 11 exactly where the
     /// limits fail. Within them the answer to an instant is free, but the
-    /// state stays within them.
+    /// state stays within them. A numbered record often has the number that
+    /// the changed words want.
     fn damaged(&mut self, r: &mut Xorshift, slot: &Slot, record: &[u8]) {
         let mut slot = slot.clone();
         self.counting += slot.plain.as_ref().is_some_and(|m| m.most()[1] > 0) as u64;
         for _ in 0..r.pick(&[1, 1, 1, 2, 5]) {
             damage_word(r, &mut slot.words);
+        }
+        let mut record = record.to_vec();
+        if is_numbered(&record) && r.once_in(2) {
+            record = numbered((slot.words[3] as u16).wrapping_add(1), &record);
         }
         self.damaged += 1;
         self.calls += 3;
@@ -322,7 +424,7 @@ impl Test {
         let last = library::last(&slot.words);
         let clock = r.below(9) as u8;
         let owing = library::owing(&slot.words, clock);
-        let observed = library::observe(&mut slot.words, record);
+        let observed = library::observe(&mut slot.words, &record);
         let Some(m) = state::read(&before) else {
             self.same(
                 "a damaged state's calls",
@@ -346,10 +448,7 @@ impl Test {
         );
         let owes = (m.owing(clock) as u64) << 16 | count;
         self.same("a changed state's owing", &slot, owing, owes);
-        let number = match plain::instant_number(record, m.clocks as u8) {
-            0 if m.instants == 4000 => 16,
-            n => n as u64,
-        };
+        let number = plain::next_number(&record, m.clocks, m.instants) as u64;
         if number != 0 {
             self.same("a changed state's refusal", &slot, observed, number | count);
             self.same("a changed state", &slot, before == slot.words, true);
@@ -421,6 +520,10 @@ pub fn random(seed: u64, count: u64) -> u64 {
     println!(
         "states copied {}, stored and read back {}, with words changed {}, of these with countdowns {}, within limits {}",
         test.copied, test.stored, test.damaged, test.counting, test.within
+    );
+    println!(
+        "numbered instants taken {}, of these after a 19 {}",
+        test.numbered, test.resumed
     );
     println!(
         "live {seed}: {count} lists, {} calls, {} differences",

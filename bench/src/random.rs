@@ -11,6 +11,14 @@ const EXTREME: [i16; 10] = [-32768, -32767, -257, -256, -1, 0, 1, 256, 257, 3276
 
 type Line = Vec<u8>;
 
+/// Whether the instants of a log have numbers: none, each, or some.
+#[derive(Clone, Copy, PartialEq, Eq)]
+enum Form {
+    Plain,
+    Numbered,
+    Mixed,
+}
+
 /// A sheet and a log, records apart.
 pub struct Input {
     pub clocks: u8,
@@ -235,17 +243,88 @@ fn next_instant(r: &mut Xorshift, tags: &[i16], most: usize, rare: u64) -> Vec<u
     instant(&cells)
 }
 
+/// Half of the logs stay plain; of the others half are numbered throughout,
+/// half have records of both kinds.
+fn number(r: &mut Xorshift, instants: &mut [Vec<u8>]) {
+    if r.once_in(2) {
+        return;
+    }
+    let one_in = r.pick(&[1, 1, 2, 4]);
+    for (held, record) in instants.iter_mut().enumerate() {
+        if r.once_in(one_in) {
+            *record = numbered(held as u16 + 1, record);
+        }
+    }
+}
+
+/// A number that is not the wanted one: of a record too far on or of the one
+/// before, at an end of the scale, with the high byte alone wrong, with the
+/// bytes the other way round, or any.
+pub fn wrong_number(r: &mut Xorshift, wanted: u16) -> u16 {
+    let any = r.below(1 << 16) as u16;
+    let wrong = r.pick(&[
+        wanted + 1,
+        wanted - 1,
+        0,
+        65535,
+        wanted + 256,
+        wanted ^ 256,
+        wanted.swap_bytes(),
+        any,
+    ]);
+    if wrong == wanted {
+        wanted + 256
+    } else {
+        wrong
+    }
+}
+
+/// An instant with a number that is not the wanted one where so many are held;
+/// at times with another fault, which comes first.
+pub fn misnumbered(r: &mut Xorshift, instant: &[u8], held: usize) -> Vec<u8> {
+    let mut wrong = numbered(wrong_number(r, held as u16 + 1), instant);
+    match r.below(16) {
+        0 => {
+            wrong.pop();
+        }
+        1 => wrong[2] = r.pick(&[31, 34]),
+        // A plain instant's kind with a number.
+        2 => wrong[2] = 32,
+        3 | 4 => damage_tick(r, &mut wrong),
+        _ => {}
+    }
+    wrong
+}
+
+/// A tick byte above 2, if there is a cell.
+pub fn damage_tick(r: &mut Xorshift, instant: &mut [u8]) {
+    let any = 3 + r.below(253) as u8;
+    let from = cells_at(instant);
+    let count = (instant.len() - from) as u64 / 3;
+    if count > 0 {
+        instant[from + 3 * r.below(count) as usize] = r.pick(&[3, 255, any]);
+    }
+}
+
 fn is_holding(result: u64) -> bool {
     result >> 8 & 0xff == 3
 }
 
+/// A sheet and a log, short or long, plain or with numbers.
+pub fn input(r: &mut Xorshift) -> Input {
+    let mut v = if r.once_in(1000) {
+        long_input(r)
+    } else {
+        short_input(r)
+    };
+    number(r, &mut v.instants);
+    v
+}
+
 /// Mostly few clocks, small tags and few unseen ticks, so that dues are met or
 /// missed; some near the limits or the ends of the scale, some with eight clocks
-/// unseen, some long.
-pub fn input(r: &mut Xorshift) -> Input {
-    if r.once_in(1000) {
-        return long_input(r);
-    }
+/// unseen.
+fn short_input(r: &mut Xorshift) -> Input {
     let crowded = r.once_in(400);
     let heavy = r.once_in(12);
     let clocks = if crowded {
@@ -369,12 +448,51 @@ impl Input {
         self.instants.len() > 1000
     }
 
+    fn form(&self) -> Form {
+        let numbered = self.instants.iter().filter(|i| is_numbered(i)).count();
+        if numbered == 0 {
+            Form::Plain
+        } else if numbered == self.instants.len() {
+            Form::Numbered
+        } else {
+            Form::Mixed
+        }
+    }
+
+    /// A fault in the numbers of a log: a record dropped, sent again, sent too
+    /// late, or one with a wrong number. In a long log often where the number's
+    /// high byte begins to count, and around 4,000 instants held.
+    fn misnumber(&mut self, r: &mut Xorshift) {
+        let count = self.instants.len();
+        let last = count - 1;
+        let any = r.below(count as u64) as usize;
+        let at = if self.is_long() {
+            r.pick(&[any, 255, 256, 3998, 3999, 4000]).min(last)
+        } else {
+            r.pick(&[any, any, last])
+        };
+        let later = at + 1 + r.below((count - at) as u64) as usize;
+        match r.below(8) {
+            0 => {
+                self.instants.remove(at);
+            }
+            1 => self.instants.insert(later, self.instants[at].clone()),
+            2 => self.instants.swap(at, later.min(last)),
+            _ => self.instants[at] = misnumbered(r, &self.instants[at], at),
+        }
+    }
+
     /// A fault in one record of the sheet or the log, often in the last: there
-    /// it meets the seventeenth line and the instant after 4,000.
+    /// it meets the seventeenth line and the instant after 4,000. Of a log with
+    /// numbers it is often one in these.
     pub fn damage(&mut self, r: &mut Xorshift) {
         let any = r.below(256) as u8;
         let long = self.is_long();
-        let records = if long || r.once_in(2) {
+        if self.form() != Form::Plain && !r.once_in(if long { 4 } else { 2 }) {
+            return self.misnumber(r);
+        }
+        let of_log = long || r.once_in(2);
+        let records = if of_log {
             &mut self.instants
         } else {
             &mut self.lines
@@ -389,7 +507,8 @@ impl Input {
         };
         let record = &mut records[which];
         match r.below(10) {
-            // Kind.
+            // Kind; one of an instant with the other's length among them.
+            0 if of_log => record[2] = r.pick(&[1, 16, 31, 32, 33, 34, any]),
             0 => {
                 record[2] = r.pick(&[
                     0, 1, 15, 16, 17, 18, 19, 20, 21, 22, 23, 24, 25, 32, 33, any,
@@ -417,15 +536,12 @@ impl Input {
                     record[4 + r.below(3) as usize] = self.clocks;
                 }
             }
-            // A clock of a line, a tick byte of an instant.
+            // A tick byte of an instant, a clock of a line.
+            _ if of_log => damage_tick(r, record),
             _ => {
                 let body = record.len() - 4;
-                let at = if record[2] == 32 {
-                    3 * r.below(body as u64 / 3)
-                } else {
-                    r.below(3)
-                };
-                record[4 + at as usize % body] = r.pick(&[3, self.clocks, 255, any]);
+                let at = r.below(3) as usize % body;
+                record[4 + at] = r.pick(&[3, self.clocks, 255, any]);
             }
         }
     }
@@ -465,7 +581,7 @@ pub fn damage_head(r: &mut Xorshift, sheet: &mut Vec<u8>) {
 /// How often each outcome of a call was seen.
 #[derive(Default)]
 pub struct Seen {
-    pub numbers: [u64; 19],
+    pub numbers: [u64; 20],
     exhausted: u64,
     broken: u64,
     clear: u64,
@@ -567,6 +683,8 @@ pub fn hex(bytes: &[u8]) -> String {
 
 struct Test {
     differences: u64,
+    /// Logs by their form, before a fault.
+    forms: [u64; 3],
     judged: Seen,
     room: Room,
     watched: Seen,
@@ -600,6 +718,8 @@ impl Test {
 
     fn run(&mut self, r: &mut Xorshift, index: u64) {
         let mut v = input(r);
+        self.forms[v.form() as usize] += 1;
+        let first = v.instants.first().map_or(0, Vec::len);
         let damaged = r.once_in(if v.is_long() { 2 } else { 3 });
         if damaged && (v.is_long() || r.once_in(2)) {
             v.damage(r);
@@ -678,25 +798,32 @@ impl Test {
             number,
         );
 
-        // A record of the log, the whole log, or a part of it.
-        let record: &[u8] = match r.below(8) {
-            0 => &log,
-            1 => &log[..r.below(log.len() as u64 + 1) as usize],
-            _ => &log[..log.len().min(4 + 3 * v.clocks as usize)],
+        // A record of the log, the whole log, or a part of it. Read alone, a
+        // record may have any number.
+        let end = match r.below(8) {
+            0 => log.len(),
+            1 => r.below(log.len() as u64 + 1) as usize,
+            _ => log.len().min(first),
         };
+        let mut record = log[..end].to_vec();
+        if is_numbered(&record) && record.len() >= 6 && r.once_in(2) {
+            let any = r.below(1 << 16) as u16;
+            let number: u16 = r.pick(&[0, 1, 4000, 4001, 65535, any]);
+            record[4..6].copy_from_slice(&number.to_le_bytes());
+        }
         let clocks = if r.once_in(6) {
             r.below(11) as u8
         } else {
             v.clocks
         };
-        let number = plain::instant_number(record, clocks);
+        let number = plain::instant_number(&record, clocks);
         self.instants.number(number as u64);
         self.compare(
             "lift_instant_number",
             index,
             &[],
-            record,
-            library::instant_number(record, clocks),
+            &record,
+            library::instant_number(&record, clocks),
             number,
         );
     }
@@ -706,6 +833,7 @@ impl Test {
 pub fn random(seed: u64, count: u64) -> u64 {
     let mut test = Test {
         differences: 0,
+        forms: [0; 3],
         judged: Seen::default(),
         room: Room::default(),
         watched: Seen::default(),
@@ -735,6 +863,8 @@ pub fn random(seed: u64, count: u64) -> u64 {
         &format!("taken {}", test.instants.numbers[0]),
     );
     test.room.print();
+    let [plain, numbered, mixed] = test.forms;
+    println!("logs plain {plain}, numbered {numbered}, mixed {mixed}");
     println!(
         "random {seed}: {count} sheets and logs, {} differences",
         test.differences

@@ -61,7 +61,18 @@ fn number_of(held: u64, most: u64, d: [u64; 48]) -> u64 {
     }
 }
 
-// A number that is not the next, by what became of it.
+// Whether a number is the next of the list.
+fn is_next(n: u64, held: u64, most: u64) -> bool {
+    if most < n {
+        return false;
+    }
+    if n <= held {
+        return false;
+    }
+    n - held == 1
+}
+
+// Counts a number, by whether it is the next of the list, held already, too early, or of no record of it.
 fn with_place(t: [u64; PLACES], n: u64, held: u64, most: u64) -> [u64; PLACES] {
     if n == 0 {
         return count(t, tally::NO_NUMBER);
@@ -69,31 +80,37 @@ fn with_place(t: [u64; PLACES], n: u64, held: u64, most: u64) -> [u64; PLACES] {
     if most < n {
         return count(t, tally::NO_NUMBER);
     }
-    if held < n {
-        return count(t, tally::EARLY_NUMBER);
+    if n <= held {
+        return count(t, tally::REPEATED_NUMBER);
     }
-    count(t, tally::REPEATED_NUMBER)
+    if is_next(n, held, most) {
+        return count(t, tally::NUMBERED);
+    }
+    count(t, tally::EARLY_NUMBER)
+}
+
+// A trial with what is counted of a number.
+fn with_number_told(t: Trial, n: u64, most: u64) -> Trial {
+    let run = t.run;
+    let told = t.tally;
+    let more = with_place(told, n, run.count as u64, most);
+    let mut next = t;
+    next.tally = more;
+    next
 }
 
 // Sends the record with a number: it is taken if it is the next of the list.
 fn send(t: Trial, all: Run, n: u64) -> Trial {
     let sheet = t.sheet;
     let run = t.run;
-    let v = instant_of(all, n);
     let held = run.count as u64;
     let most = all.count as u64;
-    if held < most {
-        if n == held + 1 {
-            let mut next = t;
-            let told = next.tally;
-            next.tally = count(told, tally::NUMBERED);
-            return taken(next, with_number(v, n));
-        }
+    let v = instant_of(all, n);
+    let told = with_number_told(t, n, most);
+    if is_next(n, held, most) {
+        return taken(told, with_number(v, n));
     }
-    let mut next = t;
-    let told = next.tally;
-    next.tally = with_place(told, n, held, most);
-    refused(next, out_of_turn(v, sheet.clocks, n))
+    refused(told, out_of_turn(v, sheet.clocks, n))
 }
 
 // One record more.

@@ -212,34 +212,42 @@ pub fn taken(t: Trial, v: Instant) -> Trial {
     answered(t, with_instant(run, v), g, others)
 }
 
-// Hands a record over that is due a refusal; the case goes on with the monitor given back.
-pub fn refused(t: Trial, r: Record) -> Trial {
+// What is counted of a call that is due a refusal, the others having been called too.
+fn refusal_counted(t: [u64; PLACES], others: Others, reply: Reply, due: u8) -> [u64; PLACES] {
+    let t = both_counted(t, others);
+    let t = count_if(due == number::NOT_NEXT, t, tally::BY_NUMBER);
+    if is_refused(reply, due) {
+        return count(t, tally::REFUSED);
+    }
+    count(t, tally::DIFFERENT)
+}
+
+// Hands bytes over that are due a refusal by a number; the case goes on with the monitor given back.
+fn refused_by(t: Trial, bytes: &[u8], due: u8) -> Trial {
     let sheet = t.sheet;
     let run = t.run;
     let answer = t.answer;
     let told = t.tally;
     let before = t.monitor;
     let others = t.others;
-    let due = r.refusal;
-    let bytes = r.bytes;
-    let g = observe(before, front(&bytes, r.len));
+    let g = observe(before, bytes);
     let monitor = g.monitor;
     let reply = g.reply;
-    let others = both_next(others, front(&bytes, r.len), reply);
-    let told = count_if(due == number::NOT_NEXT, told, tally::BY_NUMBER);
-    let at = if is_refused(reply, due) {
-        tally::REFUSED
-    } else {
-        tally::DIFFERENT
-    };
+    let others = both_next(others, bytes, reply);
     Trial {
         sheet,
         run,
         monitor,
         others,
         answer,
-        tally: count(both_counted(told, others), at),
+        tally: refusal_counted(told, others, reply, due),
     }
+}
+
+// Hands a record over that is due a refusal.
+pub fn refused(t: Trial, r: Record) -> Trial {
+    let bytes = r.bytes;
+    refused_by(t, front(&bytes, r.len), r.refusal)
 }
 
 // Opens a sheet with its lines out of order, which is refused.

@@ -1,0 +1,16 @@
+-- `trials::driver::case` is safe and ends: each turn leaves one record less to send. Assumes nothing.
+use borrow.Author.Needs.{needs}
+use Prim.Native.Nat.{_-_}
+use Rattle.trials.proofs.driver.case.Statement.{statement}
+use Rattle.trials.proofs.driver.case.Tie as tie
+
+abbrev Inv-loop : tie.InvT-loop
+Inv-loop number from all s₀ i₀ s i = Unit
+
+abbrev μ-loop : tie.MeasureT-loop
+μ-loop number from all s₀ i₀ s i = 24 - i
+
+pub case-spec : {M : Type 1} → statement M
+case-spec =
+    tie.close (tie.spec Inv-loop μ-loop (λ c κs. search needs) (λ c κs. search needs) (λ c κs. search needs) (λ c κs. search needs) (λ c. search needs)
+    (λ c κs. search needs) (λ c. search needs) (λ c. search needs) (λ c. search needs) (λ c κs. search needs) (λ c. search needs))
