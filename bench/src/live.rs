@@ -1,6 +1,7 @@
 //! The differential test of the live calls: random lists of calls on states
 //! that are opened, reopened, copied, stored and damaged, beside plain
-//! monitors that go through the same.
+//! monitors that go through the same. Of a log with numbers the records are
+//! dropped, repeated, handed over too early and sent again.
 use crate::bytes::{is_numbered, numbered, unnumbered};
 use crate::random::{damage_bytes, damage_head, damage_tick, misnumbered, wrong_number};
 use crate::random::{hex, input, Input, Room, Seen};

@@ -12,7 +12,6 @@ const EXTREME: [i16; 10] = [-32768, -32767, -257, -256, -1, 0, 1, 256, 257, 3276
 type Line = Vec<u8>;
 
 /// Whether the instants of a log have numbers: none, each, or some.
-#[derive(Clone, Copy, PartialEq, Eq)]
 enum Form {
     Plain,
     Numbered,
@@ -245,7 +244,7 @@ fn next_instant(r: &mut Xorshift, tags: &[i16], most: usize, rare: u64) -> Vec<u
 
 /// Half of the logs stay plain; of the others half are numbered throughout,
 /// half have records of both kinds.
-fn number(r: &mut Xorshift, instants: &mut [Vec<u8>]) {
+fn give_numbers(r: &mut Xorshift, instants: &mut [Vec<u8>]) {
     if r.once_in(2) {
         return;
     }
@@ -317,7 +316,7 @@ pub fn input(r: &mut Xorshift) -> Input {
     } else {
         short_input(r)
     };
-    number(r, &mut v.instants);
+    give_numbers(r, &mut v.instants);
     v
 }
 
@@ -459,38 +458,38 @@ impl Input {
         }
     }
 
-    /// A fault in the numbers of a log: a record dropped, sent again, sent too
-    /// late, or one with a wrong number. In a long log often where the number's
-    /// high byte begins to count, and around 4,000 instants held.
+    /// A fault in the numbers of a log: a record with a wrong one, dropped, sent
+    /// again or sent late. In a long log it is a wrong number, often where the
+    /// high byte begins to count or with 3,999 or 4,000 instants held.
     fn misnumber(&mut self, r: &mut Xorshift) {
         let count = self.instants.len();
-        let last = count - 1;
+        let Some(last) = count.checked_sub(1) else {
+            return;
+        };
+        let long = self.is_long();
         let any = r.below(count as u64) as usize;
-        let at = if self.is_long() {
-            r.pick(&[any, 255, 256, 3998, 3999, 4000]).min(last)
+        let at = if long {
+            r.pick(&[any, 255, 256, 3999, 3999, 4000, 4000, 4000, 4000])
+                .min(last)
         } else {
             r.pick(&[any, any, last])
         };
         let later = at + 1 + r.below((count - at) as u64) as usize;
         match r.below(8) {
-            0 => {
+            0 if !long => {
                 self.instants.remove(at);
             }
-            1 => self.instants.insert(later, self.instants[at].clone()),
-            2 => self.instants.swap(at, later.min(last)),
+            1 if !long => self.instants.insert(later, self.instants[at].clone()),
+            2 if !long => self.instants.swap(at, later.min(last)),
             _ => self.instants[at] = misnumbered(r, &self.instants[at], at),
         }
     }
 
     /// A fault in one record of the sheet or the log, often in the last: there
-    /// it meets the seventeenth line and the instant after 4,000. Of a log with
-    /// numbers it is often one in these.
+    /// it meets the seventeenth line and the instant after 4,000.
     pub fn damage(&mut self, r: &mut Xorshift) {
         let any = r.below(256) as u8;
         let long = self.is_long();
-        if self.form() != Form::Plain && !r.once_in(if long { 4 } else { 2 }) {
-            return self.misnumber(r);
-        }
         let of_log = long || r.once_in(2);
         let records = if of_log {
             &mut self.instants
@@ -719,6 +718,9 @@ impl Test {
     fn run(&mut self, r: &mut Xorshift, index: u64) {
         let mut v = input(r);
         self.forms[v.form() as usize] += 1;
+        if r.once_in(if v.is_long() { 2 } else { 8 }) {
+            v.misnumber(r);
+        }
         let first = v.instants.first().map_or(0, Vec::len);
         let damaged = r.once_in(if v.is_long() { 2 } else { 3 });
         if damaged && (v.is_long() || r.once_in(2)) {

@@ -87,8 +87,8 @@ fn byte_more(state: &mut [u32; STATE_WORDS]) {
 
 // Whole records that are no instants of two clocks.
 fn wrong_kind(state: &mut [u32; STATE_WORDS]) {
-    let r = b"\x06\x00\x21\x00\x02\xfe\xff\x00\x00\x00";
-    observe(state, b"observe, kind 33", r);
+    let r = b"\x06\x00\x1f\x00\x02\xfe\xff\x00\x00\x00";
+    observe(state, b"observe, kind 31", r);
 }
 
 fn one_clock(state: &mut [u32; STATE_WORDS]) {

@@ -5,6 +5,7 @@ mod countdowns;
 mod full;
 mod listing;
 mod long_delay;
+mod numbered;
 mod place;
 mod reopened;
 mod row;
@@ -16,6 +17,7 @@ mod text;
 fn main() {
     listing::plain();
     listing::with_refusals();
+    numbered::all();
     long_delay::ticks();
     long_delay::unseen_ticks();
     long_delay::restarted();

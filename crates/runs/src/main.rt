@@ -42,7 +42,11 @@ const SHEET_SORTED: usize = 19;
 
 const SHEET_SEVENTEEN: usize = 20;
 
-const NOT_NAMED: usize = 21;
+const LOG_MIXED: usize = 21;
+
+const LOG_SKIPPED: usize = 22;
+
+const NOT_NAMED: usize = 23;
 
 fn heading(program: &[u8], case: &[u8]) {
     io::write_all(STDOUT_FILENO, program);
@@ -78,17 +82,31 @@ fn main() {
     );
     both(b"the fifth record's body torn", SHEET, LOG_TORN_BODY);
     both(b"three bytes after the fifth record", SHEET, LOG_TORN_HEAD);
-    both(b"the third record of kind 33", SHEET, LOG_KIND);
+    both(b"the third record of kind 31", SHEET, LOG_KIND);
     both(b"the third record for three clocks", SHEET, LOG_LENGTH);
     both(
         b"a tick byte 3 in the third record's second clock",
         SHEET,
         LOG_TICK,
     );
+    both(
+        b"the listing, its first, third and fifth record numbered",
+        SHEET,
+        LOG_MIXED,
+    );
+    both(
+        b"the third record numbered 4, the first being numbered 1 and the second plain",
+        SHEET,
+        LOG_SKIPPED,
+    );
     both(b"L9", SHEET_100, LOG_NINE);
     both(b"twelve instants of eight clocks", SHEET_EIGHT, LOG_TWELVE);
     both(b"4,000 instants of eight clocks", SHEET_EIGHT, LOG_4000);
-    both(b"4,001 instants of eight clocks", SHEET_EIGHT, LOG_4001);
+    both(
+        b"4,001 numbered instants of eight clocks, the last numbered 1",
+        SHEET_EIGHT,
+        LOG_4001,
+    );
     both(b"a sheet out of order", SHEET_UNSORTED, LOG);
     sorted(b"a sheet out of order, with repeats", SHEET_UNSORTED);
     sorted(b"the same sorted", SHEET_SORTED);

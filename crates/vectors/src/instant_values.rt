@@ -5,6 +5,7 @@ use crate::room::outcome;
 use crate::text::case;
 use crate::text::end;
 use crate::text::heading;
+use records::form::Form;
 use records::instant::Instant;
 use records::instant::Tick;
 use records::instant::TickSlot;
@@ -15,18 +16,34 @@ ghost use Prim.Native.Nat.{_≤_, _<_};
 fn instant_of(tick: Tick, tag: i16) -> Instant {
     let ticks = [TickSlot { tick }; 8];
     let tags = [tag; 8];
-    Instant { ticks, tags }
+    Instant {
+        form: Form::Plain,
+        ticks,
+        tags,
+    }
 }
 
 // An instant with another tick and tag at a clock.
 fn with_clock(v: Instant, at: usize, tick: Tick, tag: i16) -> Instant
     requires { ⌜ at < 8 ⌝ }
 {
+    let form = v.form;
     let mut ticks = v.ticks;
     let mut tags = v.tags;
     ticks[at] = TickSlot { tick };
     tags[at] = tag;
-    Instant { ticks, tags }
+    Instant { form, ticks, tags }
+}
+
+// An instant with a number.
+fn with_number(v: Instant, n: u16) -> Instant {
+    let ticks = v.ticks;
+    let tags = v.tags;
+    Instant {
+        form: Form::Numbered(n),
+        ticks,
+        tags,
+    }
 }
 
 // Writes an instant into the first `size` bytes of the room.
@@ -78,6 +95,24 @@ fn sizes() {
     write_case(b"C = 0 and no room", first(), 0, 0);
 }
 
+fn numbers() {
+    heading(b"Instant values to write: numbered");
+    write_case(b"listing 1, number 1", with_number(first(), 1), 2, 192);
+    write_case(b"just room", with_number(first(), 1), 2, 12);
+    write_case(b"room a byte short", with_number(first(), 1), 2, 11);
+    write_case(b"number 0", with_number(first(), 0), 1, 192);
+    write_case(b"number 4,000", with_number(first(), 4000), 1, 192);
+    write_case(b"number 65,535", with_number(first(), 65535), 1, 192);
+    let eight = with_number(eight_clocks(), 513);
+    write_case(b"C = 8, number 513, just room", eight, 8, 30);
+    write_case(b"C = 8, room for a plain one", eight, 8, 28);
+    write_case(b"C = 0", eight, 0, 192);
+    write_case(b"C = 9", eight, 9, 192);
+    let one = with_number(first(), 1);
+    both_case(b"numbers 1 and 257", one, with_number(first(), 257), 2);
+    both_case(b"plain and numbered 1", first(), one, 2);
+}
+
 fn unused() {
     heading(b"Instant values to write: unused places");
     let other = with_clock(first(), 2, Tick::Unseen, 5);
@@ -90,5 +125,6 @@ fn unused() {
 
 pub fn all() {
     sizes();
+    numbers();
     unused();
 }

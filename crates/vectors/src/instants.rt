@@ -9,7 +9,10 @@ use crate::text::refused;
 use crate::text::say;
 use crate::text::tag;
 use crate::text::wide;
+use crate::text::word;
+use records::form::Form;
 use records::instant::Instant;
+use records::instant::InstantRead;
 use records::instant::Tick;
 use records::instant::read_instant;
 use records::instant::write_instant;
@@ -47,18 +50,29 @@ fn clocks_of(v: Instant, clocks: usize) {
     }
 }
 
+// The number of a numbered instant.
+fn number_of(v: Instant) {
+    let form = v.form;
+    match form {
+        Form::Plain => {}
+        Form::Numbered(n) => {
+            say(b", number ");
+            word(n);
+        }
+    }
+}
+
 fn taken(v: Instant, shown: usize, bytes: &[u8], clocks: u8) {
     say(b"taken");
+    number_of(v);
     clocks_of(v, shown);
     let mut room = marked();
     let written = write_instant(v, clocks, &mut room);
     written_back(written, room, bytes);
 }
 
-// Reads an instant of a clock count, shows as many clocks as told, and writes it back.
-fn shown_case(name: &[u8], bytes: &[u8], clocks: u8, shown: usize) {
-    case(name);
-    let r = read_instant(bytes, clocks);
+// What was read: the number of a refusal, or the instant, with as many clocks as told, written back.
+pub fn outcome(r: InstantRead, shown: usize, bytes: &[u8], clocks: u8) {
     let answer = r.answer;
     let instant = r.instant;
     match answer {
@@ -66,6 +80,12 @@ fn shown_case(name: &[u8], bytes: &[u8], clocks: u8, shown: usize) {
         Decision::Done => taken(instant, shown, bytes, clocks),
     }
     end();
+}
+
+// Reads an instant of a clock count, shows as many clocks as told, and writes it back.
+fn shown_case(name: &[u8], bytes: &[u8], clocks: u8, shown: usize) {
+    case(name);
+    outcome(read_instant(bytes, clocks), shown, bytes, clocks);
 }
 
 pub fn read_case(name: &[u8], bytes: &[u8], clocks: u8) {
@@ -132,7 +152,7 @@ fn one_record() {
 fn kinds() {
     heading(b"Instants to read: kind, length, tick bytes");
     read_case(b"kind 31", b"\x03\x00\x1F\x00\x00\x00\x00", 1);
-    read_case(b"kind 33", b"\x03\x00\x21\x00\x00\x00\x00", 1);
+    read_case(b"kind 34", b"\x03\x00\x22\x00\x00\x00\x00", 1);
     read_case(b"kind 288", b"\x03\x00\x20\x01\x00\x00\x00", 1);
     read_case(b"a clocks record", b"\x01\x00\x01\x00\x01", 1);
     read_case(b"kind 31, wrong length", b"\x00\x00\x1F\x00", 1);

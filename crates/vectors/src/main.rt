@@ -3,6 +3,7 @@ mod counting;
 mod instant_values;
 mod instants;
 mod long;
+mod numbered;
 mod order_table;
 mod places;
 mod room;
@@ -34,6 +35,7 @@ fn main() {
     sorting::all();
     counting::all();
     instants::all();
+    numbered::all();
     instant_values::all();
     long::all();
 }

@@ -8,7 +8,7 @@ abbrev Inv-loop : tie.InvT-loop
 Inv-loop t n₀ t3 t4 t5 n = Unit
 
 abbrev μ-loop : tie.MeasureT-loop
-μ-loop t n₀ t3 t4 t5 n = 19 - n
+μ-loop t n₀ t3 t4 t5 n = 20 - n
 
 loop-holds : tie.Need-loop-holds Inv-loop μ-loop
 loop-holds c = search needs
