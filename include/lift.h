@@ -4,10 +4,11 @@
  * Sheets, logs, instants and refusal numbers are document 01's; with document
  * 02 the lines of a sheet stand in rising order (17), in which the program
  * sort writes them, kind 24 is a delay counted in ticks, whose count is not 0
- * (18), and a delay that would be due past the greatest tag, 32,767, owes
- * nothing. There are two ways to use it: live, instant by instant, with a
- * state that the caller lends, and over a whole log. Every call takes every
- * input.
+ * (18), a delay that would be due past the greatest tag, 32,767, owes
+ * nothing, and an instant may have its number (kind 33), which is one above
+ * the instants held (19). There are two ways to use it: live, instant by
+ * instant, with a state that the caller lends, and over a whole log. Every
+ * call takes every input.
  *
  * The library keeps nothing between calls, takes no heap and writes nowhere
  * but into the state or the buffer that it is lent. Of stack, lift_observe
@@ -43,6 +44,9 @@ extern "C" {
 
 /* The refusal number of a state that is no monitor within its limits. */
 #define LIFT_NO_MONITOR 11
+
+/* The refusal number of a numbered instant that is not the next. */
+#define LIFT_NOT_NEXT 19
 
 /* Bytes that lift_watch writes for an instant: answer, live, clear. */
 #define LIFT_ENTRY 3
@@ -97,10 +101,16 @@ uint64_t lift_open(const uint8_t *sheet, size_t sheet_len, lift_state *state);
  * Takes an instant's record: the answer, and in lift_count the instants held,
  * this one included. The state is then the monitor after it.
  *
- * Refused are a state (11, LIFT_NO_MONITOR), a record (12 to 15) and an
- * instant after LIFT_INSTANTS (16), the first of these that applies:
- * lift_count is the instants held, 0 beside 11, the other bits are 0, and no
- * word of the state changes, so that the lift goes on with the next record.
+ * Refused are a state (11, LIFT_NO_MONITOR), a record (12 to 15), an instant
+ * after LIFT_INSTANTS (16) and a number that is not one above the instants
+ * held (19, LIFT_NOT_NEXT), the first of these that applies: lift_count is
+ * the instants held, 0 beside 11, the other bits are 0, and no word of the
+ * state changes, so that the lift goes on with the next record.
+ *
+ * 19: the record is held already if its number is at most lift_count, and may
+ * be thrown away; else those from lift_count + 1 on are missing, and every
+ * later one gets 19 until they are handed over. A plain record (kind 32) has
+ * no number and never gets 19: it is taken for the next instant.
  *
  * 11: the words are no monitor within its limits. The first word is another,
  * or the kind of a line, the side in use or the case of the answer is no such
@@ -132,7 +142,7 @@ uint64_t lift_owing(const lift_state *state, uint8_t clock);
  * Judges a sheet and a whole log: the last answer, and the instants taken.
  * For an empty log the answer is that of opening the sheet. Refused are a
  * sheet (1 to 9, 17, 18, no instant taken) and a record of the log (12 to 16,
- * the instants before it taken); the earliest fault decides.
+ * 19, the instants before it taken); the earliest fault decides.
  */
 uint64_t lift_judge(const uint8_t *sheet, size_t sheet_len,
                     const uint8_t *log, size_t log_len);
@@ -169,7 +179,8 @@ uint8_t lift_sheet_number(const uint8_t *sheet, size_t sheet_len);
 
 /*
  * The refusal number of an instant's record read for this count of clocks:
- * 4 if the count is not 1 to 8, else 12 to 15; 0: it is taken.
+ * 4 if the count is not 1 to 8, else 12 to 15; 0: it is taken. A record read
+ * alone may have every number: 19 is never among these.
  */
 uint8_t lift_instant_number(const uint8_t *record, size_t record_len,
                             uint8_t clocks);

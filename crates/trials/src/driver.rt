@@ -21,7 +21,7 @@ use records::instant::Instant;
 const CASES: u64 = 4000;
 
 // How many records are sent in a case.
-const SENDS: usize = 24;
+const SENDS: usize = 16;
 
 // The last number drawn, and a case under way.
 struct Sending {

@@ -8,7 +8,7 @@ abbrev Inv-loop : tie.InvT-loop
 Inv-loop number from all s₀ i₀ s i = Unit
 
 abbrev μ-loop : tie.MeasureT-loop
-μ-loop number from all s₀ i₀ s i = 24 - i
+μ-loop number from all s₀ i₀ s i = 16 - i
 
 pub case-spec : {M : Type 1} → statement M
 case-spec =
