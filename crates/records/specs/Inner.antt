@@ -23,7 +23,7 @@ use Rattle.records.specs.Lists.{listed}
 use Rattle.records.specs.Line.{isLine, isSporadic, lengthOf, valueLineChecks, kindOf, bodyOf}
 use Rattle.records.specs.Order.{above, keyOf, aboveLast}
 use Rattle.records.specs.Sheet.{SheetValue, lineIn, slotOf, lineAt, sheetValue, sheetOf, orderChecks, linesChecks, valueLinesChecks, sheetValueChecks}
-use Rattle.records.specs.Instant.{InstantValue, rawCells, tickAbove, cellOf, isInstant, numberLength, instantChecks, valueIn, tickSlot}
+use Rattle.records.specs.Instant.{InstantValue, rawCells, tickAbove, cellOf, isInstantKind, numberLength, instantChecks, valueIn, tickSlot}
 use Rattle.records.specs.Sort.{Sorted}
 use Rattle.records.specs.Types.{All, IsLineValue, IsSheet}
 
@@ -71,7 +71,7 @@ pub record LinesChecked (order : Order) (s : Sheet) (r : Decision) : Type 0 wher
 
 -- what the kinds of instants say
 abbrev pub formShapeOf : ℕ → FormShape
-formShapeOf kind = record { instant = isInstant kind; before = numberLength kind }
+formShapeOf kind = record { instant = isInstantKind kind; before = numberLength kind }
 
 -- the instant of a form with the clocks of these bytes, or 15
 unfoldable pub cellsRead : Form → List ℕ → Outcome InstantValue

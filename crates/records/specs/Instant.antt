@@ -63,8 +63,8 @@ abbrev pub cellOf : RawCell → Cell
 cellOf c = record { tick = tickOf (c .tick); tag = tagOf (c .word) }
 
 -- the kinds of an instant: 32, plain, and 33, numbered
-abbrev pub isInstant : ℕ → Bool
-isInstant kind = eqb kind 32 || eqb kind 33
+abbrev pub isInstantKind : ℕ → Bool
+isInstantKind kind = eqb kind 32 || eqb kind 33
 
 -- how many bytes of a body precede the clocks: none, or the two of the number
 abbrev pub numberLength : ℕ → ℕ
@@ -81,7 +81,7 @@ clocksPart kind body = drop (numberLength kind) body
 abbrev pub instantChecks : ℕ → Piece → List Check
 instantChecks c torn = (true ⇒ 12) ∷ []
 instantChecks c (whole kind body) =
-    (not (isInstant kind) ⇒ 13)
+    (not (isInstantKind kind) ⇒ 13)
     ∷ (not (eqb (length body) (3 * c + numberLength kind)) ⇒ 14)
     ∷ (tickAbove (rawCells (clocksPart kind body)) ⇒ 15)
     ∷ []

@@ -17,6 +17,7 @@ isNext held (Numbered n) = eqb n (suc held)
 abbrev pub nextChecks : ℕ → Form → List Check
 nextChecks held form = (leb 4000 held ⇒ 16) ∷ (not (isNext held form) ⇒ 19) ∷ []
 
+-- what was read, if it is the next
 abbrev pub ifNext : ℕ → Outcome InstantValue → Outcome InstantValue
 ifNext held (refused n) = refused n
 ifNext held (taken v) = decide (nextChecks held (v .form)) v

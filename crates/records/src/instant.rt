@@ -39,9 +39,9 @@ pub struct TickSlot {
 pub struct Instant {
     // How its record is written; what is judged are the ticks and tags.
     pub form: Form,
-    // The ticks of the clocks, idle from the clock count on.
+    // The ticks of the clocks; those from the clock count on are unused, and idle where an instant was read.
     pub ticks: [TickSlot; 8],
-    // Their tags, 0 from the clock count on.
+    // Their tags; those unused are 0 where an instant was read.
     pub tags: [i16; 8],
 }
 

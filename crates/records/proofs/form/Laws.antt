@@ -9,13 +9,13 @@ use lib.Dec.{eqb}
 use borrow.Author.Tests.{eqb-true}
 use Rattle.records.specs.declared.form.Form.{Form}
 use Rattle.records.specs.declared.form.Form.the-variants.{Plain, Numbered}
-use Rattle.records.specs.Instant.{isInstant, numberLength, formOf, clocksPart, formKind, numberBytes}
+use Rattle.records.specs.Instant.{isInstantKind, numberLength, formOf, clocksPart, formKind, numberBytes}
 use Rattle.records.specs.Types.{IsBytes, IsForm}
 use Rattle.records.proofs.word.Inverse.{word-back, word-range, word-bytes}
 
 -- ---- written, then read
 
-pub kind-known : (form : Form) → isInstant (formKind form) ≡ true
+pub kind-known : (form : Form) → isInstantKind (formKind form) ≡ true
 kind-known Plain = refl
 kind-known (Numbered n) = refl
 
@@ -50,7 +50,7 @@ data Kinds (kind : ℕ) : Type 0 where
   plain : kind ≡ 32 → Kinds kind
   numbered : kind ≡ 33 → Kinds kind
 
-kinds : (kind : ℕ) → isInstant kind ≡ true → Kinds kind
+kinds : (kind : ℕ) → isInstantKind kind ≡ true → Kinds kind
 kinds kind h = by-test (eqb kind 32) refl h
   where
     by-test : (t : Bool) → eqb kind 32 ≡ t → (t || eqb kind 33) ≡ true → Kinds kind
@@ -68,7 +68,7 @@ numbered-read [] h l = absurd (omega arith)
 numbered-read (low ∷ []) h l = absurd (omega arith)
 numbered-read (low ∷ high ∷ body) h l = record { same = refl; before = ap (λ (b : List ℕ). b ++ body) (word-bytes (h .0) (h .1 .0)); value = word-range (h .0) (h .1 .0) }
 
-pub form-read : (kind : ℕ) (body : List ℕ) → IsBytes body → isInstant kind ≡ true → numberLength kind ≤ length body → FormRead kind body
+pub form-read : (kind : ℕ) (body : List ℕ) → IsBytes body → isInstantKind kind ≡ true → numberLength kind ≤ length body → FormRead kind body
 form-read kind body h k l = by-kind (kinds kind k)
   where
     by-kind : Kinds kind → FormRead kind body

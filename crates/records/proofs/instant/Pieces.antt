@@ -11,7 +11,7 @@ use Rattle.records.specs.declared.instant.Tick.{Tick}
 use Rattle.records.specs.declared.instant.Tick.the-variants.{Idle, Ticks, Unseen}
 use Rattle.records.specs.Lists.{joined}
 use Rattle.records.specs.Record.{Piece, whole, torn, pieces, recordBytes}
-use Rattle.records.specs.Instant.{Cell, InstantValue, tickOf, tickByte, rawCells, tickAbove, cellOf, isInstant, numberLength, clocksPart, oneInstantChecks, instantIn, formKind, numberBytes, cellsBytes, instantBytes}
+use Rattle.records.specs.Instant.{Cell, InstantValue, tickOf, tickByte, rawCells, tickAbove, cellOf, isInstantKind, numberLength, clocksPart, oneInstantChecks, instantIn, formKind, numberBytes, cellsBytes, instantBytes}
 use Rattle.records.specs.Types.{All, IsByte, IsBytes, IsInstant, IsInstantValue}
 use Rattle.records.proofs.Lists.{Passed, neither, all-drop}
 use Rattle.records.proofs.word.Inverse.{tag-back, tag-bytes, tag-range, word-range}
@@ -114,6 +114,6 @@ instant-taken c (torn ∷ []) d h = absurd (true≢false (h .0))
 instant-taken c (p ∷ q ∷ ps) d h = absurd (true≢false (h .0))
 instant-taken c (whole kind body ∷ []) d h =
     let n = eqb-true (length body) (3 * c + numberLength kind) (not-false (eqb (length body) (3 * c + numberLength kind)) (h .1 .0)) in
-    let f = form-read kind body (d .0) (not-false (isInstant kind) (h .0)) (omega arith) in
+    let f = form-read kind body (d .0) (not-false (isInstantKind kind) (h .0)) (omega arith) in
     let r = cells-read c (clocksPart kind body) (all-drop IsByte (numberLength kind) body (d .0)) (omega (arith, length-drop (numberLength kind) body)) (h .1 .1 .0) in
     record { same = rw (f .same, r .bytes, f .before); value = (f .value, r .values); size = r .size }
