@@ -3,3 +3,4 @@ pub mod Laws
 pub mod Pieces
 pub mod Read
 pub mod RoundTrip
+pub mod Stored

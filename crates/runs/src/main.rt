@@ -68,6 +68,20 @@ fn sorted(case: &[u8], sheet: usize) {
     io::write_all(STDOUT_FILENO, b"\n");
 }
 
+// Logs of plain and numbered instants.
+fn numbered() {
+    both(
+        b"the listing, its first, third and fifth record numbered",
+        SHEET,
+        LOG_MIXED,
+    );
+    both(
+        b"the third record numbered 4, the first being numbered 1 and the second plain",
+        SHEET,
+        LOG_SKIPPED,
+    );
+}
+
 fn main() {
     both(b"document 01's listing", SHEET, LOG);
     both(b"an empty log", SHEET, EMPTY);
@@ -89,16 +103,7 @@ fn main() {
         SHEET,
         LOG_TICK,
     );
-    both(
-        b"the listing, its first, third and fifth record numbered",
-        SHEET,
-        LOG_MIXED,
-    );
-    both(
-        b"the third record numbered 4, the first being numbered 1 and the second plain",
-        SHEET,
-        LOG_SKIPPED,
-    );
+    numbered();
     both(b"L9", SHEET_100, LOG_NINE);
     both(b"twelve instants of eight clocks", SHEET_EIGHT, LOG_TWELVE);
     both(b"4,000 instants of eight clocks", SHEET_EIGHT, LOG_4000);

@@ -11,7 +11,6 @@ use Rattle.records.specs.Sheet.{SheetValue}
 use Rattle.records.specs.Instant.{InstantValue}
 use Rattle.records.proofs.Lists.{taken-same}
 use Rattle.tesl.specs.Run.{Instant}
-use Rattle.tesl.specs.Answer.{Answer}
 use Rattle.records.specs.Next.{isNext}
 use Rattle.tesl.specs.Machine.{accepts, listAfter, reply, machine, listAfterCalls, Session, Reader, session}
 use Rattle.theory.specs.Session.{SameSession}

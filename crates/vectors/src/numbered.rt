@@ -70,6 +70,9 @@ fn lengths() {
         b"\x08\x00\x21\x00\x01\x00\x01\xFD\xFF\x00\x00\x00",
         1,
     );
+}
+
+fn kinds() {
     read_case(
         b"kind 32 of kind 33's length",
         b"\x05\x00\x20\x00\x01\x00\x01\xFD\xFF",
@@ -170,6 +173,7 @@ fn next_order() {
 pub fn all() {
     numbers();
     lengths();
+    kinds();
     not_one_record();
     next_numbers();
     next_order();

@@ -6,7 +6,7 @@ use native.Mathlib.Omega.{arith}
 use lib.ListN.{length, drop, length-append, drop-of-length-le}
 use Rattle.records.specs.declared.record.Decision.the-variants.{Done, Refused}
 use Rattle.records.specs.declared.instant.InstantRead.{InstantRead}
-use Rattle.records.specs.Outcome.{Outcome, taken, refused}
+use Rattle.records.specs.Outcome.{Outcome, taken}
 use Rattle.records.specs.Record.{TheRecord}
 use Rattle.records.specs.Sheet.{SheetValue}
 use Rattle.records.specs.Instant.{InstantValue, instantRead}

@@ -1,8 +1,6 @@
 -- `form_of` meets its contract: a numbered body has its number's two bytes. Assumes nothing.
-use mathlib.Core.Path.{sym, ap, subst}
-use Prim.Native.Nat.{ℕ, _≤_}
+use mathlib.Core.Path.{ap}
 use native.Mathlib.Omega.{arith}
-use lib.ListN.{length}
 use borrow.Author.Tests.{ne-eqb}
 use Rattle.records.specs.Instant.{numberLength}
 use Rattle.records.proofs.form.form_of.Statement.{statement}

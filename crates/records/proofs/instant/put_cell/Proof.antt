@@ -2,7 +2,7 @@
 use mathlib.Core.Path.{_∙_, ap}
 use mir.Facts.{toZ-ofZ}
 use Rattle.records.specs.Word.{rawOf}
-use Rattle.records.proofs.instant.Laws.{cell-stored}
+use Rattle.records.proofs.instant.Stored.{cell-stored}
 use native.Mathlib.Omega.{arith}
 use lib.ListN.{length-set}
 use borrow.Author.Needs.{needs}

@@ -3,7 +3,7 @@ use mathlib.Core.Path.{_≡_, refl}
 use Prim.Native.Nat.{_≤_, _-_}
 use native.Mathlib.Omega.{arith}
 use lib.ListN.{length}
-use Rattle.records.proofs.instant.Laws.{storedFrom, cell-more, clocks-stored}
+use Rattle.records.proofs.instant.Stored.{storedFrom, cell-more, clocks-stored}
 use borrow.Author.Needs.{needs}
 use Rattle.records.proofs.instant.put_cells.Statement.{statement}
 use Rattle.records.proofs.instant.put_cells.Tie as tie

@@ -5,7 +5,7 @@ use native.Mathlib.Omega.{arith}
 use lib.ListN.{length}
 use Rattle.records.specs.Instant.{numberBytes}
 use Rattle.records.proofs.form.Laws.{number-most}
-use Rattle.records.proofs.instant.Laws.{Room, room, instant-stored}
+use Rattle.records.proofs.instant.Stored.{Room, room, instant-stored}
 use borrow.Author.Needs.{needs}
 use Rattle.records.proofs.instant.put_instant.Statement.{statement}
 use Rattle.records.proofs.instant.put_instant.Tie as tie

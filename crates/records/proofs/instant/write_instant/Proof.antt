@@ -2,7 +2,8 @@
 use Prim.Native.Nat.{_≤_}
 use native.Mathlib.Omega.{arith}
 use Rattle.records.proofs.form.Laws.{number-most}
-use Rattle.records.proofs.instant.Laws.{few-clocks, write-4, write-10, write-room, write-done}
+use Rattle.records.proofs.instant.Laws.{few-clocks}
+use Rattle.records.proofs.instant.Stored.{write-4, write-10, write-room, write-done}
 use borrow.Author.Needs.{needs}
 use Rattle.records.proofs.instant.write_instant.Statement.{statement}
 use Rattle.records.proofs.instant.write_instant.Tie as tie

@@ -6,7 +6,6 @@ use lib.ListN.{length}
 use borrow.Author.Needs.{needs}
 use Rattle.records.specs.Record.{TheRecord}
 use Rattle.records.specs.Types.{IsBytes}
-use Rattle.records.proofs.Store.{length-puts}
 use Rattle.records.proofs.record.Span.{the-record}
 use Rattle.records.proofs.word.Bytes.{each-byte}
 use Rattle.text.proofs.put.Laws.{put-size, put-bytes, put-end, same-size}
