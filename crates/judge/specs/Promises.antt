@@ -9,11 +9,11 @@ use lib.ListN.{length}
 use Rattle.records.specs.Outcome.{Outcome, taken, refused}
 use Rattle.records.specs.Sheet.{SheetValue}
 use Rattle.records.specs.Types.{All}
+use Rattle.records.specs.Next.{readNext}
 use Rattle.tesl.specs.Lists.{lastOf}
 use Rattle.tesl.specs.Run.{Instant, tagsOf}
 use Rattle.tesl.specs.Remainder.{Remainder, sameObligation, sameCountdown, sameRemainder}
 use Rattle.tesl.specs.Answer.{exhausted, remainders, answer}
-use Rattle.records.specs.Next.{readNext}
 use Rattle.tesl.specs.Machine.{judgedPart, Reader}
 use Rattle.theory.specs.Sets.{apart, EachOnce}
 use Rattle.work.specs.View.{heldList}

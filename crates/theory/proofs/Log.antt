@@ -7,10 +7,10 @@ use Rattle.records.specs.Record.{Piece, whole, torn, front, pieces, TheRecord, 
 use Rattle.records.specs.Outcome.{Outcome}
 use Rattle.records.specs.Sheet.{SheetValue}
 use Rattle.records.specs.Instant.{InstantValue, readInstant}
+use Rattle.records.specs.Next.{ifNext, readNext}
 use Rattle.records.proofs.record.Cut.{no-pieces}
 use Rattle.records.proofs.record.Inverse.{pieces-record}
 use Rattle.tesl.specs.Run.{Instant}
-use Rattle.records.specs.Next.{ifNext, readNext}
 use Rattle.tesl.specs.Machine.{judgedPart, accepts, listAfter, reply, machine, listAfterCalls, acceptsEach, callOf, callsOf}
 
 -- ---- a call

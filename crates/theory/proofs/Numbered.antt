@@ -9,13 +9,13 @@ use Rattle.records.specs.declared.form.Form.the-variants.{Numbered}
 use Rattle.records.specs.Outcome.{Outcome, taken, refused}
 use Rattle.records.specs.Sheet.{SheetValue}
 use Rattle.records.specs.Instant.{InstantValue}
-use Rattle.records.proofs.Lists.{taken-same}
-use Rattle.tesl.specs.Run.{Instant}
 use Rattle.records.specs.Next.{isNext}
+use Rattle.records.proofs.Lists.{taken-same}
+use Rattle.records.proofs.next.Laws.{next-number}
+use Rattle.tesl.specs.Run.{Instant}
 use Rattle.tesl.specs.Machine.{accepts, listAfter, reply, machine, listAfterCalls, Session, Reader, session}
 use Rattle.theory.specs.Session.{SameSession}
 use Rattle.theory.specs.Numbered.{RecordOf, AcceptedFrom, IsBeginning, RunsAlong}
-use Rattle.records.proofs.next.Laws.{next-number}
 use Rattle.theory.proofs.Accepted.{taken-next}
 
 -- ---- a beginning, and the next of its list

@@ -10,12 +10,12 @@ use Rattle.records.specs.Outcome.{Outcome, taken}
 use Rattle.records.specs.Record.{TheRecord}
 use Rattle.records.specs.Sheet.{SheetValue}
 use Rattle.records.specs.Instant.{InstantValue, instantRead}
+use Rattle.records.specs.Next.{readNext}
 use Rattle.records.proofs.record.Cut.{no-pieces}
 use Rattle.records.proofs.instant.Read.{read-refused, read-done}
-use Rattle.tesl.specs.Run.{Instant}
-use Rattle.records.specs.Next.{readNext}
-use Rattle.tesl.specs.Machine.{judgedPart, accepts, machine}
 use Rattle.records.proofs.next.Laws.{next-read}
+use Rattle.tesl.specs.Run.{Instant}
+use Rattle.tesl.specs.Machine.{judgedPart, accepts, machine}
 use Rattle.theory.proofs.Log.{next-replies}
 use Rattle.judge.specs.Entry.{answersFrom}
 use Rattle.judge.specs.Records.{Counted}

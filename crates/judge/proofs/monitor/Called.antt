@@ -13,13 +13,13 @@ use Rattle.records.specs.declared.instant.InstantRead.{InstantRead}
 use Rattle.records.specs.Outcome.{taken, refused}
 use Rattle.records.specs.Instant.{Cell, instantRead}
 use Rattle.records.specs.Types.{All, IsBytes}
+use Rattle.records.specs.Next.{readNext}
 use Rattle.records.proofs.Lists.{both, refused-taken}
 use Rattle.records.proofs.instant.Read.{Read, read-refused, read-done}
 use Rattle.records.proofs.instant.RoundTrip.{read-writes}
-use Rattle.tesl.specs.Run.{Instant}
-use Rattle.records.specs.Next.{readNext}
-use Rattle.tesl.proofs.Tests.{≡→T}
 use Rattle.records.proofs.next.Laws.{NextRead, next-read}
+use Rattle.tesl.specs.Run.{Instant}
+use Rattle.tesl.proofs.Tests.{≡→T}
 use Rattle.tesl.specs.Answer.{mostLive}
 use Rattle.judge.specs.declared.remainder.Remainder as arrays
 use Rattle.judge.specs.declared.monitor.Monitor.{Monitor}

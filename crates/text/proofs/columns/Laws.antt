@@ -20,16 +20,16 @@ use Rattle.records.specs.Sheet.{SheetValue, readSheet, sheetRead}
 use Rattle.records.specs.Instant.{Cell, InstantValue, instantOf, instantRead}
 use Rattle.records.specs.Store.{puts}
 use Rattle.records.specs.Types.{IsByte, IsBytes}
+use Rattle.records.specs.Next.{readNext}
 use Rattle.records.proofs.Lists.{all-take, all-drop}
 use Rattle.records.proofs.Store.{puts-both, length-puts}
 use Rattle.records.proofs.record.Cut.{no-pieces}
 use Rattle.records.proofs.instant.Read.{Read, read-refused, read-done, places-in-use}
 use Rattle.records.proofs.instant.RoundTrip.{read-writes}
+use Rattle.records.proofs.next.Laws.{NextRead, next-read}
 use Rattle.tesl.specs.Lists.{flatMap}
 use Rattle.tesl.specs.Run.{Instant, tagsOf}
-use Rattle.records.specs.Next.{readNext}
 use Rattle.tesl.specs.Machine.{judgedPart, accepts, listAfter, acceptsEach, callsOf}
-use Rattle.records.proofs.next.Laws.{NextRead, next-read}
 use Rattle.theory.proofs.Log.{next-accepts}
 use Rattle.theory.proofs.Opened.{read-limits}
 use Rattle.text.specs.Text.{columnLine, refusalLine}

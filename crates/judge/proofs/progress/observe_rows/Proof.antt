@@ -7,13 +7,13 @@ use borrow.Author.Needs.{needs}
 use Rattle.records.specs.declared.sheet.Sheet.{Sheet}
 use Rattle.records.specs.Instant.{instantRead}
 use Rattle.records.specs.Types.{IsBytes}
+use Rattle.records.specs.Next.{readNext}
 use Rattle.judge.specs.declared.monitor.Monitor.{Monitor}
 use Rattle.judge.specs.Limits.{Limited}
 use Rattle.judge.specs.Progress.{rowsMonitor, given, Ready}
 use Rattle.judge.specs.Promises.{Called}
-use Rattle.records.specs.Next.{readNext}
-use Rattle.records.proofs.word.Bytes.{each-byte}
 use Rattle.records.proofs.next.Laws.{done-room}
+use Rattle.records.proofs.word.Bytes.{each-byte}
 use Rattle.judge.proofs.monitor.Called.{called-unread, blank-tags, called}
 use Rattle.judge.proofs.monitor.InRows.{answered-refused, answered-within}
 use Rattle.judge.proofs.progress.Laws.{limited, eight-rows}
