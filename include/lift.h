@@ -107,10 +107,11 @@ uint64_t lift_open(const uint8_t *sheet, size_t sheet_len, lift_state *state);
  * the instants held, 0 beside 11, the other bits are 0, and no word of the
  * state changes, so that the lift goes on with the next record.
  *
- * 19: the record is held already if its number is at most lift_count, and may
- * be thrown away; else those from lift_count + 1 on are missing, and every
- * later one gets 19 until they are handed over. A plain record (kind 32) has
- * no number and never gets 19: it is taken for the next instant.
+ * 19: of a number from 1 to lift_count the instant is held already, and the
+ * record may be thrown away. 0 is no instant's number. Of any other number
+ * the instants from lift_count + 1 on are missing, and every later one gets
+ * 19 until they are handed over. A plain record (kind 32) has no number and
+ * never gets 19: it is taken for the next instant.
  *
  * 11: the words are no monitor within its limits. The first word is another,
  * or the kind of a line, the side in use or the case of the answer is no such

@@ -33,6 +33,12 @@ taken-next s run bytes {i} e = by-outcome (readNext (s .clocks) (length run) byt
     by-outcome (refused n) r x = refused-taken x
     by-outcome (taken v) r x = record { value = v; cells = taken-same x; next = next-read (s .clocks) (length run) bytes r }
 
+-- what is read as the next instant of as many clocks, where as many are held, is what a call is taken for
+pub accepts-as : (s : SheetValue) (run : List Instant) (bytes : List ℕ) {c held : ℕ} → s .clocks ≡ c → length run ≡ held → {o : Outcome InstantValue} → readNext c held bytes ≡ o
+    → accepts s run bytes ≡ judgedPart o
+unfolding accepts
+accepts-as s run bytes e l q = rw (e, l, q)
+
 -- a call is refused with a number up to 19
 pub refused-number : (s : SheetValue) (run : List Instant) (bytes : List ℕ) {n : ℕ} → accepts s run bytes ≡ refused n → n ≤ 19
 unfolding accepts

@@ -99,7 +99,7 @@ fn with_wrong(t: Trial, v: Instant, how: u64) -> Trial {
     refused(t, out_of_turn(v, sheet.clocks, n))
 }
 
-// None, one or two calls with a damaged instant, and one with a wrong number.
+// None, one or two calls with a damaged instant, or one with a wrong number.
 fn with_refusals(t: Trial, v: Instant, d: [u64; 48]) -> Trial {
     if one_in(d, 20, 8) {
         let once = with_damage(t, v, below(d, 21, DAMAGES), one_in(d, 25, 4));

@@ -1,21 +1,22 @@
 -- A log's instants, read one by one: as many are taken as the machine of any sheet with these clocks takes. Assumes nothing.
 use mathlib.Core.List.{List, [], _∷_, _++_}
-use mathlib.Core.Path.{_≡_, refl, sym, ap, _∙_}
+use mathlib.Core.Path.{_≡_, refl}
 use Prim.Native.Nat.{ℕ, suc, _+_, _≤_}
 use native.Mathlib.Omega.{arith}
 use lib.ListN.{length, drop, length-append, drop-of-length-le}
 use Rattle.records.specs.declared.record.Decision.the-variants.{Done, Refused}
 use Rattle.records.specs.declared.instant.InstantRead.{InstantRead}
-use Rattle.records.specs.Outcome.{Outcome, taken}
+use Rattle.records.specs.Outcome.{taken}
 use Rattle.records.specs.Record.{TheRecord}
 use Rattle.records.specs.Sheet.{SheetValue}
-use Rattle.records.specs.Instant.{InstantValue, instantRead}
+use Rattle.records.specs.Instant.{instantRead}
 use Rattle.records.specs.Next.{readNext}
 use Rattle.records.proofs.record.Cut.{no-pieces}
 use Rattle.records.proofs.instant.Read.{read-refused, read-done}
 use Rattle.records.proofs.next.Laws.{next-read}
 use Rattle.tesl.specs.Run.{Instant}
-use Rattle.tesl.specs.Machine.{judgedPart, accepts, machine}
+use Rattle.tesl.specs.Machine.{machine}
+use Rattle.theory.proofs.Accepted.{accepts-as}
 use Rattle.theory.proofs.Log.{next-replies}
 use Rattle.judge.specs.Entry.{answersFrom}
 use Rattle.judge.specs.Records.{Counted}
@@ -46,19 +47,12 @@ module _ {log : List ℕ} {clocks n at : ℕ} (w : Counting log clocks n at) whe
   counted-end h = counted (λ s run e c. rw (drop-of-length-le log {i = at} h, no-pieces))
 
   module _ {p : List ℕ} (h : TheRecord log at p) {x : InstantRead} (r : x ≡ instantRead (readNext clocks n p)) where
-    -- what the machine of such a sheet takes the record for
-    taken-for : {o : Outcome InstantValue} → readNext clocks n p ≡ o → (s : SheetValue) (run : List Instant) → s .clocks ≡ clocks → length run ≡ n → accepts s run p ≡ judgedPart o
-    unfolding accepts
-    taken-for q s run e c = rw (e, c, q)
-
     pub counted-refused : {k : ℕ} → x .answer ≡ Refused k → Counted log clocks n
-    counted-refused q =
-        let k = read-refused (readNext clocks n p) (sym (ap (λ (y : InstantRead). y .answer) r) ∙ q) in
-        counted (λ s run e c. rw (next-replies h s run, taken-for k s run e c))
+    counted-refused q = counted (λ s run e c. rw (next-replies h s run, accepts-as s run p e c (read-refused (readNext clocks n p) r q)))
 
     pub counting-more : x .answer ≡ Done → Counting log clocks (n + 1) (at + length p)
     counting-more q =
-        let d = read-done (readNext clocks n p) (sym (ap (λ (y : InstantRead). y .answer) r) ∙ q) in
+        let d = read-done (readNext clocks n p) r q in
         let i : Instant = d .value .cells in
         record {
           most = omega (arith, next-read clocks n p (d .is) .room);
@@ -66,6 +60,6 @@ module _ {log : List ℕ} {clocks n at : ℕ} (w : Counting log clocks n at) whe
           same = λ s e.
               let a = w .same s e in
               let m : length (answersFrom s (a .run) (drop at log)) ≡ suc (length (answersFrom s (a .run ++ (i ∷ [])) (drop (at + length p) log))) =
-              rw (next-replies h s (a .run), taken-for (d .is) s (a .run) e (a .counted)) in
+              rw (next-replies h s (a .run), accepts-as s (a .run) p e (a .counted) (d .is)) in
               record { run = a .run ++ (i ∷ []); counted = omega (arith, a .counted, length-append (a .run) (i ∷ [])); all = omega (arith, a .all, m) };
         }

@@ -69,12 +69,12 @@ module _ (m : Monitor) (bytes : List ℕ) {b : Bool} (l : Limited m b) (e : not 
   pub called-unread : {r : CallResult} {n : ℕ} → x .answer ≡ Refused n → r ≡ refusal n m → Called m bytes r
   unfolding observes
   called-unread {r} q g =
-      let k = read-refused (readNext (m .sheet .clocks) (m .instants) bytes) (sym (ap (λ (y : InstantRead). y .answer) h) ∙ q) in
+      let k = read-refused (readNext (m .sheet .clocks) (m .instants) bytes) h q in
       called-refused m bytes r (rw (inside, k)) g
 
   module _ (q : x .answer ≡ Done) where
-    was-read : Read (readNext (m .sheet .clocks) (m .instants) bytes)
-    was-read = read-done (readNext (m .sheet .clocks) (m .instants) bytes) (sym (ap (λ (y : InstantRead). y .answer) h) ∙ q)
+    was-read : Read (readNext (m .sheet .clocks) (m .instants) bytes) x
+    was-read = read-done (readNext (m .sheet .clocks) (m .instants) bytes) h q
 
     is-next : NextRead (m .sheet .clocks) (m .instants) bytes (was-read .value)
     is-next = next-read (m .sheet .clocks) (m .instants) bytes (was-read .is)
@@ -84,7 +84,7 @@ module _ (m : Monitor) (bytes : List ℕ) {b : Bool} (l : Limited m b) (e : not 
     blank-tags u k l =
         let w = read-writes (m .sheet .clocks) bytes u (is-next .read) in
         let cells : List Cell = was-read .value .cells in
-        rw (ap (λ (y : InstantRead). y .instant .tags) h ∙ ap (λ (i : code.Instant). i .tags) (was-read .struct))
+        rw (ap (λ (i : code.Instant). i .tags) (was-read .struct))
         (filled-past (pos 0) 8 (map (λ (c : Cell). c .tag) cells) k (omega (arith, w .size, length-map cells (λ (c : Cell). c .tag))))
 
     pub called : {r : CallResult} → IsBytes bytes → All (λ (s : arrays.Remainder). length (s .stopped) ≡ 8) (m .held .remainders)
@@ -94,5 +94,5 @@ module _ (m : Monitor) (bytes : List ℕ) {b : Bool} (l : Limited m b) (e : not 
         let w = read-writes (m .sheet .clocks) bytes u (is-next .read) in
         called-taken m bytes r (rw (inside, was-read .is))
         (accepted m its-limits (≡→T (both (sheetWithin (sheetBy m)) inside .0)) (is-next .room) (was-read .value) (w .value .1) (w .size) r
-        (subst (λ (v : _). Accepts mostLive m v r) (ap (λ (y : InstantRead). y .instant) h ∙ was-read .struct) a)
+        (subst (λ (v : _). Accepts mostLive m v r) (was-read .struct) a)
         (held-shaped (sheetBy m) (its-limits .sheet .clocks-most) (m .held .count) (m .held .remainders) stops (its-limits .fits)))

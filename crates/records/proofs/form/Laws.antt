@@ -31,17 +31,16 @@ pub clocks-back : (form : Form) (clocks : List ℕ) → clocksPart (formKind for
 clocks-back Plain clocks = refl
 clocks-back (Numbered n) clocks = refl
 
--- a number has two bytes
-pub number-most : (form : Form) → length (numberBytes form) ≤ 2
-number-most Plain = omega arith
-number-most (Numbered n) = omega arith
-
+-- a number has two bytes, by the kind and by the form
 pub number-few : (kind : ℕ) → numberLength kind ≤ 2
 number-few kind = by-test (eqb kind 33)
   where
     by-test : (t : Bool) → cond t 2 0 ≤ 2
     by-test true = omega arith
     by-test false = omega arith
+
+pub number-most : (form : Form) → length (numberBytes form) ≤ 2
+number-most form = omega (arith, number-few (formKind form), number-length form)
 
 -- ---- read, then written
 

@@ -1,7 +1,7 @@
 -- The next instant: what it tells of the record and of the instants held, and the tests that the code makes. Assumes nothing.
 use mathlib.Core.Bool.{Bool, true, false, not}
 use mathlib.Core.List.{List}
-use mathlib.Core.Path.{_≡_, refl, sym, ap, _∙_, subst}
+use mathlib.Core.Path.{_≡_, refl, ap, _∙_, subst}
 use Prim.Native.Nat.{ℕ, suc, _≤_, _<_}
 use native.Mathlib.Omega.{arith}
 use borrow.Author.Tests.{le-leb, lt-leb, leb-false, eqb-true, not-false}
@@ -55,20 +55,18 @@ next-refused c held bytes {n} e = by-outcome (readInstant c bytes) refl e
 
 -- what was done has room for one more
 pub done-room : (c held : ℕ) (bytes : List ℕ) {x : InstantRead} → x ≡ instantRead (readNext c held bytes) → x .answer ≡ Done → held < 4000
-done-room c held bytes h q =
-    let d = read-done (readNext c held bytes) (sym (ap (λ (y : InstantRead). y .answer) h) ∙ q) in
-    next-read c held bytes (d .is) .room
+done-room c held bytes h q = next-read c held bytes (read-done (readNext c held bytes) h q .is) .room
 
 -- the answers of `read_next`, in the shapes that its places hold; x is what reading alone gives
 module _ (c held : ℕ) (bytes : List ℕ) {x : InstantRead} (h : x ≡ instantRead (readInstant c bytes)) where
   -- 4, 12 to 15
   pub next-unread : {n : ℕ} → x .answer ≡ Refused n → x ≡ instantRead (readNext c held bytes)
   unfolding readNext
-  next-unread q = let k = read-refused (readInstant c bytes) (sym (ap (λ (y : InstantRead). y .answer) h) ∙ q) in h ∙ rw k
+  next-unread q = h ∙ rw (read-refused (readInstant c bytes) h q)
 
   module _ (q : x .answer ≡ Done) where
-    was-read : Read (readInstant c bytes)
-    was-read = read-done (readInstant c bytes) (sym (ap (λ (y : InstantRead). y .answer) h) ∙ q)
+    was-read : Read (readInstant c bytes) x
+    was-read = read-done (readInstant c bytes) h q
 
     -- 16
     pub next-full : {r : InstantRead} → 4000 ≤ held → r ≡ instantRead (refused 16) → r ≡ instantRead (readNext c held bytes)
@@ -77,7 +75,7 @@ module _ (c held : ℕ) (bytes : List ℕ) {x : InstantRead} (h : x ≡ instantR
 
     module _ (k : held < 4000) {t : Bool} (e : t ≡ isNext held (x .instant .form)) where
       tested : t ≡ isNext held (was-read .value .form)
-      tested = e ∙ ap (λ (y : InstantRead). isNext held (y .instant .form)) h ∙ ap (λ (i : Instant). isNext held (i .form)) (was-read .struct)
+      tested = e ∙ ap (λ (i : Instant). isNext held (i .form)) (was-read .struct)
 
       -- 19
       pub next-other : {r : InstantRead} → not t ≡ true → r ≡ instantRead (refused 19) → r ≡ instantRead (readNext c held bytes)

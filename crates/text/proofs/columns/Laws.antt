@@ -17,7 +17,7 @@ use Rattle.records.specs.Outcome.{Outcome, taken, refused}
 use Rattle.records.specs.Record.{recordAt, spanOf, recordSpan, TheRecord}
 use Rattle.records.specs.declared.order.Order.the-variants.{Rising}
 use Rattle.records.specs.Sheet.{SheetValue, readSheet, sheetRead}
-use Rattle.records.specs.Instant.{Cell, InstantValue, instantOf, instantRead}
+use Rattle.records.specs.Instant.{Cell, InstantValue, instantRead}
 use Rattle.records.specs.Store.{puts}
 use Rattle.records.specs.Types.{IsByte, IsBytes}
 use Rattle.records.specs.Next.{readNext}
@@ -30,6 +30,7 @@ use Rattle.records.proofs.next.Laws.{NextRead, next-read}
 use Rattle.tesl.specs.Lists.{flatMap}
 use Rattle.tesl.specs.Run.{Instant, tagsOf}
 use Rattle.tesl.specs.Machine.{judgedPart, accepts, listAfter, acceptsEach, callsOf}
+use Rattle.theory.proofs.Accepted.{accepts-as}
 use Rattle.theory.proofs.Log.{next-accepts}
 use Rattle.theory.proofs.Opened.{read-limits}
 use Rattle.text.specs.Text.{columnLine, refusalLine}
@@ -143,16 +144,15 @@ module _ {c : ℕ} {log out₀ out : List ℕ} {n end at : ℕ} (w : Telling c l
     module _ {x : InstantRead} (r : x ≡ instantRead (readNext c n p)) where
       -- what the machine takes the record for
       taken-for : {o : Outcome InstantValue} → readNext c n p ≡ o → accepts (clocksOnly c) (w .run) p ≡ judgedPart o
-      unfolding accepts
-      taken-for q = rw (← w .counted, q)
+      taken-for q = accepts-as (clocksOnly c) (w .run) p refl (sym (w .counted)) q
 
       -- 12 to 16, 19
       pub reading-refused : {k : ℕ} → x .answer ≡ Refused k → accepts (clocksOnly c) (w .run) p ≡ refused k
-      reading-refused q = taken-for (read-refused (readNext c n p) (sym (ap (λ (y : InstantRead). y .answer) r) ∙ q))
+      reading-refused q = taken-for (read-refused (readNext c n p) r q)
 
       module _ (q : x .answer ≡ Done) where
-        was-read : Read (readNext c n p)
-        was-read = read-done (readNext c n p) (sym (ap (λ (y : InstantRead). y .answer) r) ∙ q)
+        was-read : Read (readNext c n p) x
+        was-read = read-done (readNext c n p) r q
 
         is-next : NextRead c n p (was-read .value)
         is-next = next-read c n p (was-read .is)
@@ -167,8 +167,7 @@ module _ {c : ℕ} {log out₀ out : List ℕ} {n end at : ℕ} (w : Telling c l
           -- the tags in use are the instant's
           tags-read : tagsText c (x .instant .tags) ≡ flatMap columnLine (tagsOf cells)
           tags-read =
-              let e : x .instant ≡ instantOf (was-read .value) = ap (λ (y : InstantRead). y .instant) r ∙ was-read .struct in
-              ap (λ (v : code.Instant). tagsText c (v .tags)) e ∙ (ap (flatMap columnLine) (places-in-use (λ (cell : Cell). cell .tag) (pos 0) c cells (read-writes c p bytes (is-next .read) .size)))
+              ap (λ (v : code.Instant). tagsText c (v .tags)) (was-read .struct) ∙ (ap (flatMap columnLine) (places-in-use (λ (cell : Cell). cell .tag) (pos 0) c cells (read-writes c p bytes (is-next .read) .size)))
 
           abbrev rest : List ℕ
           rest = linesAt c (w .run ++ (cells ∷ [])) log (at + length p)
