@@ -3,7 +3,7 @@ use Prim.Native.Nat.{ℕ, suc, _+_, _-_, _*_, _/_, _%_, _^_}
 use mathlib.Core.Bool.{cond}
 use mathlib.Core.List.{List, [], _∷_}
 use lib.ListN.{getD}
-use lib.IntN.{ℤ, pos, negsuc}
+use lib.IntN.{ℤ, pos, negsuc, _-ℤ_}
 use lib.Dec.{ltb}
 
 -- byte i
@@ -23,6 +23,13 @@ wordBytes w = w % 256 ∷ w / 256 ∷ []
 -- two's complement of k bits: a word below 2 ^ (k - 1) is itself, and any other is less by 2 ^ k (negsuc n is - (n + 1))
 unfoldable pub signed : ℕ → ℕ → ℤ
 signed k w = cond (ltb w (2 ^ (k - 1))) (pos w) (negsuc (2 ^ k - suc w))
+
+-- document 02's way to the same number, by arithmetic and no test: the word plus 2 ^ (k - 1), the remainder by 2 ^ k, which counts from the least number, minus 2 ^ (k - 1). For a word of k bits it is `signed k` (`signed-by-remainder`)
+abbrev pub fromLeast : ℕ → ℕ → ℕ
+fromLeast k w = (w + 2 ^ (k - 1)) % 2 ^ k
+
+abbrev pub signedByRemainder : ℕ → ℕ → ℤ
+signedByRemainder k w = pos (fromLeast k w) -ℤ pos (2 ^ (k - 1))
 
 -- the word of k bits of a signed number
 unfoldable pub unsigned : ℕ → ℤ → ℕ

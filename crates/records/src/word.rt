@@ -24,11 +24,8 @@ pub(crate) fn word_at(b: &[u8], i: usize) -> u16
 pub fn tag_of(raw: u16) -> i16
     ensures { λ r. ⌜ r ≡ tagOf raw ⌝ }
 {
-    if raw < 32768 {
-        raw as i16
-    } else {
-        -1 - ((65535 - raw) as i16)
-    }
+    let from_least = ((raw as u32) + 32768) % 65536;
+    ((from_least as i32) - 32768) as i16
 }
 
 // The raw word of a tag.

@@ -84,15 +84,15 @@ fn push_cents(t: Text, n: usize) -> Text
     push(tenths, digit_of(n % 10))
 }
 
-// A tag's count of hundredths; of a raw word from 32,768 on it is below 0.
+// A tag's count of hundredths, with its sign.
 pub(crate) fn push_hundredths(t: Text, tag: i16) -> Text
     requires { ⌜ t .len ≤ 40 ⌝ }
     ensures { λ r. ⌜ (length (hundredths tag) ≤ 24) × Adds t (hundredths tag) r ⌝ }
 {
     let raw = raw_of(tag) as usize;
-    if raw < 32768 {
-        return push_cents(t, raw);
+    if tag < 0 {
+        let minus = push_word(t, b"-");
+        return push_cents(minus, 65536 - raw);
     }
-    let minus = push_word(t, b"-");
-    push_cents(minus, 65536 - raw)
+    push_cents(t, raw)
 }

@@ -1,15 +1,16 @@
--- Two's complement is inverse both ways at every width, and a word and its two bytes are inverse to each other. Assumes nothing.
+-- Two's complement is inverse both ways at every width, and is read by arithmetic without a test; a word and its two bytes are inverse to each other. Assumes nothing.
 use mathlib.Core.Path.{_≡_, refl, ap, _∙_}
 use mathlib.Core.Bool.{Bool, true, false, cond}
 use mathlib.Core.List.{[], _∷_}
-use Prim.Native.Nat.{ℕ, suc, _+_, _-_, _/_, _%_, _^_, _≤_, _<_}
+use Prim.Native.Nat.{ℕ, zero, suc, _+_, _-_, _/_, _%_, _^_, _≤_, _<_}
 use native.Mathlib.Omega.{arith}
-use lib.IntN.{ℤ, pos, negsuc}
+use native.Mathlib.Nat.{mod-eq-of-lt, mod-eq-sub-mod}
+use lib.IntN.{ℤ, pos, negsuc, _-ℤ_, +ℤ-negℤ-cancel}
 use lib.Signed.{mag}
 use lib.Dec.{ltb}
 use lib.Pow.{pow-add}
 use borrow.Author.Tests.{lt-ltb, le-ltb, ltb-true, ltb-false}
-use Rattle.records.specs.Word.{wordOf, wordBytes, signed, unsigned, tagOf, rawOf}
+use Rattle.records.specs.Word.{wordOf, wordBytes, signed, fromLeast, signedByRemainder, unsigned, tagOf, rawOf}
 use Rattle.records.specs.Types.{IsByte, IsWord, IsTag}
 
 twice : (k : ℕ) → 1 ≤ k → 2 ^ k ≡ 2 ^ (k - 1) + 2 ^ (k - 1)
@@ -23,6 +24,11 @@ signed-unsigned k (pos n) h l = rw (lt-ltb n (2 ^ (k - 1)) l)
 signed-unsigned k (negsuc n) h l =
     let e = twice k h in
     rw (le-ltb (2 ^ k - suc n) (2 ^ (k - 1)) (omega arith)) (ap negsuc (omega arith))
+
+-- a difference below 0
+below-zero : (a b : ℕ) → a < b → pos a -ℤ pos b ≡ negsuc (b - suc a)
+below-zero a zero h = absurd (omega arith)
+below-zero a (suc b) h = rw (lt-ltb a (suc b) h) refl
 
 -- what the signed number z of a word says: the word, and its range
 record Says (k w : ℕ) (z : ℤ) : Type 0 where
@@ -47,6 +53,24 @@ module _ (k w : ℕ) (h : 1 ≤ k) (l : w < 2 ^ k) where
 
   pub signed-range : mag (signed k w) < 2 ^ (k - 1)
   signed-range = says .range
+
+  -- below the half nothing is taken off by the remainder, from the half on 2 ^ k
+  remainder-by-half : (t : Bool) → ltb w (2 ^ (k - 1)) ≡ t → signedByRemainder k w ≡ cond t (pos w) (negsuc (2 ^ k - suc w))
+  remainder-by-half true e =
+      let b = ltb-true w (2 ^ (k - 1)) e in
+      let d = twice k h in
+      let m : fromLeast k w ≡ w + 2 ^ (k - 1) = mod-eq-of-lt (omega arith) in
+      rw m (+ℤ-negℤ-cancel (pos w) (pos (2 ^ (k - 1))))
+  remainder-by-half false e =
+      let b = ltb-false w (2 ^ (k - 1)) e in
+      let d = twice k h in
+      let s : w + 2 ^ (k - 1) - 2 ^ k ≡ w - 2 ^ (k - 1) = omega arith in
+      let m : fromLeast k w ≡ w - 2 ^ (k - 1) = mod-eq-sub-mod (omega arith) ∙ rw s (mod-eq-of-lt (omega arith)) in
+      rw m (below-zero (w - 2 ^ (k - 1)) (2 ^ (k - 1)) (omega arith) ∙ ap negsuc (omega arith))
+
+  pub signed-by-remainder : signedByRemainder k w ≡ signed k w
+  unfolding signed
+  signed-by-remainder = remainder-by-half (ltb w (2 ^ (k - 1))) refl
 
 -- ---- the 65,536 tags
 pub tag-raw : {t : ℤ} → IsTag t → tagOf (rawOf t) ≡ t

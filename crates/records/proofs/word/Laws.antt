@@ -1,65 +1,54 @@
--- Two's complement at a machine width w: the definitions of specs/Word.antt are the machine's reading and writing of a signed number. Assumes nothing.
-use mathlib.Core.Path.{_≡_, refl, ap, _∙_}
-use mathlib.Core.Bool.{Bool, true, false, cond}
-use Prim.Native.Nat.{ℕ, zero, suc, _+_, _-_, _^_, _<_, _≤_}
+-- Two's complement on the machine: what it works out, reading and writing, are the definitions of specs/Word.antt. Assumes nothing.
+use mathlib.Core.Path.{_≡_, refl, sym, ap, _∙_}
+use mathlib.Core.Bool.{true, false}
+use Prim.Native.Nat.{ℕ, suc, _+_, _-_, _^_, _<_, _≤_}
+use native.Mathlib.Nat.{mod-lt}
 use native.Mathlib.Omega.{arith}
 use lib.IntN.{ℤ, pos, negsuc, _-ℤ_}
-use lib.Dec.{ltb}
+use lib.Pow.{pow-mono}
 use lib.Signed.{ltZ, mag}
 use borrow.Author.Tests.{le-ltb, ltb-true}
-use mir.Syntax.{Width, w8, w16, w32, w64, w128}
-use mir.Val.{bits, hbits, toZ, ofZ, sel, SFits}
+use mir.Syntax.{Width, w16}
+use mir.Val.{bits, hbits, toZ, ofZ, SFits}
+use mir.ValLaws.{bits-suc}
 use mir.Facts.{toZ-ofZ, toZ-pos}
-use Rattle.records.specs.Word.{signed, unsigned}
+use Rattle.records.specs.Word.{signed, fromLeast, unsigned}
+use Rattle.records.proofs.word.Inverse.{signed-by-remainder, signed-range}
 
--- -1 - n, and -1 - z of a negative z
-minus-one : (n : ℕ) → negsuc 0 -ℤ pos n ≡ negsuc n
-minus-one zero = refl
-minus-one (suc n) = ap negsuc (omega arith)
-
+-- -1 - z of a negative z
 minus-one-neg : (n : ℕ) → negsuc 0 -ℤ negsuc n ≡ pos n
 minus-one-neg n = rw (le-ltb (suc n) 1 (omega arith)) (ap pos (omega arith))
 
--- one bit is the sign
-half : (w : Width) → bits w - 1 ≡ hbits w
-half w8 = refl
-half w16 = refl
-half w32 = refl
-half w64 = refl
-half w128 = refl
+-- ---- reading: a word of the width w by the remainder, worked out in a width v that has room for it beside the sign, and narrowed
+module _ (w v : Width) (room : bits w ≤ hbits v) where
+  -- before it is narrowed
+  abbrev worked : ℕ → ℤ
+  worked n = toZ v (ofZ v (toZ v (fromLeast (bits w) n) -ℤ pos (2 ^ (bits w - 1))))
 
-double : (w : Width) → 2 ^ bits w ≡ 2 ^ hbits w + 2 ^ hbits w
-double w8 = refl
-double w16 = refl
-double w32 = refl
-double w64 = refl
-double w128 = refl
+  pub record ByRemainder (n : ℕ) : Type 0 where
+    pub cast-fits : SFits v (pos (fromLeast (bits w) n))
+    pub sub-fits : SFits v (toZ v (fromLeast (bits w) n) -ℤ pos (2 ^ (bits w - 1)))
+    pub narrow-fits : SFits w (worked n)
+    pub reads : toZ w (ofZ w (worked n)) ≡ signed (bits w) n
 
-module _ (w : Width) where
-  by-test : (b : Bool) (n : ℕ) → sel b (pos n) (negsuc (2 ^ bits w - suc n)) ≡ cond b (pos n) (negsuc (2 ^ bits w - suc n))
-  by-test true n = refl
-  by-test false n = refl
-
-  pub toZ-signed : (n : ℕ) → toZ w n ≡ signed (bits w) n
-  unfolding signed
-  toZ-signed n = rw (half w) (by-test (ltb n (2 ^ hbits w)) n)
-
-  -- a word with the top bit, read as -1 - (2 ^ bits - 1 - n)
-  pub record TopBit (n : ℕ) : Type 0 where
-    pub sub-fits : SFits w (negsuc 0 -ℤ toZ w (2 ^ bits w - 1 - n))
-    pub reads : toZ w (ofZ w (negsuc 0 -ℤ toZ w (2 ^ bits w - 1 - n))) ≡ signed (bits w) n
-
-  pub topBit : (n : ℕ) → 2 ^ hbits w ≤ n → n < 2 ^ bits w → TopBit n
-  unfolding signed
-  topBit n h l =
-      let d = double w in
-      let e : negsuc 0 -ℤ toZ w (2 ^ bits w - 1 - n) ≡ negsuc (2 ^ bits w - 1 - n) = rw (toZ-pos w {n = 2 ^ bits w - 1 - n} (omega arith)) (minus-one (2 ^ bits w - 1 - n)) in
-      let f : SFits w (negsuc (2 ^ bits w - 1 - n)) = record { sfits = omega arith } in
+  pub byRemainder : (n : ℕ) → n < 2 ^ bits w → ByRemainder n
+  byRemainder n l =
+      let one-bit = bits-suc w in
+      let half : bits w - 1 ≡ hbits w = omega arith in
+      let small : fromLeast (bits w) n < 2 ^ hbits v = omega (arith, mod-lt (n + 2 ^ (bits w - 1)) {m = 2 ^ bits w} (omega arith), pow-mono room) in
+      let f : SFits w (signed (bits w) n) = record { sfits = rw (sym half) (signed-range (bits w) n (omega arith) l) } in
+      let g : SFits v (signed (bits w) n) = record { sfits = omega (arith, f .sfits, pow-mono {i = hbits w} {j = hbits v} (omega arith)) } in
+      let e : toZ v (fromLeast (bits w) n) -ℤ pos (2 ^ (bits w - 1)) ≡ signed (bits w) n = rw (toZ-pos v {n = fromLeast (bits w) n} small) (signed-by-remainder (bits w) n (omega arith) l) in
+      let s : worked n ≡ signed (bits w) n = ap (λ (z : ℤ). toZ v (ofZ v z)) e ∙ toZ-ofZ {w = v} g in
       record {
-        sub-fits = rw e f;
-        reads = ap (λ (z : ℤ). toZ w (ofZ w z)) e ∙ toZ-ofZ {w = w} f ∙ rw (half w, le-ltb n (2 ^ hbits w) h) (ap negsuc (omega arith));
+        cast-fits = record { sfits = small };
+        sub-fits = rw e g;
+        narrow-fits = rw s f;
+        reads = rw s (toZ-ofZ {w = w} f);
       }
 
+-- ---- writing
+module _ (w : Width) where
   -- t < 0 as the machine tests it, on the bits
   pub record Negative (t : ℤ) : Type 0 where
     pub minus : toZ w (ofZ w (negsuc 0 -ℤ toZ w (ofZ w t))) ≡ pos (mag t)

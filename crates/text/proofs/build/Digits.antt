@@ -1,4 +1,4 @@
--- A number's digits: the last one and those before it, and how many there are; a tag's count by its raw word. Assumes nothing.
+-- A number's digits: the last one and those before it, and how many there are; a tag's count by its sign. Assumes nothing.
 use mathlib.Core.Bool.{Bool, true, false, cond}
 use mathlib.Core.List.{List, [], _∷_, _++_}
 use mathlib.Core.Path.{_≡_, refl, ap, _∙_}
@@ -8,7 +8,7 @@ use lib.Dec.{ltb}
 use lib.ListN.{length, length-append}
 use borrow.Author.Tests.{lt-ltb, le-ltb, ltb-true, ltb-false}
 use lib.IntN.{ℤ, pos, negsuc}
-use lib.Signed.{mag}
+use lib.Signed.{ltZ}
 use mir.Syntax.{w16}
 use mir.Val.{toZ, ofZ, SFits}
 use mir.Facts.{toZ-ofZ}
@@ -49,20 +49,16 @@ length-digits (suc k) n h = by-test (ltb n 10) refl (length-digits k (n / 10) (o
 pub length-decimal : (n : ℕ) → n < 2 ^ 64 → length (decimal n) ≤ 20
 length-decimal n h = length-digits 19 n (omega arith)
 
--- ---- a tag's count, by its raw word as the code has it
+-- ---- a tag's count, by its sign and its raw word as the code has them
 
-pub from-zero : (tag : ℤ) (raw : ℕ) → SFits w16 tag → raw ≡ rawOf (toZ w16 (ofZ w16 tag)) → raw < 32768 → cents raw ≡ hundredths tag
+pub below-zero : (tag : ℤ) (raw : ℕ) → SFits w16 tag → raw ≡ rawOf (toZ w16 (ofZ w16 tag)) → ltZ (toZ w16 (ofZ w16 tag)) (pos 0) ≡ true → ascii "-" ++ cents (65536 - raw) ≡ hundredths tag
 unfolding unsigned hundredths
-from-zero tag raw f e h = by-sign tag (f .sfits) (e ∙ ap rawOf (toZ-ofZ f))
-  where
-    by-sign : (z : ℤ) → mag z < 32768 → raw ≡ rawOf z → cents raw ≡ hundredths z
-    by-sign (pos n) l k = ap cents k
-    by-sign (negsuc n) l k = absurd (omega arith)
+below-zero (pos n) raw f e h = let z = ltb-true n 0 (rw (toZ-ofZ f) at h) in absurd (omega arith)
+below-zero (negsuc n) raw f e h =
+    let k : raw ≡ 65536 - suc n = e ∙ ap rawOf (toZ-ofZ f) in
+    ap (λ (m : ℕ). ascii "-" ++ cents m) (omega (arith, k, f .sfits))
 
-pub below-zero : (tag : ℤ) (raw : ℕ) → SFits w16 tag → raw ≡ rawOf (toZ w16 (ofZ w16 tag)) → 32768 ≤ raw → ascii "-" ++ cents (65536 - raw) ≡ hundredths tag
+pub from-zero : (tag : ℤ) (raw : ℕ) → SFits w16 tag → raw ≡ rawOf (toZ w16 (ofZ w16 tag)) → ltZ (toZ w16 (ofZ w16 tag)) (pos 0) ≡ false → cents raw ≡ hundredths tag
 unfolding unsigned hundredths
-below-zero tag raw f e h = by-sign tag (f .sfits) (e ∙ ap rawOf (toZ-ofZ f))
-  where
-    by-sign : (z : ℤ) → mag z < 32768 → raw ≡ rawOf z → ascii "-" ++ cents (65536 - raw) ≡ hundredths z
-    by-sign (pos n) l k = absurd (omega arith)
-    by-sign (negsuc n) l k = ap (λ (m : ℕ). ascii "-" ++ cents m) (omega arith)
+from-zero (pos n) raw f e h = ap cents (e ∙ ap rawOf (toZ-ofZ f))
+from-zero (negsuc n) raw f e h = let z : true ≡ false = rw (toZ-ofZ f) at h in let y : _≡_ {A = ℕ} 0 1 = cc in absurd (omega arith)

@@ -1,15 +1,14 @@
--- `tag_of` meets its contract: a word with the top bit is -1 - (65535 - raw). Assumes nothing.
+-- `tag_of` meets its contract: a word of 16 bits by the remainder, worked out in 32. Assumes nothing.
 use borrow.Author.Needs.{needs}
 use native.Mathlib.Omega.{arith}
-use mir.Syntax.{w16}
-use Rattle.records.proofs.word.Laws.{toZ-signed, TopBit, topBit}
+use mir.Syntax.{w16, w32}
+use Rattle.records.proofs.word.Laws.{ByRemainder, byRemainder}
 use Rattle.records.proofs.word.tag_of.Statement.{statement}
 use Rattle.records.proofs.word.tag_of.Tie as tie
 
-top : (c : tie.Else1) → TopBit w16 (c .before .args .raw)
-top c = topBit w16 (c .before .args .raw) (omega arith) (omega arith)
+read : (c : tie.Start) → ByRemainder w16 w32 (omega arith) (c .args .raw)
+read c = byRemainder w16 w32 (omega arith) (c .args .raw) (omega arith)
 
 pub tag-of-spec : {M : Type 1} → statement M
 tag-of-spec =
-    tie.close (tie.spec (λ c. search needs) (λ c. search needs) (λ c. search needs) (λ c. top c .sub-fits)
-    (λ c. toZ-signed w16 (c .before .args .raw)) (λ c. top c .reads))
+    tie.close (tie.spec (λ c. search needs) (λ c. read c .cast-fits) (λ c. read c .sub-fits) (λ c. read c .narrow-fits) (λ c. read c .reads))

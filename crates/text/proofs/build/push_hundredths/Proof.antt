@@ -1,4 +1,4 @@
--- `push_hundredths` meets its contract: a raw word from 32,768 on is that of a tag below 0. Assumes nothing.
+-- `push_hundredths` meets its contract: by the tag's sign. Assumes nothing.
 use native.Mathlib.Omega.{arith}
 use mathlib.Core.Path.{ap}
 use lib.ListN.{length}
@@ -10,17 +10,17 @@ use Rattle.text.proofs.build.push_hundredths.Tie as tie
 
 returns : tie.Need-returns
 returns c =
-    let e = c .before .before .before in
-    let h = from-zero (e .args .tag) _ (e .fits .tag) (c .before .before .raw-of .ensures) (c .before .if1 .taken) in
-    (omega (arith, ap length h), alike (c .push-cents .ensures .1) h)
+    let e = c .before .before .before .before .before in
+    let h = below-zero (e .args .tag) _ (e .fits .tag) (c .before .before .before .before .raw-of .ensures) (c .before .before .before .if1 .taken) in
+    (omega (arith, ap length h), alike (and-then (c .before .push-word .ensures) (c .push-cents .ensures .1)) h)
 
 returns-2 : tie.Need-returns-2
 returns-2 c =
-    let e = c .before .before .before .before .before in
-    let h = below-zero (e .args .tag) _ (e .fits .tag) (c .before .before .before .before .raw-of .ensures) (c .before .before .before .if1 .left) in
-    (omega (arith, ap length h), alike (and-then (c .before .push-word .ensures) (c .push-cents2 .ensures .1)) h)
+    let e = c .before .before .before in
+    let h = from-zero (e .args .tag) _ (e .fits .tag) (c .before .before .raw-of .ensures) (c .before .if1 .left) in
+    (omega (arith, ap length h), alike (c .push-cents2 .ensures .1) h)
 
 pub push-hundredths-spec : {M : Type 1} → statement M
 push-hundredths-spec =
-    tie.close (tie.spec (λ c κs. search needs) (λ c. search needs) (λ c κs. omega arith) returns (λ c. search needs) (λ c κs. omega arith)
-    (λ c. search needs) (λ c κs. omega arith) returns-2)
+    tie.close (tie.spec (λ c κs. search needs) (λ c. search needs) (λ c. search needs) (λ c κs. omega arith) (λ c. search needs) (λ c κs. omega arith)
+    returns (λ c κs. omega arith) returns-2)
