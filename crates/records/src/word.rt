@@ -20,12 +20,12 @@ pub(crate) fn word_at(b: &[u8], i: usize) -> u16
     word_of(b[i], b[i + 1])
 }
 
-// The tag of a raw word, in two's complement.
+// The tag of a raw word, in two's complement, by arithmetic and no branch: first as a number counted from the least tag.
 pub fn tag_of(raw: u16) -> i16
     ensures { λ r. ⌜ r ≡ tagOf raw ⌝ }
 {
-    let from_least = ((raw as u32) + 32768) % 65536;
-    ((from_least as i32) - 32768) as i16
+    let from_least = ((raw as u64) + 32768) % 65536;
+    ((from_least as i64) - 32768) as i16
 }
 
 // The raw word of a tag.
