@@ -56,7 +56,7 @@ fn difference(raw: u16, due: i16) -> usize
     0
 }
 
-// How many words do.
+// How many words differ, of all in turn.
 fn differences() -> usize {
     let mut found = 0;
     let mut due = 0;

@@ -28,7 +28,7 @@ signed-unsigned k (negsuc n) h l =
 -- a difference below 0
 below-zero : (a b : ℕ) → a < b → pos a -ℤ pos b ≡ negsuc (b - suc a)
 below-zero a zero h = absurd (omega arith)
-below-zero a (suc b) h = rw (lt-ltb a (suc b) h) refl
+below-zero a (suc b) h = rw (lt-ltb a (suc b) h)
 
 -- what the signed number z of a word says: the word, and its range
 record Says (k w : ℕ) (z : ℤ) : Type 0 where

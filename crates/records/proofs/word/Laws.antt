@@ -51,6 +51,7 @@ module _ (w v : Width) (room : bits w ≤ hbits v) where
 module _ (w : Width) where
   -- t < 0 as the machine tests it, on the bits
   pub record Negative (t : ℤ) : Type 0 where
+    pub is : t ≡ negsuc (mag t)
     pub minus : toZ w (ofZ w (negsuc 0 -ℤ toZ w (ofZ w t))) ≡ pos (mag t)
     pub sub-fits : SFits w (negsuc 0 -ℤ toZ w (ofZ w t))
     pub word : unsigned (bits w) t ≡ 2 ^ bits w - 1 - mag t
@@ -61,16 +62,23 @@ module _ (w : Width) where
   negative (pos n) f h = let z = ltb-true n 0 (rw (toZ-ofZ {w = w} f) at h) in absurd (omega arith)
   negative (negsuc n) f h =
       let e : negsuc 0 -ℤ toZ w (ofZ w (negsuc n)) ≡ pos n = rw (toZ-ofZ {w = w} f) (minus-one-neg n) in
-      record { minus = rw e (toZ-ofZ {w = w} (record { sfits = f .sfits })); sub-fits = rw e (record { sfits = f .sfits }); word = omega arith; small = f .sfits }
+      record {
+        is = refl;
+        minus = rw e (toZ-ofZ {w = w} (record { sfits = f .sfits }));
+        sub-fits = rw e (record { sfits = f .sfits });
+        word = omega arith;
+        small = f .sfits;
+      }
 
   pub record NonNegative (t : ℤ) : Type 0 where
+    pub is : t ≡ pos (mag t)
     pub same : toZ w (ofZ w t) ≡ pos (mag t)
     pub word : unsigned (bits w) t ≡ mag t
     pub small : mag t < 2 ^ hbits w
 
   pub nonNegative : (t : ℤ) → SFits w t → ltZ (toZ w (ofZ w t)) (pos 0) ≡ false → NonNegative t
   unfolding unsigned
-  nonNegative (pos n) f h = record { same = toZ-ofZ {w = w} f; word = refl; small = f .sfits }
+  nonNegative (pos n) f h = record { is = refl; same = toZ-ofZ {w = w} f; word = refl; small = f .sfits }
   nonNegative (negsuc n) f h = let z : true ≡ false = rw (toZ-ofZ {w = w} f) at h in let y : _≡_ {A = ℕ} 0 1 = cc in absurd (omega arith)
 
 -- what the machine reads back of an i16 that it holds

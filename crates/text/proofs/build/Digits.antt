@@ -1,18 +1,19 @@
 -- A number's digits: the last one and those before it, and how many there are; a tag's count by its sign. Assumes nothing.
 use mathlib.Core.Bool.{Bool, true, false, cond}
 use mathlib.Core.List.{List, [], _∷_, _++_}
-use mathlib.Core.Path.{_≡_, refl, ap, _∙_}
+use mathlib.Core.Path.{_≡_, refl, sym, ap, _∙_}
 use Prim.Native.Nat.{ℕ, zero, suc, _+_, _-_, _/_, _%_, _^_, _≤_, _<_}
 use native.Mathlib.Omega.{arith}
 use lib.Dec.{ltb}
 use lib.ListN.{length, length-append}
 use borrow.Author.Tests.{lt-ltb, le-ltb, ltb-true, ltb-false}
-use lib.IntN.{ℤ, pos, negsuc}
-use lib.Signed.{ltZ}
+use lib.IntN.{ℤ, pos}
+use lib.Signed.{ltZ, mag}
 use mir.Syntax.{w16}
 use mir.Val.{toZ, ofZ, SFits}
 use mir.Facts.{toZ-ofZ}
-use Rattle.records.specs.Word.{unsigned, rawOf}
+use Rattle.records.specs.Word.{rawOf}
+use Rattle.records.proofs.word.Laws.{negative, nonNegative}
 use Rattle.text.specs.Text.{ascii, digit, digits, decimal, cents, hundredths}
 
 -- more than enough places change nothing
@@ -51,14 +52,16 @@ length-decimal n h = length-digits 19 n (omega arith)
 
 -- ---- a tag's count, by its sign and its raw word as the code has them
 
-pub below-zero : (tag : ℤ) (raw : ℕ) → SFits w16 tag → raw ≡ rawOf (toZ w16 (ofZ w16 tag)) → ltZ (toZ w16 (ofZ w16 tag)) (pos 0) ≡ true → ascii "-" ++ cents (65536 - raw) ≡ hundredths tag
-unfolding unsigned hundredths
-below-zero (pos n) raw f e h = let z = ltb-true n 0 (rw (toZ-ofZ f) at h) in absurd (omega arith)
-below-zero (negsuc n) raw f e h =
-    let k : raw ≡ 65536 - suc n = e ∙ ap rawOf (toZ-ofZ f) in
-    ap (λ (m : ℕ). ascii "-" ++ cents m) (omega (arith, k, f .sfits))
+module _ (tag : ℤ) (raw : ℕ) (f : SFits w16 tag) (e : raw ≡ rawOf (toZ w16 (ofZ w16 tag))) where
+  pub below-zero : ltZ (toZ w16 (ofZ w16 tag)) (pos 0) ≡ true → ascii "-" ++ cents (65536 - raw) ≡ hundredths tag
+  unfolding hundredths
+  below-zero h =
+      let n = negative w16 tag f h in
+      let k : raw ≡ 65535 - mag tag = e ∙ ap rawOf (toZ-ofZ f) ∙ n .word in
+      ap (λ (m : ℕ). ascii "-" ++ cents m) (omega (arith, k, n .small)) ∙ sym (ap hundredths (n .is))
 
-pub from-zero : (tag : ℤ) (raw : ℕ) → SFits w16 tag → raw ≡ rawOf (toZ w16 (ofZ w16 tag)) → ltZ (toZ w16 (ofZ w16 tag)) (pos 0) ≡ false → cents raw ≡ hundredths tag
-unfolding unsigned hundredths
-from-zero (pos n) raw f e h = ap cents (e ∙ ap rawOf (toZ-ofZ f))
-from-zero (negsuc n) raw f e h = let z : true ≡ false = rw (toZ-ofZ f) at h in let y : _≡_ {A = ℕ} 0 1 = cc in absurd (omega arith)
+  pub from-zero : ltZ (toZ w16 (ofZ w16 tag)) (pos 0) ≡ false → cents raw ≡ hundredths tag
+  unfolding hundredths
+  from-zero h =
+      let n = nonNegative w16 tag f h in
+      ap cents (e ∙ ap rawOf (toZ-ofZ f) ∙ n .word) ∙ sym (ap hundredths (n .is))

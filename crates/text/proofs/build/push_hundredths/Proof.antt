@@ -10,14 +10,19 @@ use Rattle.text.proofs.build.push_hundredths.Tie as tie
 
 returns : tie.Need-returns
 returns c =
-    let e = c .before .before .before .before .before in
-    let h = below-zero (e .args .tag) _ (e .fits .tag) (c .before .before .before .before .raw-of .ensures) (c .before .before .before .if1 .taken) in
-    (omega (arith, ap length h), alike (and-then (c .before .push-word .ensures) (c .push-cents .ensures .1)) h)
+    let minus = c .before in
+    let test = minus .before .before in
+    let raw = test .before in
+    let start = raw .before in
+    let h = below-zero (start .args .tag) _ (start .fits .tag) (raw .raw-of .ensures) (test .if1 .taken) in
+    (omega (arith, ap length h), alike (and-then (minus .push-word .ensures) (c .push-cents .ensures .1)) h)
 
 returns-2 : tie.Need-returns-2
 returns-2 c =
-    let e = c .before .before .before in
-    let h = from-zero (e .args .tag) _ (e .fits .tag) (c .before .before .raw-of .ensures) (c .before .if1 .left) in
+    let test = c .before in
+    let raw = test .before in
+    let start = raw .before in
+    let h = from-zero (start .args .tag) _ (start .fits .tag) (raw .raw-of .ensures) (test .if1 .left) in
     (omega (arith, ap length h), alike (c .push-cents2 .ensures .1) h)
 
 pub push-hundredths-spec : {M : Type 1} → statement M
