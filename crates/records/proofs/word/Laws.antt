@@ -1,13 +1,14 @@
 -- Two's complement on the machine: what it works out, reading and writing, are the definitions of specs/Word.antt. Assumes nothing.
 use mathlib.Core.Path.{_≡_, refl, sym, ap, _∙_}
-use mathlib.Core.Bool.{true, false}
-use Prim.Native.Nat.{ℕ, suc, _+_, _-_, _^_, _<_, _≤_}
+use mathlib.Core.Bool.{Bool, true, false, cond}
+use Prim.Native.Nat.{ℕ, zero, suc, _+_, _-_, _%_, _^_, _<_, _≤_}
 use native.Mathlib.Nat.{mod-lt}
 use native.Mathlib.Omega.{arith}
 use lib.IntN.{ℤ, pos, negsuc, _-ℤ_}
+use lib.Dec.{ltb}
 use lib.Pow.{pow-mono}
 use lib.Signed.{ltZ, mag}
-use borrow.Author.Tests.{le-ltb, ltb-true}
+use borrow.Author.Tests.{le-ltb, ltb-true, ltb-false}
 use mir.Syntax.{Width, w16}
 use mir.Val.{bits, hbits, toZ, ofZ, SFits}
 use mir.ValLaws.{bits-suc}
@@ -15,39 +16,49 @@ use mir.Facts.{toZ-ofZ, toZ-pos}
 use Rattle.records.specs.Word.{signed, fromLeast, unsigned}
 use Rattle.records.proofs.word.Inverse.{signed-by-remainder, signed-range}
 
+-- ---- reading by the remainder
+
+-- the difference of two numbers
+mag-difference : (n m h : ℕ) → n < m + h → m ≤ h → 1 ≤ h → mag (pos n -ℤ pos m) < h
+mag-difference n zero h a b c = omega arith
+mag-difference n (suc m) h a b c = by-test (ltb n (suc m)) refl
+  where
+    by-test : (t : Bool) → ltb n (suc m) ≡ t → mag (cond t (negsuc (suc m - suc n)) (pos (n - suc m))) < h
+    by-test true e = omega arith
+    by-test false e = omega (arith, ltb-false n (suc m) e)
+
+-- a remainder by k less m, worked out in the width v; what is asked of k and m is told by comparing numbers, so that `search` uses these
+module _ (v : Width) (n k m : ℕ) (one : 1 ≤ k) (room : k ≤ 2 ^ hbits v) where
+  as-number : toZ v (n % k) ≡ pos (n % k)
+  as-number = toZ-pos v {n = n % k} (omega (arith, mod-lt n one))
+
+  pub difference-fits : m ≤ 2 ^ hbits v → SFits v (toZ v (n % k) -ℤ pos m)
+  difference-fits h = rw as-number (record { sfits = mag-difference (n % k) m (2 ^ hbits v) (omega (arith, mod-lt n one)) h (omega arith) })
+
+  worked : m ≤ 2 ^ hbits v → toZ v (ofZ v (toZ v (n % k) -ℤ pos m)) ≡ pos (n % k) -ℤ pos m
+  worked h = toZ-ofZ {w = v} (difference-fits h) ∙ ap (λ (z : ℤ). z -ℤ pos m) as-number
+
+  -- and narrowed to w
+  pub narrowed-fits : (w : Width) → hbits w ≤ hbits v → m ≤ 2 ^ hbits w → k ≤ m + 2 ^ hbits w → SFits w (toZ v (ofZ v (toZ v (n % k) -ℤ pos m)))
+  narrowed-fits w narrower h l =
+      rw (worked (omega (arith, h, pow-mono narrower))) (record { sfits = mag-difference (n % k) m (2 ^ hbits w) (omega (arith, mod-lt n one)) h (omega arith) })
+
+-- a word of the width w, worked out in a width v that has room for it beside the sign
+module _ (w v : Width) (room : bits w ≤ hbits v) (n : ℕ) (l : n < 2 ^ bits w) where
+  pub read-by-remainder : toZ w (ofZ w (toZ v (ofZ v (toZ v (fromLeast (bits w) n) -ℤ pos (2 ^ (bits w - 1)))))) ≡ signed (bits w) n
+  read-by-remainder =
+      let one-bit = bits-suc w in
+      let half : bits w - 1 ≡ hbits w = omega arith in
+      let f : SFits w (signed (bits w) n) = record { sfits = rw (sym half) (signed-range (bits w) n (omega arith) l) } in
+      let e = worked v (n + 2 ^ (bits w - 1)) (2 ^ bits w) (2 ^ (bits w - 1)) (omega arith) (pow-mono room) (pow-mono (omega arith)) in
+      rw (e, signed-by-remainder (bits w) n (omega arith) l) (toZ-ofZ {w = w} f)
+
+-- ---- writing
+
 -- -1 - z of a negative z
 minus-one-neg : (n : ℕ) → negsuc 0 -ℤ negsuc n ≡ pos n
 minus-one-neg n = rw (le-ltb (suc n) 1 (omega arith)) (ap pos (omega arith))
 
--- ---- reading: a word of the width w by the remainder, worked out in a width v that has room for it beside the sign, and narrowed
-module _ (w v : Width) (room : bits w ≤ hbits v) where
-  -- before it is narrowed
-  abbrev worked : ℕ → ℤ
-  worked n = toZ v (ofZ v (toZ v (fromLeast (bits w) n) -ℤ pos (2 ^ (bits w - 1))))
-
-  pub record ByRemainder (n : ℕ) : Type 0 where
-    pub cast-fits : SFits v (pos (fromLeast (bits w) n))
-    pub sub-fits : SFits v (toZ v (fromLeast (bits w) n) -ℤ pos (2 ^ (bits w - 1)))
-    pub narrow-fits : SFits w (worked n)
-    pub reads : toZ w (ofZ w (worked n)) ≡ signed (bits w) n
-
-  pub byRemainder : (n : ℕ) → n < 2 ^ bits w → ByRemainder n
-  byRemainder n l =
-      let one-bit = bits-suc w in
-      let half : bits w - 1 ≡ hbits w = omega arith in
-      let small : fromLeast (bits w) n < 2 ^ hbits v = omega (arith, mod-lt (n + 2 ^ (bits w - 1)) {m = 2 ^ bits w} (omega arith), pow-mono room) in
-      let f : SFits w (signed (bits w) n) = record { sfits = rw (sym half) (signed-range (bits w) n (omega arith) l) } in
-      let g : SFits v (signed (bits w) n) = record { sfits = omega (arith, f .sfits, pow-mono {i = hbits w} {j = hbits v} (omega arith)) } in
-      let e : toZ v (fromLeast (bits w) n) -ℤ pos (2 ^ (bits w - 1)) ≡ signed (bits w) n = rw (toZ-pos v {n = fromLeast (bits w) n} small) (signed-by-remainder (bits w) n (omega arith) l) in
-      let s : worked n ≡ signed (bits w) n = ap (λ (z : ℤ). toZ v (ofZ v z)) e ∙ toZ-ofZ {w = v} g in
-      record {
-        cast-fits = record { sfits = small };
-        sub-fits = rw e g;
-        narrow-fits = rw s f;
-        reads = rw s (toZ-ofZ {w = w} f);
-      }
-
--- ---- writing
 module _ (w : Width) where
   -- t < 0 as the machine tests it, on the bits
   pub record Negative (t : ℤ) : Type 0 where
