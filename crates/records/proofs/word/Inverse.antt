@@ -26,9 +26,9 @@ signed-unsigned k (negsuc n) h l =
     rw (le-ltb (2 ^ k - suc n) (2 ^ (k - 1)) (omega arith)) (ap negsuc (omega arith))
 
 -- a difference below 0
-below-zero : (a b : ℕ) → a < b → pos a -ℤ pos b ≡ negsuc (b - suc a)
-below-zero a zero h = absurd (omega arith)
-below-zero a (suc b) h = rw (lt-ltb a (suc b) h)
+difference-below : (a b : ℕ) → a < b → pos a -ℤ pos b ≡ negsuc (b - suc a)
+difference-below a zero h = absurd (omega arith)
+difference-below a (suc b) h = rw (lt-ltb a (suc b) h)
 
 -- what the signed number z of a word says: the word, and its range
 record Says (k w : ℕ) (z : ℤ) : Type 0 where
@@ -66,7 +66,7 @@ module _ (k w : ℕ) (h : 1 ≤ k) (l : w < 2 ^ k) where
       let d = twice k h in
       let s : w + 2 ^ (k - 1) - 2 ^ k ≡ w - 2 ^ (k - 1) = omega arith in
       let m : fromLeast k w ≡ w - 2 ^ (k - 1) = mod-eq-sub-mod (omega arith) ∙ rw s (mod-eq-of-lt (omega arith)) in
-      rw m (below-zero (w - 2 ^ (k - 1)) (2 ^ (k - 1)) (omega arith) ∙ ap negsuc (omega arith))
+      rw m (difference-below (w - 2 ^ (k - 1)) (2 ^ (k - 1)) (omega arith) ∙ ap negsuc (omega arith))
 
   pub signed-by-remainder : signedByRemainder k w ≡ signed k w
   unfolding signed

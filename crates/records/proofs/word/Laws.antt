@@ -18,22 +18,22 @@ use Rattle.records.proofs.word.Inverse.{signed-by-remainder, signed-ran
 
 -- ---- reading by the remainder
 
--- the difference of two numbers
-mag-difference : (n m h : ℕ) → n < m + h → m ≤ h → 1 ≤ h → mag (pos n -ℤ pos m) < h
-mag-difference n zero h a b c = omega arith
-mag-difference n (suc m) h a b c = by-test (ltb n (suc m)) refl
+-- n less m, below h and not below - h
+mag-difference : (n m h : ℕ) → n < m + h → m ≤ h → mag (pos n -ℤ pos m) < h
+mag-difference n zero h a b = omega arith
+mag-difference n (suc m) h a b = by-test (ltb n (suc m)) refl
   where
     by-test : (t : Bool) → ltb n (suc m) ≡ t → mag (cond t (negsuc (suc m - suc n)) (pos (n - suc m))) < h
     by-test true e = omega arith
     by-test false e = omega (arith, ltb-false n (suc m) e)
 
--- a remainder by k less m, worked out in the width v; what is asked of k and m is told by comparing numbers, so that `search` uses these
+-- a remainder by k less m, worked out in the width v. What is asked of k and m are comparisons of numbers, so that `search` closes them
 module _ (v : Width) (n k m : ℕ) (one : 1 ≤ k) (room : k ≤ 2 ^ hbits v) where
   as-number : toZ v (n % k) ≡ pos (n % k)
   as-number = toZ-pos v {n = n % k} (omega (arith, mod-lt n one))
 
   pub difference-fits : m ≤ 2 ^ hbits v → SFits v (toZ v (n % k) -ℤ pos m)
-  difference-fits h = rw as-number (record { sfits = mag-difference (n % k) m (2 ^ hbits v) (omega (arith, mod-lt n one)) h (omega arith) })
+  difference-fits h = rw as-number (record { sfits = mag-difference (n % k) m (2 ^ hbits v) (omega (arith, mod-lt n one)) h })
 
   worked : m ≤ 2 ^ hbits v → toZ v (ofZ v (toZ v (n % k) -ℤ pos m)) ≡ pos (n % k) -ℤ pos m
   worked h = toZ-ofZ {w = v} (difference-fits h) ∙ ap (λ (z : ℤ). z -ℤ pos m) as-number
@@ -41,7 +41,7 @@ module _ (v : Width) (n k m : ℕ) (one : 1 ≤ k) (room : k ≤ 2 ^ hbits v) wh
   -- and narrowed to w
   pub narrowed-fits : (w : Width) → hbits w ≤ hbits v → m ≤ 2 ^ hbits w → k ≤ m + 2 ^ hbits w → SFits w (toZ v (ofZ v (toZ v (n % k) -ℤ pos m)))
   narrowed-fits w narrower h l =
-      rw (worked (omega (arith, h, pow-mono narrower))) (record { sfits = mag-difference (n % k) m (2 ^ hbits w) (omega (arith, mod-lt n one)) h (omega arith) })
+      rw (worked (omega (arith, h, pow-mono narrower))) (record { sfits = mag-difference (n % k) m (2 ^ hbits w) (omega (arith, mod-lt n one)) h })
 
 -- a word of the width w, worked out in a width v that has room for it beside the sign
 module _ (w v : Width) (room : bits w ≤ hbits v) (n : ℕ) (l : n < 2 ^ bits w) where

@@ -13,15 +13,15 @@ use mir.Facts.{toZ-ofZ}
 use Rattle.vectors.proofs.tags.next_tag.Statement.{statement}
 use Rattle.vectors.proofs.tags.next_tag.Tie as tie
 
-one-more : (t : ℤ) → SFits w16 t → ltZ t (pos 32767) ≡ true → SFits w16 (t +ℤ pos 1)
-one-more (pos n) f h = record { sfits = omega (arith, ltb-true n 32767 h) }
-one-more (negsuc zero) f h = record { sfits = omega arith }
-one-more (negsuc (suc n)) f h = rw (lt-ltb 1 (suc (suc n)) (omega arith)) (record { sfits = omega (arith, f .sfits) })
+next-fits : (t : ℤ) → SFits w16 t → ltZ t (pos 32767) ≡ true → SFits w16 (t +ℤ pos 1)
+next-fits (pos n) f h = record { sfits = omega (arith, ltb-true n 32767 h) }
+next-fits (negsuc zero) f h = record { sfits = omega arith }
+next-fits (negsuc (suc n)) f h = rw (lt-ltb 1 (suc (suc n)) (omega arith)) (record { sfits = omega (arith, f .sfits) })
 
 add-result : tie.Need-add-result
 add-result c =
     let e = toZ-ofZ (c .before .fits .t) in
-    rw e (one-more (c .before .args .t) (c .before .fits .t) (rw e at (c .if1 .taken)))
+    rw e (next-fits (c .before .args .t) (c .before .fits .t) (rw e at (c .if1 .taken)))
 
 pub next-tag-spec : {M : Type 1} → statement M
 next-tag-spec = tie.close (tie.spec add-result (λ c. search needs) (λ c. search needs))
