@@ -9,9 +9,9 @@ pub mod View
 pub mod Answer
 -- the limits of a monitor: `monitorWithin`, the promise of `within_limits`
 pub mod Limits
--- unused places: `KeepsNothing`
+-- unused places of a remainder: `NothingUnused`
 pub mod Unused
--- what a monitor keeps: `sheetBy`, `heldBy`, `lastBy`, `refusal`; the records after them are inner promises
+-- what a monitor keeps: `sheetBy`, `heldBy`, `lastBy`, and nothing in unused places, `KeepsNothing`; `refusal`; the records after them are inner promises
 pub mod Monitor
 -- the promises of `open`, `open_unordered` and `observe`
 pub mod Promises
@@ -37,6 +37,7 @@ pub mod Live
 pub mod Plan
 -- an instant: what depends on a filling alone, the rows by a filling and by all of them, the fillings listed; the remainder of no instant; remainders stored in rows and read back; words that no remainder uses, and how they are cleared
 pub mod Left
+pub mod Begun
 pub mod Filling
 pub mod Apply
 pub mod Fill

@@ -6,7 +6,7 @@ use mathlib.Core.Path.{_≡_}
 use Prim.Native.Nat.{ℕ, suc, _≤_, _<_}
 use lib.Dec.{T, eqb}
 use lib.IntN.{ℤ, pos}
-use lib.ListN.{take, replicate}
+use lib.ListN.{take, replicate, getD}
 use Rattle.records.specs.declared.sheet.Sheet.{Sheet}
 use Rattle.records.specs.declared.instant.Instant.{Instant}
 use Rattle.records.specs.Outcome.{taken}
@@ -20,7 +20,8 @@ use Rattle.judge.specs.declared.held.Status.the-variants.{Live}
 use Rattle.judge.specs.declared.answer.Reply.the-variants as reply
 use Rattle.judge.specs.declared.monitor.Monitor.{Monitor}
 use Rattle.judge.specs.declared.monitor.CallResult.{CallResult}
-use Rattle.judge.specs.View.{blankRemainder, heldOf, liveOf, sized}
+use Rattle.judge.specs.View.{blankRemainder, liveCount, heldOf, liveOf, sized}
+use Rattle.judge.specs.Unused.{BlankFrom, NothingUnused}
 use Rattle.judge.specs.Answer.{replyOf, saidBy}
 
 -- the sheet's value, the remainders held, and what they say: the last answer
@@ -33,6 +34,17 @@ heldBy m = heldOf (sheetBy m) (m .held)
 -- the last tags of the sheet's clocks; none before the first instant
 abbrev pub lastBy : Monitor → Option (List ℤ)
 lastBy m = cond (eqb (m .instants) 0) none (some (take (m .sheet .clocks) (m .tags)))
+
+-- ---- unused places
+
+-- a monitor keeps nothing in unused places
+pub record KeepsNothing (m : Monitor) : Type 0 where
+  -- remainders past live: all of them once exhausted or broken
+  pub rest : BlankFrom (liveCount (m .held .count)) blankRemainder (m .held .remainders)
+  -- and in each remainder
+  pub each : (k : ℕ) → NothingUnused (sheetValue (m .sheet)) (getD (m .held .remainders) k blankRemainder)
+  -- last tags of clocks from C on
+  pub tags : BlankFrom (m .sheet .clocks) (pos 0) (m .tags)
 
 -- ---- no monitor
 

@@ -21,8 +21,7 @@ use Rattle.judge.specs.declared.monitor.Monitor.{Monitor}
 use Rattle.judge.specs.declared.monitor.CallResult.{CallResult}
 use Rattle.judge.specs.Answer.{replyOf, saidBy}
 use Rattle.judge.specs.Limits.{monitorWithin}
-use Rattle.judge.specs.Unused.{KeepsNothing}
-use Rattle.judge.specs.Monitor.{sheetBy, heldBy, lastBy, noMonitor, refusal}
+use Rattle.judge.specs.Monitor.{KeepsNothing, sheetBy, heldBy, lastBy, noMonitor, refusal}
 
 -- m is a monitor of the sheet s after the accepted instants run: of the instants it has their number, the last tags and the last answer;
 -- while the answer is not exhausted its remainders are the run's distinct ones, each once, and each has an obligation once and a countdown once; and it is within its limits

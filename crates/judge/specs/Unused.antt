@@ -3,14 +3,12 @@ use mathlib.Core.Bool.{false}
 use mathlib.Core.List.{List}
 use mathlib.Core.Path.{_≡_}
 use Prim.Native.Nat.{ℕ, _≤_}
-use lib.IntN.{pos}
 use lib.ListN.{getD}
 use Rattle.records.specs.Line.{blankLine}
-use Rattle.records.specs.Sheet.{SheetValue, sheetValue}
+use Rattle.records.specs.Sheet.{SheetValue}
 use Rattle.work.specs.View.{inUse}
 use Rattle.judge.specs.declared.remainder.Remainder.{Remainder}
-use Rattle.judge.specs.declared.monitor.Monitor.{Monitor}
-use Rattle.judge.specs.View.{blankObligation, blankRemainder, liveCount}
+use Rattle.judge.specs.View.{blankObligation}
 
 -- from place n on an array holds the blank d
 abbrev pub BlankFrom : {A : Type 0} → ℕ → A → List A → Type 0
@@ -26,12 +24,3 @@ pub record NothingUnused (v : SheetValue) (r : Remainder) : Type 0 where
   pub leads : (k : ℕ) → getD (r .leads) k 0 ≡ inUse (getD (v .lines) k blankLine) (getD (r .leads) k 0)
   -- stopped clocks from C on
   pub stopped : BlankFrom (v .clocks) false (r .stopped)
-
--- a monitor keeps nothing in unused places
-pub record KeepsNothing (m : Monitor) : Type 0 where
-  -- remainders past live: all of them once exhausted or broken
-  pub rest : BlankFrom (liveCount (m .held .count)) blankRemainder (m .held .remainders)
-  -- and in each remainder
-  pub each : (k : ℕ) → NothingUnused (sheetValue (m .sheet)) (getD (m .held .remainders) k blankRemainder)
-  -- last tags of clocks from C on
-  pub tags : BlankFrom (m .sheet .clocks) (pos 0) (m .tags)

@@ -1,6 +1,6 @@
 -- The code's structs as tesl's values.
 use mathlib.Core.Bool.{Bool, true, false, _&&_}
-use mathlib.Core.List.{List, [], _∷_, map}
+use mathlib.Core.List.{List, map}
 use mathlib.Core.Option.{Option, none, some}
 use Prim.Native.Nat.{ℕ}
 use lib.Dec.{leb, eqb}
@@ -11,8 +11,6 @@ use Rattle.tesl.specs.Fits.{Obligation, Countdown}
 use Rattle.tesl.specs.Remainder.{Remainder}
 use Rattle.work.specs.View.{usedPart, heldList}
 use Rattle.judge.specs.declared.obligation.Obligation as code
-use Rattle.judge.specs.declared.line.NewObligation.{NewObligation}
-use Rattle.judge.specs.declared.line.NewObligation.the-variants.{Nothing, Owed}
 use Rattle.judge.specs.declared.remainder.Remainder as arrays
 use Rattle.judge.specs.declared.held.Status.{Status}
 use Rattle.judge.specs.declared.held.Status.the-variants.{Exhausted, Live}
@@ -30,11 +28,6 @@ countdownOf o = record { clock = o .clock; on = o .on; wanted = o .number }
 -- the same as they are stored
 abbrev pub sameStored : code.Obligation → code.Obligation → Bool
 sameStored a b = eqb (a .clock) (b .clock) && (eqb (a .number) (b .number) && eqb (a .on) (b .on))
-
--- what a line begins, as the list of it
-abbrev pub newObligation : NewObligation → List code.Obligation
-newObligation Nothing = []
-newObligation (Owed o) = o ∷ []
 
 -- ---- a remainder in arrays
 

@@ -14,7 +14,7 @@ ghost use Rattle.tesl.specs.Lists.{any};
 ghost use Rattle.judge.specs.Word.{dueOf};
 ghost use Rattle.judge.specs.View.{sameStored};
 ghost use Rattle.judge.specs.Plan.{delaysFrom, countedRows};
-ghost use Rattle.judge.specs.Filling.{LinesBegin};
+ghost use Rattle.judge.specs.Begun.{LinesBegin};
 
 // The first `owed` are obligations, those from there to `count` countdowns.
 pub(crate) struct NewObligations {

@@ -1,7 +1,7 @@
 // What depends on a filling alone, gathered once for all rows.
 use crate::delays::begin_delays;
 use crate::leads::lead_changes;
-use crate::limits::MOST_DUE;
+use crate::obligation::MOST_DUE;
 use crate::obligation::Obligation;
 use crate::plan::NUMBERS;
 use crate::plan::Plan;

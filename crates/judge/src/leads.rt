@@ -7,7 +7,7 @@ ghost use mathlib.Core.Path.{_≡_};
 ghost use Prim.Native.Nat.{_-_, _≤_};
 ghost use Rattle.theory.specs.Step.{bit};
 ghost use Rattle.work.specs.Parts.{isPrecedes};
-ghost use Rattle.judge.specs.Filling.{AskedLead, LeadChangesOf};
+ghost use Rattle.judge.specs.Begun.{AskedLead, LeadChangesOf};
 
 pub(crate) fn precedes(l: Line) -> bool
     ensures { λ r. ⌜ r ≡ isPrecedes l ⌝ }

@@ -2,6 +2,10 @@
 use crate::held::Held;
 use crate::held::Status;
 use crate::monitor::Monitor;
+use crate::obligation::LEAST_DUE;
+use crate::obligation::LEAST_WANTED;
+use crate::obligation::MOST_DUE;
+use crate::obligation::MOST_WANTED;
 use crate::obligation::Obligation;
 use crate::remainder::Remainder;
 use records::line::Line;
@@ -18,16 +22,6 @@ ghost use Rattle.tesl.specs.Lists.{all};
 ghost use Rattle.theory.specs.Step.{nextLeads};
 ghost use Rattle.work.specs.View.{inUse};
 ghost use Rattle.judge.specs.Limits.{storedWithin, setWithin, remainderWithin, heldWithin, Limited};
-
-// The numbers of dues, counted from the least tag: from it to the end of the scale, 32,767.
-pub(crate) const LEAST_DUE: u16 = 0;
-
-pub(crate) const MOST_DUE: u16 = 65535;
-
-// Ticks still wanted.
-pub(crate) const LEAST_WANTED: u16 = 1;
-
-pub(crate) const MOST_WANTED: u16 = 255;
 
 // Its clocks below `clocks`, and its number within bounds.
 pub(crate) fn obligation_within(clocks: u8, least: u16, most: u16, o: Obligation) -> bool

@@ -11,8 +11,7 @@ ghost use lib.IntN.{_+ℤ_, _*ℤ_};
 ghost use Rattle.tesl.specs.Fits.{eqZ};
 ghost use Rattle.work.specs.Questions.{tagsHold, stoppedAfter};
 ghost use Rattle.judge.specs.Word.{dueOf};
-ghost use Rattle.judge.specs.View.{newObligation};
-ghost use Rattle.judge.specs.Filling.{countStored, LineBegins};
+ghost use Rattle.judge.specs.Begun.{newObligation, countStored, LineBegins};
 
 // What a line begins at an instant.
 pub(crate) enum NewObligation {

@@ -21,6 +21,16 @@ pub struct Obligation {
     pub number: u16,
 }
 
+// The numbers of dues, counted from the least tag: from it to the end of the scale, 32,767.
+pub(crate) const LEAST_DUE: u16 = 0;
+
+pub(crate) const MOST_DUE: u16 = 65535;
+
+// Ticks still wanted.
+pub(crate) const LEAST_WANTED: u16 = 1;
+
+pub(crate) const MOST_WANTED: u16 = 255;
+
 // The tags below 0: the least is −32,768.
 const NEGATIVE_TAGS: i64 = 32768;
 

@@ -1,10 +1,10 @@
 // The limits of remainders in rows, refusal 11, tested where they stand.
 use crate::held::Status;
-use crate::limits::LEAST_DUE;
-use crate::limits::LEAST_WANTED;
-use crate::limits::MOST_DUE;
-use crate::limits::MOST_WANTED;
 use crate::limits::obligation_within;
+use crate::obligation::LEAST_DUE;
+use crate::obligation::LEAST_WANTED;
+use crate::obligation::MOST_DUE;
+use crate::obligation::MOST_WANTED;
 use crate::plan::Plan;
 use crate::rows::COUNTDOWNS;
 use crate::rows::LEADS;

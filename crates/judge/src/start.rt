@@ -14,7 +14,8 @@ ghost use mathlib.Core.List.{map};
 ghost use Rattle.records.specs.Sheet.{sheetValue};
 ghost use Rattle.tesl.specs.Lists.{flatMap};
 ghost use Rattle.tesl.specs.Fits.{owedAtStart};
-ghost use Rattle.judge.specs.View.{obligationOf, newObligation};
+ghost use Rattle.judge.specs.View.{obligationOf};
+ghost use Rattle.judge.specs.Begun.{newObligation};
 ghost use Rattle.judge.specs.Rows.{headRows, Row};
 ghost use Rattle.judge.specs.Start.{BlankRow, StartedRow, BegunRows};
 

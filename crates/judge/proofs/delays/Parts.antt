@@ -18,7 +18,7 @@ use Rattle.theory.specs.Adding.{insertAll, onceEach}
 use Rattle.judge.specs.declared.obligation.Obligation as code
 use Rattle.judge.specs.View.{sameStored}
 use Rattle.judge.specs.Plan.{planRows, delaysFrom, countedRows, planLine}
-use Rattle.judge.specs.Filling.{storedBy, storedOnce, ReadsOwed, LinesBegin}
+use Rattle.judge.specs.Begun.{storedBy, storedOnce, ReadsOwed, LinesBegin}
 use Rattle.judge.proofs.delays.Laws.{none-from, begunFrom, begun-start, begun-end, gathering-end, gathering-nothing, gathering-again, gathering-more}
 
 -- the row of the line of turn j

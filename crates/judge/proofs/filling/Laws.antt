@@ -20,7 +20,7 @@ use Rattle.work.specs.Parts.{isCounted}
 use Rattle.judge.specs.declared.obligation.Obligation as code
 use Rattle.judge.specs.View.{countdownOf, sameStored}
 use Rattle.judge.specs.Plan.{planLine, planLines}
-use Rattle.judge.specs.Filling.{countStored, storedBy, storedOnce}
+use Rattle.judge.specs.Begun.{countStored, storedBy, storedOnce}
 use Rattle.judge.proofs.rows.Reading.{once-each-read}
 use Rattle.judge.proofs.delays.Laws.{begun-read, of-kind}
 

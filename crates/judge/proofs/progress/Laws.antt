@@ -39,14 +39,14 @@ use Rattle.judge.specs.declared.plan.Plan.{Plan}
 use Rattle.judge.specs.declared.progress.Progress.{Progress}
 use Rattle.judge.specs.declared.monitor.Monitor.{Monitor}
 use Rattle.judge.specs.View.{obligationOf, countdownOf, owedOf, countdownsOf, viewOf, heldOf, liveCount, fewOwed, sized}
-use Rattle.judge.specs.Unused.{BlankFrom, KeepsNothing}
+use Rattle.judge.specs.Unused.{BlankFrom}
 use Rattle.judge.specs.Answer.{answerOf, saidBy}
 use Rattle.judge.specs.Limits.{sheetWithin, monitorWithin, Limited}
 use Rattle.judge.specs.Plan.{numbers, Preparing, PlanOf}
 use Rattle.judge.specs.Rows.{words, rowCount, rowObligation, rowOwed, rowCountdowns, rowLeads, rowStopped, rowOf, FewInRow}
 use Rattle.judge.specs.Apply.{Side, foundIn, FewOwedIn}
 use Rattle.judge.specs.Stored.{StoringHeld, StoredHeld, FromRows}
-use Rattle.judge.specs.Monitor.{sheetBy, heldBy, Accepts}
+use Rattle.judge.specs.Monitor.{KeepsNothing, sheetBy, heldBy, Accepts}
 use Rattle.judge.specs.Fill.{Working}
 use Rattle.judge.specs.Progress.{rowRemainder, rowsHeld, rowsMonitor, progressOf, given, readBack, Ready}
 use Rattle.judge.specs.Promises.{Follows}

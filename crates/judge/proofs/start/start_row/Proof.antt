@@ -12,7 +12,8 @@ use Rattle.theory.specs.Adding.{addedTo}
 use Rattle.tesl.specs.Remainder.{sameObligation}
 use Rattle.work.specs.Owed.{addedAll}
 use Rattle.judge.specs.declared.line.NewObligation.{NewObligation}
-use Rattle.judge.specs.View.{obligationOf, newObligation}
+use Rattle.judge.specs.View.{obligationOf}
+use Rattle.judge.specs.Begun.{newObligation}
 use Rattle.judge.specs.Rows.{rowCount, rowOwed, provided, PartStays}
 use Rattle.judge.proofs.obligation.Laws.{same-read}
 use Rattle.judge.proofs.rows.Reading.{added-row-read}
