@@ -12,10 +12,10 @@ use Rattle.tesl.specs.Remainder.{Remainder}
 use Rattle.tesl.specs.Answer.{judged}
 use Rattle.tesl.proofs.Tests.{≡→T}
 use Rattle.work.specs.View.{heldList}
-use Rattle.judge.specs.declared.held.Status.{Status}
-use Rattle.judge.specs.declared.held.Status.the-variants.{Exhausted, Live}
+use Rattle.remainders.specs.declared.held.Status.{Status}
+use Rattle.remainders.specs.declared.held.Status.the-variants.{Exhausted, Live}
 use Rattle.judge.specs.declared.monitor.Monitor.{Monitor}
-use Rattle.judge.specs.View.{viewOf, heldIn}
+use Rattle.remainders.specs.View.{viewOf, heldIn}
 use Rattle.judge.specs.Answer.{saidBy}
 use Rattle.judge.specs.Entry.{liveCode}
 use Rattle.judge.specs.Limits.{sheetWithin, heldWithin, monitorWithin}

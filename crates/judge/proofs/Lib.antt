@@ -1,5 +1,3 @@
-pub mod Whole
-pub mod Places
 pub mod Demands
 pub mod SameAnswers
 pub mod LiveDemands

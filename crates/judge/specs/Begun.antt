@@ -17,11 +17,11 @@ use Rattle.work.specs.View.{filledOf}
 use Rattle.work.specs.Questions.{tickIn}
 use Rattle.work.specs.Carried.{needOf, gainOf, lossOf}
 use Rattle.work.specs.Parts.{isDelay}
-use Rattle.judge.specs.declared.obligation.Obligation as code
+use Rattle.remainders.specs.declared.obligation.Obligation as code
 use Rattle.judge.specs.declared.line.NewObligation.{NewObligation}
 use Rattle.judge.specs.declared.line.NewObligation.the-variants.{Nothing, Owed}
-use Rattle.judge.specs.Word.{dueNumber}
-use Rattle.judge.specs.View.{obligationOf, sameStored}
+use Rattle.remainders.specs.Word.{dueNumber}
+use Rattle.remainders.specs.View.{obligationOf, sameStored}
 use Rattle.judge.specs.Plan.{delaysFrom, countedRows, planLine, planLines}
 
 -- ---- what lines begin, as it is stored

@@ -18,10 +18,10 @@ use Rattle.work.specs.Work.{worked}
 use Rattle.judge.specs.declared.fill.Before.{Before}
 use Rattle.judge.specs.declared.fill.Extent.{Extent}
 use Rattle.judge.specs.declared.plan.Plan.{Plan}
-use Rattle.judge.specs.declared.held.Status.{Status}
-use Rattle.judge.specs.View.{liveCount}
+use Rattle.remainders.specs.declared.held.Status.{Status}
+use Rattle.remainders.specs.View.{liveCount}
 use Rattle.judge.specs.Plan.{PlanFits, Planned}
-use Rattle.judge.specs.Rows.{sides, words, RowsStay}
+use Rattle.remainders.specs.Rows.{sides, words, RowsStay}
 use Rattle.judge.specs.Apply.{Side, FewOwedIn, foundIn, builtRows}
 
 -- room for the fillings left, after the first n

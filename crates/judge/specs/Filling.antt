@@ -18,14 +18,14 @@ use Rattle.work.specs.Carried.{needOf, gainOf, lossOf}
 use Rattle.work.specs.Owed.{Owings, begunBy, eachOnce}
 use Rattle.work.specs.Parts.{isRule, Leading}
 use Rattle.work.specs.Work.{advanced}
-use Rattle.judge.specs.declared.obligation.Obligation as code
+use Rattle.remainders.specs.declared.obligation.Obligation as code
 use Rattle.judge.specs.declared.advance.Next.{Next}
 use Rattle.judge.specs.declared.advance.Next.the-variants.{Fails, Over, Onto}
 use Rattle.judge.specs.declared.filling.Filling.{Filling}
 use Rattle.judge.specs.declared.plan.Plan.{Plan}
-use Rattle.judge.specs.View.{countdownOf, firstOf}
+use Rattle.remainders.specs.View.{countdownOf, firstOf}
 use Rattle.judge.specs.Plan.{PlanFits, Planned}
-use Rattle.judge.specs.Rows.{width, rowOf, FewInRow, Between, Stays}
+use Rattle.remainders.specs.Rows.{width, rowOf, FewInRow, Between, Stays}
 
 -- the instant, and what its delay lines and its counted lines begin
 abbrev pub filledInstant : Filling → Filled

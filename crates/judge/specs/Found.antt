@@ -11,9 +11,9 @@ use Rattle.tesl.specs.Answer.{mostLive}
 use Rattle.judge.specs.declared.progress.Progress.{Progress}
 use Rattle.judge.specs.declared.plan.Plan.{Plan}
 use Rattle.judge.specs.declared.live.Found.{Found}
-use Rattle.judge.specs.View.{liveCount}
+use Rattle.remainders.specs.View.{liveCount}
 use Rattle.judge.specs.Plan.{PlanFits, Planned}
-use Rattle.judge.specs.Rows.{words, headRows, width, sides, word, RowsStay}
+use Rattle.remainders.specs.Rows.{words, headRows, width, sides, word, RowsStay}
 use Rattle.judge.specs.Apply.{Side, foundIn, FewOwedIn}
 use Rattle.judge.specs.Fill.{workedRows}
 use Rattle.judge.specs.UnusedWords.{NothingBeside}

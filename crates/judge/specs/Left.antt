@@ -9,11 +9,11 @@ use lib.Signed.{leZ}
 use Rattle.tesl.specs.Run.{Filled, tagIn}
 use Rattle.tesl.specs.Fits.{meets}
 use Rattle.work.specs.Questions.{tickIn}
-use Rattle.judge.specs.declared.obligation.Obligation as code
+use Rattle.remainders.specs.declared.obligation.Obligation as code
 use Rattle.judge.specs.declared.left.Left.{Left}
 use Rattle.judge.specs.declared.left.Left.the-variants.{Done, Unfit, Still}
-use Rattle.judge.specs.View.{obligationOf}
-use Rattle.judge.specs.Rows.{rowCount, rowSet, provided, PartStays}
+use Rattle.remainders.specs.View.{obligationOf}
+use Rattle.remainders.specs.Rows.{rowCount, rowSet, provided, PartStays}
 
 -- it is met, late, or still owed
 abbrev pub leftOwed : Filled → code.Obligation → Left

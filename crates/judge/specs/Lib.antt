@@ -2,15 +2,12 @@
 
 -- ---- to be believed: what the public functions promise, and the demands. Read in this order:
 -- what a word is read as: `dueOf`, `flagOf`
-pub mod Word
 -- the code's structs as tesl's values
-pub mod View
 -- an answer and a reply as document 01's
 pub mod Answer
 -- the limits of a monitor: `monitorWithin`, the promise of `within_limits`
 pub mod Limits
 -- unused places of a remainder: `NothingUnused`
-pub mod Unused
 -- what a monitor keeps: `sheetBy`, `heldBy`, `lastBy`, and nothing in unused places, `KeepsNothing`; `refusal`; the records after them are inner promises
 pub mod Monitor
 -- the promises of `open`, `open_unordered` and `observe`
@@ -23,7 +20,6 @@ pub mod Log
 pub mod Demands
 -- ---- to be believed of a monitor in words that a caller lends; the records in Rows and Progress are inner promises
 -- what a row of words and six words are read as: `word`, `rowSet`, `rowLead`, `rowStop`, `lineOfWords`; a row's words that no set uses: `NothingInParts`
-pub mod Rows
 pub mod LineWords
 -- the struct that a sheet, what is kept beside it, and rows stand for: `rowsMonitor`
 pub mod Progress

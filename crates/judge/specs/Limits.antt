@@ -13,13 +13,13 @@ use Rattle.records.specs.Sheet.{SheetValue, sheetValue, sheetValueChecks}
 use Rattle.records.specs.Types.{IsSheet}
 use Rattle.tesl.specs.Lists.{all}
 use Rattle.tesl.specs.Fits.{mostTag, Obligation, Countdown}
-use Rattle.judge.specs.declared.obligation.Obligation as code
-use Rattle.judge.specs.declared.remainder.Remainder as arrays
-use Rattle.judge.specs.declared.held.Status.{Status}
-use Rattle.judge.specs.declared.held.Status.the-variants.{Exhausted, Live}
+use Rattle.remainders.specs.declared.obligation.Obligation as code
+use Rattle.remainders.specs.declared.remainder.Remainder as arrays
+use Rattle.remainders.specs.declared.held.Status.{Status}
+use Rattle.remainders.specs.declared.held.Status.the-variants.{Exhausted, Live}
 use Rattle.judge.specs.declared.monitor.Monitor.{Monitor}
-use Rattle.judge.specs.Word.{dueNumber}
-use Rattle.judge.specs.View.{owedOf, countdownsOf, viewOf}
+use Rattle.remainders.specs.Word.{dueNumber}
+use Rattle.remainders.specs.View.{owedOf, countdownsOf, viewOf}
 
 abbrev pub isTaken : {A : Type 0} → Outcome A → Bool
 isTaken (taken x) = true

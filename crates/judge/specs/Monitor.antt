@@ -16,12 +16,12 @@ use Rattle.tesl.specs.Remainder.{Remainder}
 use Rattle.work.specs.View.{seenOf, tagsBefore}
 use Rattle.work.specs.Lines.{smallLeads}
 use Rattle.work.specs.Work.{worked}
-use Rattle.judge.specs.declared.held.Status.the-variants.{Live}
+use Rattle.remainders.specs.declared.held.Status.the-variants.{Live}
 use Rattle.judge.specs.declared.answer.Reply.the-variants as reply
 use Rattle.judge.specs.declared.monitor.Monitor.{Monitor}
 use Rattle.judge.specs.declared.monitor.CallResult.{CallResult}
-use Rattle.judge.specs.View.{blankRemainder, liveCount, heldOf, liveOf, sized}
-use Rattle.judge.specs.Unused.{BlankFrom, NothingUnused}
+use Rattle.remainders.specs.View.{blankRemainder, liveCount, heldOf, liveOf, sized}
+use Rattle.remainders.specs.Unused.{BlankFrom, NothingUnused}
 use Rattle.judge.specs.Answer.{replyOf, saidBy}
 
 -- the sheet's value, the remainders held, and what they say: the last answer

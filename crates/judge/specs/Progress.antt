@@ -11,25 +11,25 @@ use Rattle.records.specs.Lists.{listed}
 use Rattle.records.specs.Sheet.{sheetValue}
 use Rattle.records.specs.Types.{IsSheet}
 use Rattle.tesl.specs.Answer.{mostLive}
-use Rattle.judge.specs.declared.remainder.Remainder as arrays
+use Rattle.remainders.specs.declared.remainder.Remainder as arrays
 use Rattle.judge.specs.declared.answer.Answer.{Answer}
 use Rattle.judge.specs.declared.answer.Reply.{Reply}
 use Rattle.judge.specs.declared.answer.Reply.the-variants.{Answered, Refused}
-use Rattle.judge.specs.declared.held.Status.{Status}
-use Rattle.judge.specs.declared.held.Status.the-variants.{Live}
-use Rattle.judge.specs.declared.held.Held.{Held}
+use Rattle.remainders.specs.declared.held.Status.{Status}
+use Rattle.remainders.specs.declared.held.Status.the-variants.{Live}
+use Rattle.remainders.specs.declared.held.Held.{Held}
 use Rattle.judge.specs.declared.plan.Plan.{Plan}
 use Rattle.judge.specs.declared.progress.Progress.{Progress}
 use Rattle.judge.specs.declared.progress.InstantResult.{InstantResult}
 use Rattle.judge.specs.declared.monitor.Monitor.{Monitor}
 use Rattle.judge.specs.declared.monitor.CallResult.{CallResult}
-use Rattle.judge.specs.View.{liveCount}
-use Rattle.judge.specs.Unused.{BlankFrom}
+use Rattle.remainders.specs.View.{liveCount}
+use Rattle.remainders.specs.Unused.{BlankFrom}
 use Rattle.judge.specs.Limits.{monitorWithin}
 use Rattle.judge.specs.Monitor.{Accepts}
 use Rattle.judge.specs.Plan.{Planned}
 use Rattle.judge.specs.Stored.{FromRows}
-use Rattle.judge.specs.Rows.{headRows, sides, rowCount, rowSet, rowLeads, rowStopped, RowsStay}
+use Rattle.remainders.specs.Rows.{headRows, sides, rowCount, rowSet, rowLeads, rowStopped, RowsStay}
 use Rattle.judge.specs.Promises.{Called}
 use Rattle.judge.specs.Fill.{Working, workedRows}
 

@@ -7,11 +7,11 @@ use lib.Dec.{leb}
 use lib.ListN.{getD}
 use Rattle.records.specs.Sheet.{SheetValue}
 use Rattle.tesl.specs.Lists.{below}
-use Rattle.judge.specs.declared.held.Status.{Status}
+use Rattle.remainders.specs.declared.held.Status.{Status}
 use Rattle.judge.specs.declared.plan.Plan.{Plan}
 use Rattle.judge.specs.Limits.{storedWithin, remainderWithin, heldWithin}
 use Rattle.judge.specs.Plan.{PlanFits, Planned}
-use Rattle.judge.specs.Rows.{secondSide, height, rowObligation, rowLead}
+use Rattle.remainders.specs.Rows.{secondSide, height, rowObligation, rowLead}
 use Rattle.judge.specs.Progress.{rowRemainder, rowsHeld}
 
 -- place j of a part of row i, and the lead of line k, which only precedes lines have

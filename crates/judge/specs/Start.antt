@@ -10,8 +10,8 @@ use Rattle.tesl.specs.Lists.{flatMap}
 use Rattle.tesl.specs.Fits.{Obligation, owedAtStart}
 use Rattle.tesl.specs.Remainder.{remainder}
 use Rattle.work.specs.Owed.{owing, addedAll}
-use Rattle.judge.specs.declared.held.Status.the-variants.{Live}
-use Rattle.judge.specs.Rows.{width, words, headRows, word, rowCount, rowOwed, rowsOf, provided, PartStays}
+use Rattle.remainders.specs.declared.held.Status.the-variants.{Live}
+use Rattle.remainders.specs.Rows.{width, words, headRows, word, rowCount, rowOwed, rowsOf, provided, PartStays}
 use Rattle.judge.specs.Apply.{FewOwedIn}
 
 -- row i, all words of it 0

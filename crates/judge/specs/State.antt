@@ -16,14 +16,14 @@ use Rattle.records.specs.Line.{blankLine}
 use Rattle.records.specs.Sheet.{slotOf, lineAt, sheetValue}
 use Rattle.records.specs.Word.{tagOf, rawOf}
 use Rattle.tesl.specs.Lists.{below}
-use Rattle.judge.specs.declared.held.Status.{Status}
-use Rattle.judge.specs.declared.held.Status.the-variants.{Exhausted, Live}
+use Rattle.remainders.specs.declared.held.Status.{Status}
+use Rattle.remainders.specs.declared.held.Status.the-variants.{Exhausted, Live}
 use Rattle.judge.specs.declared.progress.Progress.{Progress}
 use Rattle.judge.specs.declared.line_words.LineWords.{LineWords}
 use Rattle.judge.specs.declared.monitor.Monitor.{Monitor}
 use Rattle.judge.specs.LineWords.{lineOfWords, wordsOf}
-use Rattle.judge.specs.View.{liveCount}
-use Rattle.judge.specs.Rows.{headRows, secondSide, width, words, word, Stays}
+use Rattle.remainders.specs.View.{liveCount}
+use Rattle.remainders.specs.Rows.{headRows, secondSide, width, words, word, Stays}
 use Rattle.judge.specs.Progress.{rowsMonitor}
 
 -- what word 0 of row 0 is in a state: the format and its version, 0x4C460003

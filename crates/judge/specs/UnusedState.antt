@@ -7,8 +7,8 @@ use lib.ListN.{getD}
 use Rattle.records.specs.Line.{blankLine}
 use Rattle.records.specs.Sheet.{SheetValue, sheetValue}
 use Rattle.work.specs.Parts.{isPrecedes}
-use Rattle.judge.specs.View.{liveCount}
-use Rattle.judge.specs.Rows.{stoppedPart, width, height, headRows, word, rowLead, NothingInParts}
+use Rattle.remainders.specs.View.{liveCount}
+use Rattle.remainders.specs.Rows.{stoppedPart, width, height, headRows, word, rowLead, NothingInParts}
 use Rattle.judge.specs.State.{stateWords, stateSheet, stateProgress, noWords}
 
 -- the words of row i that a remainder of the sheet doesn't use

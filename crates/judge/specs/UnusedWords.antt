@@ -6,9 +6,9 @@ use Prim.Native.Nat.{ℕ, _+_, _≤_, _<_}
 use lib.Dec.{ltb}
 use lib.ListN.{getD}
 use Rattle.judge.specs.declared.plan.Plan.{Plan}
-use Rattle.judge.specs.declared.held.Status.{Status}
-use Rattle.judge.specs.View.{liveCount}
-use Rattle.judge.specs.Rows.{stoppedPart, width, height, headRows, word, rowLead, NothingInParts}
+use Rattle.remainders.specs.declared.held.Status.{Status}
+use Rattle.remainders.specs.View.{liveCount}
+use Rattle.remainders.specs.Rows.{stoppedPart, width, height, headRows, word, rowLead, NothingInParts}
 
 -- line k is a precedes line: before `leaders`, where there is a flag
 abbrev pub leadUsed : ℕ → List Bool → ℕ → Bool

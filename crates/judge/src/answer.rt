@@ -1,9 +1,9 @@
 // What the monitor answers.
-use crate::held::Status;
-use crate::rows::COUNTDOWNS;
-use crate::rows::OBLIGATIONS;
-use crate::rows::SIZE;
-use crate::rows::row_count;
+use remainders::held::Status;
+use remainders::rows::COUNTDOWNS;
+use remainders::rows::OBLIGATIONS;
+use remainders::rows::SIZE;
+use remainders::rows::row_count;
 ghost use mathlib.Core.Path.{_≡_};
 ghost use mathlib.Core.Bool.{_&&_};
 ghost use Prim.Native.Nat.{_+_, _≤_, _<_};
@@ -12,7 +12,7 @@ ghost use Rattle.records.specs.Sheet.{SheetValue};
 ghost use Rattle.tesl.specs.Lists.{any};
 ghost use Rattle.tesl.specs.Remainder.{isClear};
 ghost use Rattle.judge.specs.Answer.{answerOf, saidBy};
-ghost use Rattle.judge.specs.Rows.{secondSide, height, rowCount, rowsOf};
+ghost use Rattle.remainders.specs.Rows.{secondSide, height, rowCount, rowsOf};
 ghost use Rattle.judge.specs.Apply.{foundIn, FewOwedIn};
 
 // live: how many distinct remainders; clear: one of them owes nothing.

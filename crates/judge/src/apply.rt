@@ -1,12 +1,12 @@
 // The rows held, by one filling: what each becomes is built in the row after those found.
 use crate::advance::Next;
 use crate::advance::advance_row;
-use crate::compare::is_duplicate;
 use crate::filling::Filling;
-use crate::held::Status;
 use crate::plan::Plan;
-use crate::rows::SIZE;
 use records::number;
+use remainders::compare::is_duplicate;
+use remainders::held::Status;
+use remainders::rows::SIZE;
 ghost use Rattle.judge.specs.Apply.{Applying, Applied};
 
 // Those found from row `to` on, with what each of n rows from row `from` on becomes by a filling that the rules allow.

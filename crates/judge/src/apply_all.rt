@@ -1,13 +1,13 @@
 // The rows held, filling by filling of an instant.
 use crate::apply::apply_filling;
 use crate::filling::gather;
-use crate::held::Status;
 use crate::list::LIST;
 use crate::list::flags_at;
 use crate::plan::NUMBERS;
 use crate::plan::Plan;
-use crate::rows::SIDES;
-use crate::rows::SIZE;
+use remainders::held::Status;
+use remainders::rows::SIDES;
+use remainders::rows::SIZE;
 ghost use Rattle.work.specs.Fillings.{fillingsIn};
 ghost use Rattle.judge.specs.Apply.{ApplyingAll, AppliedAll};
 

@@ -1,18 +1,18 @@
 // What lines of the plan begin by a filling: the obligations of its delay lines, each once, and behind them the countdowns of its counted lines, each once.
 use crate::line::NewObligation;
 use crate::line::begins;
-use crate::obligation::Obligation;
-use crate::obligation::same_obligation;
 use crate::plan::COUNTED;
 use crate::plan::DELAYS;
 use crate::plan::NUMBERS;
 use crate::plan::plan_line;
+use remainders::obligation::Obligation;
+use remainders::obligation::same_obligation;
 ghost use mathlib.Core.Path.{_≡_};
 ghost use Prim.Native.Nat.{_+_, _-_, _≤_, _<_};
 ghost use lib.ListN.{drop, take};
 ghost use Rattle.tesl.specs.Lists.{any};
-ghost use Rattle.judge.specs.Word.{dueOf};
-ghost use Rattle.judge.specs.View.{sameStored};
+ghost use Rattle.remainders.specs.Word.{dueOf};
+ghost use Rattle.remainders.specs.View.{sameStored};
 ghost use Rattle.judge.specs.Plan.{delaysFrom, countedRows};
 ghost use Rattle.judge.specs.Begun.{LinesBegin};
 

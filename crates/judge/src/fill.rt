@@ -1,6 +1,5 @@
 // The fillings of an instant, and what the rows held become by them.
 use crate::apply_all::apply_all;
-use crate::held::Status;
 use crate::lines::all_tags_hold;
 use crate::lines::none_falls;
 use crate::list::LIST;
@@ -8,12 +7,13 @@ use crate::list::put_flags;
 use crate::plan::NUMBERS;
 use crate::plan::Plan;
 use crate::relevant::flag_rows;
-use crate::rows::SIZE;
 use crate::rules::all_hold;
 use crate::rules::is_forbidden;
 use records::instant::Instant;
 use records::instant::Tick;
 use records::instant::TickSlot;
+use remainders::held::Status;
+use remainders::rows::SIZE;
 ghost use mathlib.Core.Path.{_≡_};
 ghost use mathlib.Core.Bool.{true, _&&_};
 ghost use Prim.Native.Nat.{_≤_, _<_};

@@ -1,11 +1,11 @@
 // What depends on a filling alone, gathered once for all rows.
 use crate::delays::begin_delays;
 use crate::leads::lead_changes;
-use crate::obligation::MOST_DUE;
-use crate::obligation::Obligation;
 use crate::plan::NUMBERS;
 use crate::plan::Plan;
 use crate::rules::all_stops;
+use remainders::obligation::MOST_DUE;
+use remainders::obligation::Obligation;
 ghost use Rattle.judge.specs.Plan.{PlanFits};
 ghost use Rattle.judge.specs.Filling.{Gathered};
 

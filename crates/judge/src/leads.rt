@@ -1,8 +1,8 @@
 // Which lines have leads, and what a filling asks of the leads and makes of them: once per filling.
-use crate::clock::ticks_at;
 use crate::plan::NUMBERS;
 use crate::plan::plan_line;
 use records::line::Line;
+use remainders::clock::ticks_at;
 ghost use mathlib.Core.Path.{_≡_};
 ghost use Prim.Native.Nat.{_-_, _≤_};
 ghost use Rattle.theory.specs.Step.{bit};

@@ -1,9 +1,9 @@
 // What a filled instant leaves of an obligation or of a countdown.
-use crate::clock::ticks_at;
-use crate::obligation::Obligation;
-use crate::obligation::is_late;
-use crate::obligation::is_met;
-use crate::rows::OBLIGATIONS;
+use remainders::clock::ticks_at;
+use remainders::obligation::Obligation;
+use remainders::obligation::is_late;
+use remainders::obligation::is_met;
+use remainders::rows::OBLIGATIONS;
 ghost use mathlib.Core.Path.{_≡_};
 ghost use mathlib.Core.Bool.{cond};
 ghost use Rattle.work.specs.View.{filledOf};

@@ -1,18 +1,18 @@
 // The limits of a monitor, refusal 11.
-use crate::held::Held;
-use crate::held::Status;
 use crate::monitor::Monitor;
-use crate::obligation::LEAST_DUE;
-use crate::obligation::LEAST_WANTED;
-use crate::obligation::MOST_DUE;
-use crate::obligation::MOST_WANTED;
-use crate::obligation::Obligation;
-use crate::remainder::Remainder;
 use records::line::Line;
 use records::number;
 use records::record::Decision;
 use records::sheet::Sheet;
 use records::sheet::check_sheet;
+use remainders::held::Held;
+use remainders::held::Status;
+use remainders::obligation::LEAST_DUE;
+use remainders::obligation::LEAST_WANTED;
+use remainders::obligation::MOST_DUE;
+use remainders::obligation::MOST_WANTED;
+use remainders::obligation::Obligation;
+use remainders::remainder::Remainder;
 ghost use mathlib.Core.Path.{_≡_};
 ghost use Prim.Native.Nat.{ℕ, _≤_};
 ghost use lib.Dec.{leb};

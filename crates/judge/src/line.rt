@@ -1,16 +1,16 @@
 // One question about a line at a filled instant to each function.
-use crate::clock::stop;
-use crate::clock::tag_at;
-use crate::clock::ticks_at;
-use crate::clock::wide;
-use crate::obligation::Obligation;
-use crate::obligation::due_number;
 use records::line::Line;
+use remainders::clock::stop;
+use remainders::clock::tag_at;
+use remainders::clock::ticks_at;
+use remainders::clock::wide;
+use remainders::obligation::Obligation;
+use remainders::obligation::due_number;
 ghost use mathlib.Core.Path.{_≡_};
 ghost use lib.IntN.{_+ℤ_, _*ℤ_};
 ghost use Rattle.tesl.specs.Fits.{eqZ};
 ghost use Rattle.work.specs.Questions.{tagsHold, stoppedAfter};
-ghost use Rattle.judge.specs.Word.{dueOf};
+ghost use Rattle.remainders.specs.Word.{dueOf};
 ghost use Rattle.judge.specs.Begun.{newObligation, countStored, LineBegins};
 
 // What a line begins at an instant.

@@ -1,10 +1,10 @@
 // A line in six words of 32 bits. Every six words read as a line.
-use crate::word::byte_in;
-use crate::word::number_in;
 use records::line::Line;
 use records::number;
 use records::word::raw_of;
 use records::word::tag_of;
+use remainders::word::byte_in;
+use remainders::word::number_in;
 ghost use Prim.Native.Nat.{_%_};
 ghost use mathlib.Core.Path.{_≡_};
 ghost use Rattle.judge.specs.LineWords.{lineBy, lineOfWords, wordsBy, WordsOf};

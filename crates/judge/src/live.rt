@@ -1,7 +1,6 @@
 // The monitor in a state of words that the caller lends: opened with a sheet, called instant by instant; between calls the words are all there is.
 use crate::answer::Reply;
 use crate::answer::say_rows;
-use crate::held::Status;
 use crate::list::LIST;
 use crate::monitor::CallResult;
 use crate::monitor::blank_monitor;
@@ -12,8 +11,6 @@ use crate::plan::plan_of;
 use crate::progress::Progress;
 use crate::progress::first_progress;
 use crate::progress::observe_rows;
-use crate::rows::HEAD;
-use crate::rows::SIZE;
 use crate::rows_limits::rows_within;
 use crate::start::begin_rows;
 use crate::state::is_state;
@@ -33,6 +30,9 @@ use records::record::Decision;
 use records::sheet::Sheet;
 use records::sheet::check_sheet;
 use records::sheet::read_sheet;
+use remainders::held::Status;
+use remainders::rows::HEAD;
+use remainders::rows::SIZE;
 ghost use mathlib.Core.Path.{_≡_};
 ghost use mathlib.Core.List.{[]};
 ghost use lib.ListN.{length};

@@ -1,5 +1,4 @@
 // A sheet's lines in a lent array of words, a row to each, and what is found out about the sheet once. All lines stand in the sheet's order from row 0 on; its relations, its rules, its delay lines and its counted lines once more, from rows 16, 32, 48 and 64 on.
-use crate::held::clocks_of;
 use crate::leads::precedes;
 use crate::line_words::LineWords;
 use crate::line_words::line_of_words;
@@ -7,6 +6,7 @@ use crate::line_words::words_of_line;
 use crate::relevant::flag_line;
 use records::line::Line;
 use records::sheet::Sheet;
+use remainders::held::clocks_of;
 ghost use mathlib.Core.Bool.{cond};
 ghost use mathlib.Core.Path.{_≡_};
 ghost use Prim.Native.Nat.{_+_, _<_};

@@ -1,17 +1,17 @@
 // The clocks whose unseen ticks an instant's work asks about: those that a line, an obligation held or a countdown held names.
-use crate::clock::stop;
-use crate::obligation::Obligation;
-use crate::rows::OBLIGATIONS;
-use crate::rows::PARTS;
-use crate::rows::SIZE;
-use crate::rows::obligation_at;
-use crate::rows::row_count;
 use records::line::Line;
+use remainders::clock::stop;
+use remainders::obligation::Obligation;
+use remainders::rows::OBLIGATIONS;
+use remainders::rows::PARTS;
+use remainders::rows::SIZE;
+use remainders::rows::obligation_at;
+use remainders::rows::row_count;
 ghost use mathlib.Core.Path.{_≡_};
 ghost use mathlib.Core.List.{_∷_, []};
 ghost use Prim.Native.Nat.{_+_, _≤_, _<_};
 ghost use Rattle.work.specs.Relevant.{namedBy, flagged};
-ghost use Rattle.judge.specs.Rows.{height, parts, rowCount, FewInRow, FewOwed, clocksAsked, partClocks, rowClocks, rowsClocks};
+ghost use Rattle.remainders.specs.Rows.{height, parts, rowCount, FewInRow, FewOwed, clocksAsked, partClocks, rowClocks, rowsClocks};
 
 fn flag_both(flags: [bool; 8], a: u8, b: u8) -> [bool; 8]
     ensures { λ r. ⌜ r ≡ flagged (a ∷ b ∷ []) flags ⌝ }

@@ -1,27 +1,27 @@
 // The limits of remainders in rows, refusal 11, tested where they stand.
-use crate::held::Status;
 use crate::limits::obligation_within;
-use crate::obligation::LEAST_DUE;
-use crate::obligation::LEAST_WANTED;
-use crate::obligation::MOST_DUE;
-use crate::obligation::MOST_WANTED;
 use crate::plan::Plan;
-use crate::rows::COUNTDOWNS;
-use crate::rows::LEADS;
-use crate::rows::OBLIGATIONS;
-use crate::rows::SIZE;
-use crate::rows::obligation_at;
-use crate::rows::row_count;
-use crate::rows::word_at;
-use crate::word::count_in;
 use records::number;
+use remainders::held::Status;
+use remainders::obligation::LEAST_DUE;
+use remainders::obligation::LEAST_WANTED;
+use remainders::obligation::MOST_DUE;
+use remainders::obligation::MOST_WANTED;
+use remainders::rows::COUNTDOWNS;
+use remainders::rows::LEADS;
+use remainders::rows::OBLIGATIONS;
+use remainders::rows::SIZE;
+use remainders::rows::obligation_at;
+use remainders::rows::row_count;
+use remainders::rows::word_at;
+use remainders::word::count_in;
 ghost use mathlib.Core.Path.{_≡_};
 ghost use mathlib.Core.Bool.{not, _||_};
 ghost use Prim.Native.Nat.{_≤_, _<_};
 ghost use lib.Dec.{leb};
 ghost use Rattle.tesl.specs.Lists.{below};
 ghost use Rattle.judge.specs.Limits.{setWithin};
-ghost use Rattle.judge.specs.Rows.{height, parts, rowCount, rowSet};
+ghost use Rattle.remainders.specs.Rows.{height, parts, rowCount, rowSet};
 ghost use Rattle.judge.specs.RowsLimits.{placeFits, leadFits, Testing, TestingAll, RowWithin, EachRowWithin, RowsWithin};
 
 // The first n of a part of row i.

@@ -1,13 +1,13 @@
 // What n rules, the implies, excludes and kills lines of a sheet, say of a filling.
-use crate::clock::ticks_at;
 use crate::line::stopped_after;
 use crate::plan::LINE_WIDTH;
 use crate::plan::NUMBERS;
 use crate::plan::RULES;
 use crate::plan::plan_line;
-use crate::word::byte_in;
-use crate::word::number_in;
 use records::number;
+use remainders::clock::ticks_at;
+use remainders::word::byte_in;
+use remainders::word::number_in;
 ghost use mathlib.Core.Path.{_≡_};
 ghost use mathlib.Core.Bool.{false, not, _&&_, _||_};
 ghost use Prim.Native.Nat.{ℕ, _≤_, _<_};

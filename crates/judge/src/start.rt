@@ -1,22 +1,22 @@
 // What a sheet owes before the first instant: the remainder that a monitor begins with, in a row.
 use crate::advance::add_row;
 use crate::line::NewObligation;
-use crate::obligation::Obligation;
-use crate::obligation::tag_number;
-use crate::rows::HEAD;
-use crate::rows::OBLIGATIONS;
-use crate::rows::SIZE;
 use records::line::Line;
 use records::sheet::Sheet;
 use records::sheet::line_at;
+use remainders::obligation::Obligation;
+use remainders::obligation::tag_number;
+use remainders::rows::HEAD;
+use remainders::rows::OBLIGATIONS;
+use remainders::rows::SIZE;
 ghost use mathlib.Core.Path.{_≡_};
 ghost use mathlib.Core.List.{map};
 ghost use Rattle.records.specs.Sheet.{sheetValue};
 ghost use Rattle.tesl.specs.Lists.{flatMap};
 ghost use Rattle.tesl.specs.Fits.{owedAtStart};
-ghost use Rattle.judge.specs.View.{obligationOf};
+ghost use Rattle.remainders.specs.View.{obligationOf};
 ghost use Rattle.judge.specs.Begun.{newObligation};
-ghost use Rattle.judge.specs.Rows.{headRows, Row};
+ghost use Rattle.remainders.specs.Rows.{headRows, Row};
 ghost use Rattle.judge.specs.Start.{BlankRow, StartedRow, BegunRows};
 
 // The obligation that a line is from the start.

@@ -1,22 +1,22 @@
 // A whole monitor in a lent array of words: the words of its head, in rows 0 to 2, read and stored. Its remainders stand behind the head, a row each.
-use crate::held::Status;
 use crate::line_words::LineWords;
 use crate::line_words::line_of_words;
 use crate::line_words::words_of_line;
 use crate::progress::Progress;
-use crate::rows::HEAD;
-use crate::rows::SIDES;
-use crate::rows::SIZE;
-use crate::rows::put_word;
-use crate::rows::word_at;
-use crate::word::count_in;
-use crate::word::number_in;
 use records::line::Line;
 use records::line::Slot;
 use records::sheet::Sheet;
 use records::sheet::line_at;
 use records::word::raw_of;
 use records::word::tag_of;
+use remainders::held::Status;
+use remainders::rows::HEAD;
+use remainders::rows::SIDES;
+use remainders::rows::SIZE;
+use remainders::rows::put_word;
+use remainders::rows::word_at;
+use remainders::word::count_in;
+use remainders::word::number_in;
 ghost use mathlib.Core.Path.{_≡_};
 ghost use mathlib.Core.Bool.{_&&_, _||_, not};
 ghost use Prim.Native.Nat.{_%_, _≤_, _<_};
@@ -24,7 +24,7 @@ ghost use lib.ListN.{length};
 ghost use Rattle.records.specs.Lists.{listed};
 ghost use Rattle.records.specs.Line.{blankLine};
 ghost use Rattle.records.specs.Word.{tagOf, rawOf};
-ghost use Rattle.judge.specs.Rows.{words};
+ghost use Rattle.remainders.specs.Rows.{words};
 ghost use Rattle.judge.specs.State.{stateWords, clocksBy, stateSlot, stateSheet, countBy, stateTag, stateProgress, hasFormat, isKind, kindsBelow, hasKinds, isSide, isCase, isState, PutFormat, FewIn, PutCount, PutLastTags, PuttingProgress, PutProgress, PutWords, noWords, SlotWords, PutLines, PutSheet};
 
 // The format and its version.

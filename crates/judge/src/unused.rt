@@ -1,21 +1,21 @@
 // Words that no remainder uses are zero: what an instant leaves behind in them is cleared.
-use crate::held::Status;
-use crate::held::live_in;
 use crate::plan::Plan;
-use crate::rows::LEADS;
-use crate::rows::PART_WORDS;
-use crate::rows::PARTS;
-use crate::rows::PLACES;
-use crate::rows::SIDE;
-use crate::rows::SIDES;
-use crate::rows::SIZE;
-use crate::rows::STOPPED;
-use crate::rows::WIDTH;
-use crate::rows::clear_words;
-use crate::rows::put_word;
-use crate::rows::row_count;
+use remainders::held::Status;
+use remainders::held::live_in;
+use remainders::rows::LEADS;
+use remainders::rows::PART_WORDS;
+use remainders::rows::PARTS;
+use remainders::rows::PLACES;
+use remainders::rows::SIDE;
+use remainders::rows::SIDES;
+use remainders::rows::SIZE;
+use remainders::rows::STOPPED;
+use remainders::rows::WIDTH;
+use remainders::rows::clear_words;
+use remainders::rows::put_word;
+use remainders::rows::row_count;
 ghost use Prim.Native.Nat.{_+_, _<_, _≤_};
-ghost use Rattle.judge.specs.Rows.{height, width, parts, FewInRow};
+ghost use Rattle.remainders.specs.Rows.{height, width, parts, FewInRow};
 ghost use Rattle.judge.specs.Stored.{Reading, Copying, FindingRows};
 ghost use Rattle.judge.specs.Cleared.{ClearedPart, ClearedRows, ClearedOwed, ClearedSets, ClearedLeads, ClearedUnused, ClearedEach, Holding, ClearedBeside, ClearedFound, Tidying, Tidied};
 

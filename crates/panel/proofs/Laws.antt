@@ -14,9 +14,9 @@ use Rattle.records.proofs.Lists.{both}
 use Rattle.tesl.proofs.Tests.{≡→T}
 use Rattle.theory.specs.Step.{bit}
 use Rattle.theory.proofs.Lists.{any-map}
-use Rattle.judge.specs.declared.remainder.Remainder.{Remainder}
-use Rattle.judge.specs.declared.held.Status.{Status}
-use Rattle.judge.specs.declared.held.Status.the-variants.{Exhausted, Live}
+use Rattle.remainders.specs.declared.remainder.Remainder.{Remainder}
+use Rattle.remainders.specs.declared.held.Status.{Status}
+use Rattle.remainders.specs.declared.held.Status.the-variants.{Exhausted, Live}
 use Rattle.judge.specs.declared.monitor.Monitor.{Monitor}
 use Rattle.judge.specs.Limits.{sheetWithin, heldWithin, monitorWithin}
 use Rattle.judge.specs.Monitor.{sheetBy}

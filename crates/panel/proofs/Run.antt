@@ -20,11 +20,11 @@ use Rattle.theory.specs.Sets.{apart, EachOnce}
 use Rattle.theory.proofs.Sets.{distinct-apart, length-same, filter-once}
 use Rattle.theory.proofs.Respect.{alike, owed-equality, count-equality, any-equal, remainder-equivalence}
 use Rattle.work.specs.View.{heldList}
-use Rattle.judge.specs.declared.remainder.Remainder as arrays
-use Rattle.judge.specs.declared.held.Status.{Status}
-use Rattle.judge.specs.declared.held.Status.the-variants.{Exhausted, Live}
+use Rattle.remainders.specs.declared.remainder.Remainder as arrays
+use Rattle.remainders.specs.declared.held.Status.{Status}
+use Rattle.remainders.specs.declared.held.Status.the-variants.{Exhausted, Live}
 use Rattle.judge.specs.declared.monitor.Monitor.{Monitor}
-use Rattle.judge.specs.View.{viewOf, heldIn, fewOwed, sizedIn}
+use Rattle.remainders.specs.View.{viewOf, heldIn, fewOwed, sizedIn}
 use Rattle.judge.specs.Answer.{saidBy}
 use Rattle.judge.specs.Limits.{monitorWithin}
 use Rattle.judge.specs.Monitor.{sheetBy, heldBy}

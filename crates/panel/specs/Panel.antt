@@ -8,12 +8,12 @@ use Rattle.records.specs.Outcome.{Outcome, taken, refused, _⇒_, decide}
 use Rattle.tesl.specs.Lists.{any, count}
 use Rattle.tesl.specs.Fits.{Obligation, Countdown}
 use Rattle.tesl.specs.Remainder.{Remainder}
-use Rattle.judge.specs.declared.obligation.Obligation as code
-use Rattle.judge.specs.declared.remainder.Remainder as arrays
-use Rattle.judge.specs.declared.held.Status.{Status}
-use Rattle.judge.specs.declared.held.Status.the-variants.{Exhausted, Live}
+use Rattle.remainders.specs.declared.obligation.Obligation as code
+use Rattle.remainders.specs.declared.remainder.Remainder as arrays
+use Rattle.remainders.specs.declared.held.Status.{Status}
+use Rattle.remainders.specs.declared.held.Status.the-variants.{Exhausted, Live}
 use Rattle.judge.specs.declared.monitor.Monitor.{Monitor}
-use Rattle.judge.specs.View.{fewOwed, remainderOf}
+use Rattle.remainders.specs.View.{fewOwed, remainderOf}
 use Rattle.judge.specs.Limits.{monitorWithin}
 use Rattle.panel.specs.declared.Panel.{Panel}
 use Rattle.panel.specs.declared.Panel.the-variants as shown

@@ -1,10 +1,10 @@
 // The panel: how many of the live remainders owe a clock a tick.
-use judge::held::Status;
 use judge::monitor::Monitor;
 use judge::monitor::within_limits;
-use judge::obligation::Obligation;
-use judge::remainder::Remainder;
 use records::number;
+use remainders::held::Status;
+use remainders::obligation::Obligation;
+use remainders::remainder::Remainder;
 ghost use mathlib.Core.Path.{_≡_};
 ghost use Prim.Native.Nat.{_≤_};
 ghost use lib.ListN.{take};

@@ -5,9 +5,9 @@ use crate::made::opened;
 use crate::made::with_sets;
 use crate::row::row;
 use crate::text::say;
-use judge::held::Status;
 use judge::monitor::Monitor;
-use judge::obligation::Obligation;
+use remainders::held::Status;
+use remainders::obligation::Obligation;
 
 // The number of the due 0, which is counted from the least tag.
 const DUE_AT_0: u16 = 32768;

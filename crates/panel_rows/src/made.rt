@@ -1,10 +1,10 @@
 // Monitors: opened, called, and made from these with other parts.
-use judge::held::Held;
-use judge::held::Status;
 use judge::monitor::Monitor;
 use judge::monitor::observe;
 use judge::monitor::open;
-use judge::obligation::Obligation;
+use remainders::held::Held;
+use remainders::held::Status;
+use remainders::obligation::Obligation;
 
 pub fn opened(sheet: &[u8]) -> Monitor {
     let given = open(sheet);

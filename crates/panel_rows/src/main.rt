@@ -11,8 +11,8 @@ use crate::made::opened;
 use crate::made::owing;
 use crate::row::row;
 use crate::text::say;
-use judge::held::Status;
 use judge::monitor::Monitor;
+use remainders::held::Status;
 
 // 0 delayed by 2 on 0 implies 1.
 fn listing() {

@@ -5,7 +5,7 @@ use crate::made::with_sets;
 use crate::row::row;
 use crate::text::say;
 use judge::monitor::Monitor;
-use judge::obligation::Obligation;
+use remainders::obligation::Obligation;
 
 // The numbers of the first and the last due, -32,768 and 32,767.
 const LEAST: u16 = 0;

@@ -27,12 +27,12 @@ use judge::monitor::CallResult;
 use judge::monitor::Monitor;
 use judge::monitor::observe;
 use judge::monitor::open;
-use judge::obligation::Obligation;
-use judge::remainder::Remainder;
 use records::instant::Instant;
 use records::instant::Tick;
 use records::number;
 use records::sheet::Sheet;
+use remainders::obligation::Obligation;
+use remainders::remainder::Remainder;
 
 // The sheet, the instants taken so far, the monitor given back last, those of the sheet in another order, the last answer, and what was counted.
 pub struct Trial {

@@ -5,7 +5,7 @@ use mathlib.Core.Option.{Option, none, some}
 use mathlib.Core.Path.{_≡_, sym, _∙_}
 use borrow.Author.Tests.{not-true, not-false}
 use Rattle.theory.specs.Adding.{onward, addedTo, allAddedTo}
-use Rattle.judge.specs.Rows.{provided}
+use Rattle.remainders.specs.Rows.{provided}
 
 module _ {E : Type 0} (same : E → E → Bool) (rest xs : List E) {whole : Option (List E)} (w : whole ≡ allAddedTo same 8 rest xs) where
   pub rest-end : rest ≡ [] → some xs ≡ whole

@@ -8,12 +8,12 @@ use lib.ListN.{getD}
 use Rattle.tesl.specs.Run.{Filled}
 use Rattle.work.specs.Carried.{either}
 use Rattle.work.proofs.Listing.{listed-same}
-use Rattle.judge.specs.declared.obligation.Obligation as code
-use Rattle.judge.specs.Word.{flagOf}
-use Rattle.judge.specs.View.{obligationOf, countdownOf}
-use Rattle.judge.specs.Rows.{parts, leadsPart, stoppedPart, width, word, rowCount, rowSet, rowOwed, rowCountdowns, rowLead, rowStopped, FewInRow, Stays, PartStays, BegunRow, LeadsOn, StoppedOn}
+use Rattle.remainders.specs.declared.obligation.Obligation as code
+use Rattle.remainders.specs.Word.{flagOf}
+use Rattle.remainders.specs.View.{obligationOf, countdownOf}
+use Rattle.remainders.specs.Rows.{parts, leadsPart, stoppedPart, width, word, rowCount, rowSet, rowOwed, rowCountdowns, rowLead, rowStopped, FewInRow, Stays, PartStays, BegunRow, LeadsOn, StoppedOn}
 use Rattle.judge.specs.Left.{LeftRow}
-use Rattle.judge.proofs.rows.Laws.{stays-wide, stays-on, part-stays, count-same, set-same, set-words, few-words}
+use Rattle.remainders.proofs.rows.Laws.{stays-wide, stays-on, part-stays, count-same, set-same, set-words, few-words}
 
 -- a part of row `to` was stored: the whole row is what changes, another part stays
 module _ {to : ℕ} (part : ℕ) {a b : List ℕ} (s : PartStays to part a b) (inside : part < parts) where

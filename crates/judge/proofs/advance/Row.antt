@@ -29,13 +29,13 @@ use Rattle.work.proofs.Listing.{listed-at}
 use Rattle.work.proofs.Carried.{sheetLine, small-lead, carried-holds, carried-stopped, carried-leads}
 use Rattle.judge.specs.declared.filling.Filling.{Filling}
 use Rattle.judge.specs.declared.plan.Plan.{Plan}
-use Rattle.judge.specs.Rows.{rowSet, rowOwed, rowCountdowns, rowLead, rowLeads, rowStop, rowStopped, rowOf, provided, BegunRow}
+use Rattle.remainders.specs.Rows.{rowSet, rowOwed, rowCountdowns, rowLead, rowLeads, rowStop, rowStopped, rowOf, provided, BegunRow}
 use Rattle.judge.specs.Left.{LeftRow}
-use Rattle.judge.specs.View.{obligationOf, countdownOf}
+use Rattle.remainders.specs.View.{obligationOf, countdownOf}
 use Rattle.judge.specs.Filling.{filledInstant, begunIn, GatheredFor}
-use Rattle.judge.proofs.obligation.Laws.{same-read, same-counted}
+use Rattle.remainders.proofs.obligation.Laws.{same-read, same-counted}
 use Rattle.judge.proofs.left.Laws.{left-owed, left-counting}
-use Rattle.judge.proofs.rows.Reading.{provided-read, begun-row-read}
+use Rattle.remainders.proofs.rows.Reading.{provided-read, begun-row-read}
 
 pub same-remainder : {o o′ : List Obligation} {c c′ : List Countdown} {l l′ : List ℕ} {s s′ : List Bool} → o ≡ o′ → c ≡ c′ → l ≡ l′ → s ≡ s′
     → _≡_ {A = Remainder} (record { owed = o; countdowns = c; leads = l; stopped = s }) (record { owed = o′; countdowns = c′; leads = l′; stopped = s′ })

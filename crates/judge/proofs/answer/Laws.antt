@@ -16,12 +16,12 @@ use Rattle.tesl.specs.Answer.{broken, holding, clear, owed, standing, judged}
 use Rattle.theory.proofs.Lists.{any-snoc}
 use Rattle.work.specs.View.{usedPart}
 use Rattle.work.proofs.Listing.{any-of}
-use Rattle.judge.specs.declared.held.Status.{Status}
-use Rattle.judge.specs.declared.held.Status.the-variants.{Live}
-use Rattle.judge.specs.declared.obligation.Obligation as code
-use Rattle.judge.specs.View.{obligationOf, countdownOf}
+use Rattle.remainders.specs.declared.held.Status.{Status}
+use Rattle.remainders.specs.declared.held.Status.the-variants.{Live}
+use Rattle.remainders.specs.declared.obligation.Obligation as code
+use Rattle.remainders.specs.View.{obligationOf, countdownOf}
 use Rattle.judge.specs.Answer.{saidBy}
-use Rattle.judge.specs.Rows.{rowCount, rowObligation, rowSet, rowOf, rowsOf}
+use Rattle.remainders.specs.Rows.{rowCount, rowObligation, rowSet, rowOf, rowsOf}
 use Rattle.judge.specs.Apply.{foundIn}
 
 -- one of each of a list is none only of the empty list

@@ -20,11 +20,11 @@ use Rattle.work.specs.Work.{sameCounted, inserted, took, advanced, allAdvanced}
 use Rattle.work.proofs.Listing.{listed-same}
 use Rattle.work.proofs.Relevant.{took-none}
 use Rattle.work.proofs.Once.{all-advanced-once}
-use Rattle.judge.specs.Word.{flagOf}
-use Rattle.judge.specs.Rows.{leadsPart, stoppedPart, width, word, rowOf, FewInRow, Stays, RowsStay, HeadStays}
+use Rattle.remainders.specs.Word.{flagOf}
+use Rattle.remainders.specs.Rows.{leadsPart, stoppedPart, width, word, rowOf, FewInRow, Stays, RowsStay, HeadStays}
 use Rattle.judge.specs.Apply.{Sides}
-use Rattle.judge.specs.View.{obligationOf, countdownOf}
-use Rattle.judge.proofs.rows.Laws.{set-words, few-words}
+use Rattle.remainders.specs.View.{obligationOf, countdownOf}
+use Rattle.remainders.proofs.rows.Laws.{set-words, few-words}
 use Rattle.judge.proofs.advance.Row.{same-remainder}
 
 -- a row whose words are the same

@@ -15,8 +15,8 @@ use borrow.Author.Tests.{ltb-true, ltb-false}
 use Rattle.records.specs.declared.line.Line.{Line}
 use Rattle.tesl.specs.Lists.{any}
 use Rattle.theory.specs.Adding.{insertAll, onceEach}
-use Rattle.judge.specs.declared.obligation.Obligation as code
-use Rattle.judge.specs.View.{sameStored}
+use Rattle.remainders.specs.declared.obligation.Obligation as code
+use Rattle.remainders.specs.View.{sameStored}
 use Rattle.judge.specs.Plan.{planRows, delaysFrom, countedRows, planLine}
 use Rattle.judge.specs.Begun.{storedBy, storedOnce, ReadsOwed, LinesBegin}
 use Rattle.judge.proofs.delays.Laws.{none-from, begunFrom, begun-start, begun-end, gathering-end, gathering-nothing, gathering-again, gathering-more}

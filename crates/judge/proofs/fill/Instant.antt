@@ -24,11 +24,11 @@ use Rattle.work.specs.Relevant.{fillingsLeft, namedBy, flagged}
 use Rattle.work.specs.Work.{worked}
 use Rattle.work.proofs.Relevant.{countClocks, clocksOf}
 use Rattle.work.proofs.Listed.{worked-no, worked-yes}
-use Rattle.judge.specs.declared.held.Status.{Status}
-use Rattle.judge.specs.declared.held.Status.the-variants.{Exhausted, Live}
-use Rattle.judge.specs.declared.obligation.Obligation as code
-use Rattle.judge.specs.View.{obligationOf, countdownOf}
-use Rattle.judge.specs.Rows.{rowSet, rowOf, rowsOf, clocksAsked, rowClocks, rowsClocks}
+use Rattle.remainders.specs.declared.held.Status.{Status}
+use Rattle.remainders.specs.declared.held.Status.the-variants.{Exhausted, Live}
+use Rattle.remainders.specs.declared.obligation.Obligation as code
+use Rattle.remainders.specs.View.{obligationOf, countdownOf}
+use Rattle.remainders.specs.Rows.{rowSet, rowOf, rowsOf, clocksAsked, rowClocks, rowsClocks}
 use Rattle.judge.specs.Apply.{foundIn}
 
 -- ---- the clocks that rows owe a tick of

@@ -15,7 +15,7 @@ use Rattle.work.specs.View.{seenOf}
 use Rattle.work.specs.Fillings.{fillingsIn}
 use Rattle.work.specs.Relevant.{fillingsLeft}
 use Rattle.judge.specs.Fill.{Listed}
-use Rattle.judge.proofs.Places.{rest-end, rest-cons}
+use Rattle.remainders.proofs.Places.{rest-end, rest-cons}
 
 -- ---- the clocks from k on
 module _ (flags : List Bool) (seen : List TickSlot) (clocks k : ℕ) (ticks : List Bool) where

@@ -17,11 +17,11 @@ use Rattle.theory.specs.Adding.{onceEach}
 use Rattle.theory.specs.Step.{startedBy}
 use Rattle.work.specs.View.{filledOf}
 use Rattle.work.specs.Parts.{isCounted}
-use Rattle.judge.specs.declared.obligation.Obligation as code
-use Rattle.judge.specs.View.{countdownOf, sameStored}
+use Rattle.remainders.specs.declared.obligation.Obligation as code
+use Rattle.remainders.specs.View.{countdownOf, sameStored}
 use Rattle.judge.specs.Plan.{planLine, planLines}
 use Rattle.judge.specs.Begun.{countStored, storedBy, storedOnce}
-use Rattle.judge.proofs.rows.Reading.{once-each-read}
+use Rattle.remainders.proofs.rows.Reading.{once-each-read}
 use Rattle.judge.proofs.delays.Laws.{begun-read, of-kind}
 
 -- ---- a counted line

@@ -13,10 +13,10 @@ use Rattle.tesl.specs.Run.{Filled, ticksAt, tagIn}
 use Rattle.tesl.specs.Fits.{Obligation, meets, notLate, Countdown, leftOf, leftBy}
 use Rattle.theory.specs.Step.{misses, noneMissed}
 use Rattle.work.specs.Owed.{left, stillOwed, stillCounting}
-use Rattle.judge.specs.declared.obligation.Obligation as code
+use Rattle.remainders.specs.declared.obligation.Obligation as code
 use Rattle.judge.specs.declared.left.Left.{Left}
 use Rattle.judge.specs.declared.left.Left.the-variants.{Done, Unfit, Still}
-use Rattle.judge.specs.View.{obligationOf, countdownOf}
+use Rattle.remainders.specs.View.{obligationOf, countdownOf}
 use Rattle.judge.specs.Left.{leftOwed, oneFewer, leftCounting, consed, keeps, eachLeft}
 
 -- ---- one after the other: what is kept so far with what is left of the rest

@@ -16,12 +16,12 @@ use Rattle.theory.specs.Step.{linesOk, nextLeads}
 use Rattle.work.specs.View.{inUse}
 use Rattle.work.specs.Lines.{leadIn}
 use Rattle.tesl.specs.Fits.{mostTag}
-use Rattle.judge.specs.declared.obligation.Obligation as code
-use Rattle.judge.specs.declared.remainder.Remainder as arrays
-use Rattle.judge.specs.Word.{dueOf, dueNumber}
-use Rattle.judge.specs.View.{obligationOf, countdownOf, viewOf}
+use Rattle.remainders.specs.declared.obligation.Obligation as code
+use Rattle.remainders.specs.declared.remainder.Remainder as arrays
+use Rattle.remainders.specs.Word.{dueOf, dueNumber}
+use Rattle.remainders.specs.View.{obligationOf, countdownOf, viewOf}
 use Rattle.judge.specs.Limits.{obligationWithin, countdownWithin, storedWithin, leastDue, mostDue, leastWanted, mostWanted, setWithin, remainderWithin}
-use Rattle.judge.proofs.obligation.Laws.{due-le}
+use Rattle.remainders.proofs.obligation.Laws.{due-le}
 use Rattle.judge.proofs.lines.Laws.{okFrom, ok-start}
 
 -- ---- obligations

@@ -11,9 +11,9 @@ use Rattle.records.specs.declared.line.Line.{Line}
 use Rattle.records.specs.declared.line.Line.the-variants.{Delayed}
 use Rattle.tesl.specs.Run.{tagIn}
 use Rattle.work.specs.Questions.{tickIn}
-use Rattle.judge.specs.Word.{dueOf}
+use Rattle.remainders.specs.Word.{dueOf}
 use Rattle.judge.specs.Begun.{LineBegins}
-use Rattle.judge.proofs.obligation.Laws.{number-due, due-le}
+use Rattle.remainders.proofs.obligation.Laws.{number-due, due-le}
 
 module _ {l : Line} {A B D d : ℕ} (is : l ≡ Delayed A B D d) (ticks : List Bool) (tags : List ℤ) (t : tickIn ticks A ≡ true) (number : ℕ) (due : tagIn tags B +ℤ pos d ≡ dueOf number) (most : ℕ) where
   compared : leZ (tagIn tags B +ℤ pos d) (dueOf most) ≡ leb number most

@@ -20,7 +20,7 @@ use Rattle.judge.specs.declared.plan.Plan.{Plan}
 use Rattle.judge.specs.declared.live.Found.{Found}
 use Rattle.judge.specs.Limits.{monitorWithin, Limited}
 use Rattle.judge.specs.Plan.{numbers, Preparing, PlanOf, Planned}
-use Rattle.judge.specs.Rows.{words, word}
+use Rattle.remainders.specs.Rows.{words, word}
 use Rattle.judge.specs.RowsLimits.{RowsWithin, TestingAll}
 use Rattle.judge.specs.State.{hasFormat, hasKinds, isSide, isState, stateSheet, stateProgress, stateMonitor}
 use Rattle.judge.specs.Live.{stateWithin}

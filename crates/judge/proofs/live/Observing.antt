@@ -18,18 +18,18 @@ use Rattle.tesl.specs.Run.{Instant}
 use Rattle.tesl.specs.Remainder.{Remainder}
 use Rattle.judge.specs.declared.answer.Answer as code
 use Rattle.judge.specs.declared.answer.Reply.the-variants.{Answered, Refused}
-use Rattle.judge.specs.declared.held.Held.{Held}
+use Rattle.remainders.specs.declared.held.Held.{Held}
 use Rattle.judge.specs.declared.progress.Progress.{Progress}
 use Rattle.judge.specs.declared.progress.InstantResult.{InstantResult}
 use Rattle.judge.specs.declared.live.Found.{Found}
 use Rattle.judge.specs.declared.live.Replied.{Replied}
 use Rattle.judge.specs.declared.monitor.Monitor.{Monitor}
 use Rattle.judge.specs.declared.monitor.CallResult.{CallResult}
-use Rattle.judge.specs.View.{liveCount, heldOf, sized}
+use Rattle.remainders.specs.View.{liveCount, heldOf, sized}
 use Rattle.judge.specs.Answer.{replyOf, saidBy}
 use Rattle.judge.specs.Limits.{monitorWithin}
 use Rattle.judge.specs.Plan.{Planned}
-use Rattle.judge.specs.Rows.{word, HeadStays}
+use Rattle.remainders.specs.Rows.{word, HeadStays}
 use Rattle.judge.specs.UnusedWords.{NothingBeside}
 use Rattle.judge.specs.Apply.{Side, FewOwedIn}
 use Rattle.judge.specs.Fill.{Working}

@@ -18,14 +18,14 @@ use Rattle.records.proofs.sheet.RoundTrip.{sheetOf-value}
 use Rattle.records.proofs.sheet.Writing.{refused-done}
 use Rattle.judge.specs.declared.answer.Answer as code
 use Rattle.judge.specs.declared.answer.Reply.the-variants.{Answered, Refused}
-use Rattle.judge.specs.declared.held.Status.the-variants.{Live}
-use Rattle.judge.specs.declared.held.Held.{Held}
+use Rattle.remainders.specs.declared.held.Status.the-variants.{Live}
+use Rattle.remainders.specs.declared.held.Held.{Held}
 use Rattle.judge.specs.declared.progress.Progress.{Progress}
 use Rattle.judge.specs.declared.plan.Plan.{Plan}
-use Rattle.judge.specs.View.{liveCount, heldOf}
+use Rattle.remainders.specs.View.{liveCount, heldOf}
 use Rattle.judge.specs.Answer.{answerOf, saidBy}
 use Rattle.judge.specs.Plan.{PlanFits, Planned, PlanOf}
-use Rattle.judge.specs.Rows.{width, words, headRows, word}
+use Rattle.remainders.specs.Rows.{width, words, headRows, word}
 use Rattle.judge.specs.Apply.{foundIn, FewOwedIn}
 use Rattle.judge.specs.Start.{BlankRow, BegunRows}
 use Rattle.judge.specs.UnusedWords.{NothingBeside}
@@ -35,7 +35,7 @@ use Rattle.judge.specs.Promises.{Follows}
 use Rattle.judge.specs.State.{stateSheet, stateProgress, PutFormat, PuttingProgress, PutProgress, PutSheet}
 use Rattle.judge.specs.UnusedState.{KeepsNothingIn}
 use Rattle.judge.specs.Live.{FollowsIn, OpenedIn}
-use Rattle.judge.proofs.rows.Placing.{blank-at}
+use Rattle.remainders.proofs.rows.Placing.{blank-at}
 use Rattle.judge.proofs.progress.Laws.{held-rows, sized-rows, follows-same}
 use Rattle.judge.proofs.monitor.Opened.{follows-begun}
 use Rattle.judge.proofs.unused.Sides.{SameRows, small-same, found-same}

@@ -9,10 +9,10 @@ use Rattle.records.specs.declared.sheet.Sheet.{Sheet}
 use Rattle.records.specs.Sheet.{SheetValue, sheetValue}
 use Rattle.records.specs.Word.{unsigned, rawOf}
 use Rattle.judge.specs.declared.plan.Plan.{Plan}
-use Rattle.judge.specs.View.{liveCount}
-use Rattle.judge.specs.Unused.{BlankFrom}
+use Rattle.remainders.specs.View.{liveCount}
+use Rattle.remainders.specs.Unused.{BlankFrom}
 use Rattle.judge.specs.Plan.{Planned}
-use Rattle.judge.specs.Rows.{width, headRows, word}
+use Rattle.remainders.specs.Rows.{width, headRows, word}
 use Rattle.judge.specs.UnusedWords.{NothingInRow, NothingBeside}
 use Rattle.judge.specs.State.{stateWords, stateSheet, stateProgress, noWords}
 use Rattle.judge.specs.UnusedState.{UnusedInRow, KeepsNothingIn}

@@ -21,14 +21,14 @@ use Rattle.records.proofs.next.Laws.{NextRead, next-read}
 use Rattle.tesl.specs.Run.{Instant}
 use Rattle.tesl.proofs.Tests.{≡→T}
 use Rattle.tesl.specs.Answer.{mostLive}
-use Rattle.judge.specs.declared.remainder.Remainder as arrays
+use Rattle.remainders.specs.declared.remainder.Remainder as arrays
 use Rattle.judge.specs.declared.monitor.Monitor.{Monitor}
 use Rattle.judge.specs.declared.monitor.CallResult.{CallResult}
-use Rattle.judge.specs.Unused.{BlankFrom}
+use Rattle.remainders.specs.Unused.{BlankFrom}
 use Rattle.judge.specs.Limits.{sheetWithin, monitorWithin, Limited}
 use Rattle.judge.specs.Monitor.{sheetBy, refusal, Accepts}
 use Rattle.judge.specs.Promises.{observes, Accepted, Called, Observed}
-use Rattle.judge.proofs.rows.Placing.{filled-past}
+use Rattle.remainders.proofs.rows.Placing.{filled-past}
 use Rattle.judge.proofs.monitor.Limits.{Limits, limits-of, held-shaped}
 use Rattle.judge.proofs.monitor.Observed.{accepted}
 

@@ -12,7 +12,7 @@ use Rattle.tesl.specs.Remainder.{Remainder}
 use Rattle.tesl.specs.Answer.{Answer}
 use Rattle.judge.specs.declared.answer.Answer as code
 use Rattle.judge.specs.declared.answer.Reply.the-variants as reply
-use Rattle.judge.specs.declared.remainder.Remainder as arrays
+use Rattle.remainders.specs.declared.remainder.Remainder as arrays
 use Rattle.judge.specs.declared.plan.Plan.{Plan}
 use Rattle.judge.specs.declared.progress.Progress.{Progress}
 use Rattle.judge.specs.declared.progress.InstantResult.{InstantResult}

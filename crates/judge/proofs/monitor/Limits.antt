@@ -22,11 +22,11 @@ use Rattle.theory.proofs.Opened.{checked-limits}
 use Rattle.work.specs.View.{heldList}
 use Rattle.work.specs.Lines.{smallLeads}
 use Rattle.work.proofs.Found.{Shaped}
-use Rattle.judge.specs.declared.remainder.Remainder as arrays
-use Rattle.judge.specs.declared.held.Status.{Status}
-use Rattle.judge.specs.declared.held.Status.the-variants.{Exhausted, Live}
+use Rattle.remainders.specs.declared.remainder.Remainder as arrays
+use Rattle.remainders.specs.declared.held.Status.{Status}
+use Rattle.remainders.specs.declared.held.Status.the-variants.{Exhausted, Live}
 use Rattle.judge.specs.declared.monitor.Monitor.{Monitor}
-use Rattle.judge.specs.View.{obligationOf, countdownOf, owedOf, countdownsOf, viewOf, heldIn, fewOwed, sizedIn, sized}
+use Rattle.remainders.specs.View.{obligationOf, countdownOf, owedOf, countdownsOf, viewOf, heldIn, fewOwed, sizedIn, sized}
 use Rattle.judge.specs.Limits.{isTaken, sheetWithin, obligationWithin, countdownWithin, remainderWithin, heldWithin, monitorWithin}
 use Rattle.judge.specs.Monitor.{sheetBy, heldBy, Workable}
 

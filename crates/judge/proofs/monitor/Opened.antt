@@ -39,21 +39,21 @@ use Rattle.work.specs.View.{heldList}
 use Rattle.work.specs.Owed.{owing, addedAll}
 use Rattle.judge.specs.declared.answer.Answer as code
 use Rattle.judge.specs.declared.answer.Reply.the-variants as reply
-use Rattle.judge.specs.declared.held.Status.the-variants.{Live}
+use Rattle.remainders.specs.declared.held.Status.the-variants.{Live}
 use Rattle.judge.specs.declared.plan.Plan.{Plan}
 use Rattle.judge.specs.declared.monitor.Monitor.{Monitor}
 use Rattle.judge.specs.declared.monitor.CallResult.{CallResult}
-use Rattle.judge.specs.View.{sized}
+use Rattle.remainders.specs.View.{sized}
 use Rattle.judge.specs.Answer.{answerOf, saidBy}
 use Rattle.judge.specs.Limits.{isTaken, sheetWithin, monitorWithin}
 use Rattle.judge.specs.Plan.{numbers, Preparing, PlanOf}
-use Rattle.judge.specs.Rows.{headRows, rowsOf}
+use Rattle.remainders.specs.Rows.{headRows, rowsOf}
 use Rattle.judge.specs.Apply.{foundIn}
 use Rattle.judge.specs.Start.{BegunRows}
 use Rattle.judge.specs.Monitor.{sheetBy, heldBy, blankMonitor, noMonitor, refusal}
 use Rattle.judge.specs.Progress.{rowsMonitor, firstProgress, given, ReadBack, Ready}
 use Rattle.judge.specs.Promises.{Follows, Opened}
-use Rattle.judge.proofs.rows.Placing.{blank-at}
+use Rattle.remainders.proofs.rows.Placing.{blank-at}
 use Rattle.judge.proofs.monitor.Limits.{within-limits}
 use Rattle.judge.proofs.progress.Laws.{held-rows, sized-rows, follows-back, nothing-back}
 

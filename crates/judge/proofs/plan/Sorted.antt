@@ -22,7 +22,7 @@ use Rattle.work.specs.Parts.{isRelation, isRule, isDelay, isCounted, isPrecedes
 use Rattle.judge.specs.declared.plan.Plan.{Plan}
 use Rattle.judge.specs.Plan.{numbers, relationsFrom, rulesFrom, delaysFrom, countedRows, planLine, planLines, PutPlanLine, PutPart, Preparing, PlanOf}
 use Rattle.judge.proofs.relevant.Laws.{flagged-append}
-use Rattle.judge.proofs.rows.Placing.{blank-at}
+use Rattle.remainders.proofs.rows.Placing.{blank-at}
 use Rattle.judge.proofs.plan.Rows.{rows-stay}
 
 -- the plan of i lines; no precedes line stands past its reach, and each has a flag

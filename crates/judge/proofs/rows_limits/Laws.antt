@@ -18,12 +18,12 @@ use Rattle.work.specs.View.{inUse}
 use Rattle.work.proofs.Below.{below-ext, below-front, below-either}
 use Rattle.work.proofs.Listing.{listed-at, all-listed}
 use Rattle.work.proofs.Carried.{sheetLine, next-places, used-by}
-use Rattle.judge.specs.declared.held.Status.{Status}
-use Rattle.judge.specs.declared.held.Status.the-variants.{Exhausted, Live}
+use Rattle.remainders.specs.declared.held.Status.{Status}
+use Rattle.remainders.specs.declared.held.Status.the-variants.{Exhausted, Live}
 use Rattle.judge.specs.declared.plan.Plan.{Plan}
 use Rattle.judge.specs.Limits.{storedWithin, leastDue, mostDue, leastWanted, mostWanted, setWithin, remainderWithin, heldWithin}
 use Rattle.judge.specs.Plan.{Planned}
-use Rattle.judge.specs.Rows.{rowCount, rowObligation, rowSet, rowLead, rowLeads}
+use Rattle.remainders.specs.Rows.{rowCount, rowObligation, rowSet, rowLead, rowLeads}
 use Rattle.judge.specs.Progress.{rowRemainder}
 use Rattle.judge.specs.RowsLimits.{placeFits, leadFits, RowWithin, EachRowWithin, RowsWithin}
 use Rattle.judge.proofs.limits.Laws.{by-sets}

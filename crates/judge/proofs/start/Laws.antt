@@ -18,10 +18,10 @@ use Rattle.theory.specs.Step.{nextLeads}
 use Rattle.theory.proofs.Lists.{table-ext}
 use Rattle.work.specs.View.{inUse, usedPart}
 use Rattle.work.specs.Owed.{owing, addedAll}
-use Rattle.judge.specs.Word.{flagOf}
-use Rattle.judge.specs.Rows.{parts, partWords, leadsPart, stoppedPart, headRows, rowCount, rowOwed, rowCountdowns, rowLead, rowLeads, rowStop, rowStopped, rowOf, provided, Row}
+use Rattle.remainders.specs.Word.{flagOf}
+use Rattle.remainders.specs.Rows.{parts, partWords, leadsPart, stoppedPart, headRows, rowCount, rowOwed, rowCountdowns, rowLead, rowLeads, rowStop, rowStopped, rowOf, provided, Row}
 use Rattle.judge.specs.Start.{BlankRow, StartedRow, BegunRows}
-use Rattle.judge.proofs.rows.Placing.{blank-at, listed-is}
+use Rattle.remainders.proofs.rows.Placing.{blank-at, listed-is}
 use Rattle.judge.proofs.advance.Row.{same-remainder}
 
 -- ---- nothing leads and nothing is stopped

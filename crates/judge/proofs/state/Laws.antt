@@ -12,14 +12,14 @@ use lib.ListN.{length, set, length-set}
 use borrow.Author.Tests.{eqb-true, eqb-false, ltb-true, ltb-false}
 use Rattle.tesl.proofs.Tests.{or-e, T→≡}
 use Rattle.work.proofs.Below.{below-ext}
-use Rattle.judge.specs.declared.held.Status.{Status}
-use Rattle.judge.specs.declared.held.Status.the-variants.{Live}
+use Rattle.remainders.specs.declared.held.Status.{Status}
+use Rattle.remainders.specs.declared.held.Status.the-variants.{Live}
 use Rattle.judge.specs.declared.progress.Progress.{Progress}
-use Rattle.judge.specs.View.{liveCount}
-use Rattle.judge.specs.Rows.{width, words, word, Stays}
+use Rattle.remainders.specs.View.{liveCount}
+use Rattle.remainders.specs.Rows.{width, words, word, Stays}
 use Rattle.judge.specs.Apply.{Side}
 use Rattle.judge.specs.State.{countBy, stateCount, isSide, isCase, isKind, hasKinds, hasFormat, isState, format, PutFormat, FewIn, PutCount, PutLastTags, PutProgress}
-use Rattle.judge.proofs.rows.Laws.{stored, stored-other, stays-all, stays-put, stays-wide, stays-on}
+use Rattle.remainders.proofs.rows.Laws.{stored, stored-other, stays-all, stays-put, stays-wide, stays-on}
 
 -- ---- sides
 pub side-small : (from : ℕ) → T (isSide from) → from ≤ 39

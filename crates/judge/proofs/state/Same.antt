@@ -13,7 +13,7 @@ use Rattle.records.specs.Word.{tagOf}
 use Rattle.work.proofs.Listing.{listed-same}
 use Rattle.judge.specs.declared.progress.Progress.{Progress}
 use Rattle.judge.specs.LineWords.{lineOfWords}
-use Rattle.judge.specs.Rows.{word, Stays, HeadStays}
+use Rattle.remainders.specs.Rows.{word, Stays, HeadStays}
 use Rattle.judge.specs.State.{format, clocksBy, stateWords, stateSheet, countBy, stateProgress, isSide, isCase, isState, PutFormat, PutProgress, PutSheet}
 use Rattle.judge.proofs.state.Laws.{kinds-same, same-progress}
 use Rattle.judge.proofs.state.Words.{words-same}

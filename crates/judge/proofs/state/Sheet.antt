@@ -20,9 +20,9 @@ use Rattle.tesl.proofs.Tests.{≡→T, T→≡}
 use Rattle.work.proofs.Listing.{listed-at, listed-same}
 use Rattle.judge.specs.declared.line_words.LineWords.{LineWords}
 use Rattle.judge.specs.LineWords.{lineOfWords, wordsOf, WordsOf}
-use Rattle.judge.specs.Rows.{width, words, word}
+use Rattle.remainders.specs.Rows.{width, words, word}
 use Rattle.judge.specs.State.{stateWords, stateLine, clocksBy, stateSlot, stateSheet, isKind, hasKinds, OthersStay, PutWords, noWords, SlotWords, PutLines, PutSheet}
-use Rattle.judge.proofs.rows.Laws.{stored, stored-other}
+use Rattle.remainders.proofs.rows.Laws.{stored, stored-other}
 use Rattle.judge.proofs.state.Words.{words-same}
 
 pub same-sheet : {c c′ n n′ : ℕ} {l l′ : List Slot} → c ≡ c′ → n ≡ n′ → l ≡ l′ → _≡_ {A = Sheet} (record { clocks = c; count = n; lines = l }) (record { clocks = c′; count = n′; lines = l′ })

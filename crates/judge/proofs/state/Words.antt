@@ -10,7 +10,7 @@ use lib.Seq.{getD-set-same, getD-set-other}
 use borrow.Author.Tests.{ltb-true, ltb-false}
 use Rattle.judge.specs.declared.line_words.LineWords.{LineWords}
 use Rattle.judge.specs.LineWords.{wordsBy}
-use Rattle.judge.specs.Rows.{width, words, word}
+use Rattle.remainders.specs.Rows.{width, words, word}
 use Rattle.judge.specs.State.{stateWords, PutWords}
 
 pub same-words : {k k′ a a′ b b′ d d′ x x′ y y′ : ℕ} → k ≡ k′ → a ≡ a′ → b ≡ b′ → d ≡ d′ → x ≡ x′ → y ≡ y′ → wordsBy k a b d x y ≡ wordsBy k′ a′ b′ d′ x′ y′

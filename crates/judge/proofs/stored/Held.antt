@@ -19,18 +19,18 @@ use Rattle.work.specs.Parts.{isPrecedes}
 use Rattle.work.proofs.Listing.{one-of, all-of}
 use Rattle.work.proofs.Carried.{used-by}
 use Rattle.judge.specs.declared.plan.Plan.{Plan}
-use Rattle.judge.specs.declared.remainder.Remainder as arrays
-use Rattle.judge.specs.declared.held.Status.{Status}
-use Rattle.judge.specs.declared.held.Status.the-variants.{Exhausted, Live}
-use Rattle.judge.specs.View.{remainderOf, blankObligation, blankRemainder, viewOf, fewOwed, sizedIn}
-use Rattle.judge.specs.Unused.{NothingUnused}
+use Rattle.remainders.specs.declared.remainder.Remainder as arrays
+use Rattle.remainders.specs.declared.held.Status.{Status}
+use Rattle.remainders.specs.declared.held.Status.the-variants.{Exhausted, Live}
+use Rattle.remainders.specs.View.{remainderOf, blankObligation, blankRemainder, viewOf, fewOwed, sizedIn}
+use Rattle.remainders.specs.Unused.{NothingUnused}
 use Rattle.judge.specs.Plan.{Planned}
-use Rattle.judge.specs.Rows.{words, rowOf, rowsOf, FewInRow, FewOwed, HeadStays}
+use Rattle.remainders.specs.Rows.{words, rowOf, rowsOf, FewInRow, FewOwed, HeadStays}
 use Rattle.judge.specs.Apply.{FewOwedIn}
 use Rattle.judge.specs.Stored.{PutRemainder, ToRows, StoredHeld, CopiedRows, FromRows}
-use Rattle.judge.proofs.Places.{as-is, all-at}
-use Rattle.judge.proofs.rows.Placing.{blank-at, each-place, first-listed}
-use Rattle.judge.proofs.rows.Laws.{few-words}
+use Rattle.remainders.proofs.Places.{as-is, all-at}
+use Rattle.remainders.proofs.rows.Placing.{blank-at, each-place, first-listed}
+use Rattle.remainders.proofs.rows.Laws.{few-words}
 use Rattle.judge.proofs.apply.Laws.{row-stays}
 
 -- what past the end of an array of remainders reads

@@ -20,13 +20,13 @@ use Rattle.work.specs.Parts.{isPrecedes}
 use Rattle.work.proofs.Listing.{listed-at, listed-same}
 use Rattle.work.proofs.Carried.{sheetLine, next-places, used-by, small-lead}
 use Rattle.judge.specs.declared.plan.Plan.{Plan}
-use Rattle.judge.specs.declared.remainder.Remainder as arrays
-use Rattle.judge.specs.View.{obligationOf, countdownOf, owedOf, countdownsOf, viewOf, fewOwed}
-use Rattle.judge.specs.Unused.{NothingUnused}
+use Rattle.remainders.specs.declared.remainder.Remainder as arrays
+use Rattle.remainders.specs.View.{obligationOf, countdownOf, owedOf, countdownsOf, viewOf, fewOwed}
+use Rattle.remainders.specs.Unused.{NothingUnused}
 use Rattle.judge.specs.Plan.{Planned}
-use Rattle.judge.specs.Rows.{leadsPart, partsEnd, word, rowCount, rowObligation, rowOwed, rowCountdowns, FewInRow, rowLead, rowLeads, rowStop, rowStopped, rowOf, ObligationsAt}
+use Rattle.remainders.specs.Rows.{leadsPart, partsEnd, word, rowCount, rowObligation, rowOwed, rowCountdowns, FewInRow, rowLead, rowLeads, rowStop, rowStopped, rowOf, ObligationsAt}
 use Rattle.judge.specs.Stored.{PutObligations, PutLeads, PutStopped, PutRemainder, LeadsAt, StoppedAt, RemainderAt}
-use Rattle.judge.proofs.rows.Laws.{stays-wide, stays-on, set-words, few-words}
+use Rattle.remainders.proofs.rows.Laws.{stays-wide, stays-on, set-words, few-words}
 use Rattle.judge.proofs.advance.Row.{same-remainder}
 use Rattle.judge.proofs.advance.Built.{other-count, other-set}
 

@@ -19,13 +19,13 @@ use Rattle.work.specs.Parts.{isPrecedes}
 use Rattle.work.proofs.Listing.{listed-at, listed-same}
 use Rattle.work.proofs.Carried.{sheetLine, next-places, used-by}
 use Rattle.judge.specs.declared.plan.Plan.{Plan}
-use Rattle.judge.specs.Word.{flagOf}
-use Rattle.judge.specs.View.{obligationOf, countdownOf}
+use Rattle.remainders.specs.Word.{flagOf}
+use Rattle.remainders.specs.View.{obligationOf, countdownOf}
 use Rattle.judge.specs.Plan.{PlanFits, Planned}
-use Rattle.judge.specs.Rows.{parts, partWords, leadsPart, stoppedPart, width, word, rowCount, rowObligation, rowSet, rowOwed, rowCountdowns, rowLead, rowLeads, rowStop, rowStopped, FewInRow, CountsSame, Stays, ClearedWords}
+use Rattle.remainders.specs.Rows.{parts, partWords, leadsPart, stoppedPart, width, word, rowCount, rowObligation, rowSet, rowOwed, rowCountdowns, rowLead, rowLeads, rowStop, rowStopped, FewInRow, CountsSame, Stays, ClearedWords}
 use Rattle.judge.specs.UnusedWords.{leadUsed}
 use Rattle.judge.specs.Cleared.{ClearedPart, ClearedRows, ClearedOwed, ClearedSets, ClearedLeads, ClearedUnused}
-use Rattle.judge.proofs.rows.Laws.{stored-zero, stored-other, stays-all, stays-put, stays-wide, stays-on, obligation-same, place-same, set-same, part-stays, few-counts, set-words, nothing-words}
+use Rattle.remainders.proofs.rows.Laws.{stored-zero, stored-other, stays-all, stays-put, stays-wide, stays-on, obligation-same, place-same, set-same, part-stays, few-counts, set-words, nothing-words}
 use Rattle.judge.proofs.stored.Laws.{take-same}
 use Rattle.judge.proofs.advance.Row.{same-remainder}
 

@@ -13,15 +13,15 @@ use Rattle.records.specs.Sheet.{SheetValue}
 use Rattle.work.specs.View.{usedPart}
 use Rattle.work.proofs.Listing.{listed-same}
 use Rattle.judge.specs.declared.plan.Plan.{Plan}
-use Rattle.judge.specs.declared.held.Status.{Status}
-use Rattle.judge.specs.declared.held.Status.the-variants.{Exhausted, Live}
-use Rattle.judge.specs.View.{liveCount}
-use Rattle.judge.specs.Rows.{partWords, leadsPart, width, height, word, rowOf, FewInRow, FewOwed, CountsSame, RowsStay}
+use Rattle.remainders.specs.declared.held.Status.{Status}
+use Rattle.remainders.specs.declared.held.Status.the-variants.{Exhausted, Live}
+use Rattle.remainders.specs.View.{liveCount}
+use Rattle.remainders.specs.Rows.{partWords, leadsPart, width, height, word, rowOf, FewInRow, FewOwed, CountsSame, RowsStay}
 use Rattle.judge.specs.Apply.{Side, foundIn, FewOwedIn, builtRows}
 use Rattle.judge.specs.Fill.{workedRows}
 use Rattle.judge.specs.UnusedWords.{NothingInRow, NothingBeside}
 use Rattle.judge.specs.Cleared.{ClearedRows, ClearedRow, ClearedUnused, ClearedEach, ClearedBeside, ClearedFound, Tidied}
-use Rattle.judge.proofs.rows.Laws.{few-counts, counts-words, few-words, nothing-words, rows-stay-all, rows-stay-one, rows-stay-among, rows-stay-wide, rows-stay-on}
+use Rattle.remainders.proofs.rows.Laws.{few-counts, counts-words, few-words, nothing-words, rows-stay-all, rows-stay-one, rows-stay-among, rows-stay-wide, rows-stay-on}
 use Rattle.judge.proofs.apply.Laws.{row-same}
 
 -- row h is one of n rows from `first` on, or none of them

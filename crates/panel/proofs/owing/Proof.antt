@@ -49,9 +49,9 @@ use denote.Exit.{yes}
 use denote.Triple.Clauses.{ensured, lasts}
 use Rattle.theory.specs.Step.{bit}
 use Rattle.panel.specs.Panel.{entryOwes, owingCount}
-use Rattle.judge.specs.declared.remainder.Remainder.{Remainder}
-use Rattle.judge.proofs.remainder.Remainder as T
-use Rattle.judge.proofs.remainder.Remainder.Laws as T′
+use Rattle.remainders.specs.declared.remainder.Remainder.{Remainder}
+use Rattle.remainders.proofs.remainder.Remainder as T
+use Rattle.remainders.proofs.remainder.Remainder.Laws as T′
 use Rattle.panel.proofs.Walk.{after}
 use Rattle.panel.proofs.Laws.{some-entry, step-count, end-count, bit-small, is-one, is-none}
 use Rattle.panel.proofs.owes as owes

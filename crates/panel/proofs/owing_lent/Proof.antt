@@ -49,9 +49,9 @@ use denote.Triple.Walked.{says, needs, Stays, stay-none, walkOf, goes-none, Walk
 use denote.Exit.{yes}
 use denote.Triple.Clauses.{ensured, lasts}
 use Rattle.panel.specs.Panel.{owingCount}
-use Rattle.judge.specs.declared.remainder.Remainder.{Remainder}
-use Rattle.judge.proofs.remainder.Remainder as T
-use Rattle.judge.proofs.remainder.Remainder.Laws as T′
+use Rattle.remainders.specs.declared.remainder.Remainder.{Remainder}
+use Rattle.remainders.proofs.remainder.Remainder as T
+use Rattle.remainders.proofs.remainder.Remainder.Laws as T′
 use Rattle.panel.proofs.owing as owing
 use Rattle.panel.proofs.owing.Symbol as owing-def
 use Rattle.panel.proofs.owing.Symbol.{name as #panel·owing}

@@ -6,9 +6,9 @@ use native.Mathlib.Omega.{arith}
 use lib.Dec.{eqb}
 use borrow.Author.Needs.{needs}
 use borrow.Author.Tests.{eq-eqb, ne-eqb}
-use Rattle.judge.specs.declared.obligation.Obligation.{Obligation}
-use Rattle.judge.proofs.Places.{as-is, any-next, any-hit}
-use Rattle.judge.proofs.remainder.Laws.{blank}
+use Rattle.remainders.specs.declared.obligation.Obligation.{Obligation}
+use Rattle.remainders.proofs.Places.{as-is, any-next, any-hit}
+use Rattle.remainders.proofs.remainder.Laws.{blank}
 use Rattle.panel.specs.Panel.{owesIn}
 use Rattle.panel.proofs.ticks_in.Statement.{statement}
 use Rattle.panel.proofs.ticks_in.Tie as tie

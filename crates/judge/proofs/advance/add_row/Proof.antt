@@ -8,8 +8,8 @@ use borrow.Author.Needs.{needs}
 use borrow.Author.Tests.{lt-ltb, le-ltb}
 use Rattle.records.proofs.Lists.{length-listed}
 use Rattle.theory.specs.Adding.{addedTo}
-use Rattle.judge.specs.Rows.{partWords, rowCount, rowObligation, rowSet}
-use Rattle.judge.proofs.rows.Laws.{stays-all, stays-wide, stays-put, set-next, set-put, count-put}
+use Rattle.remainders.specs.Rows.{partWords, rowCount, rowObligation, rowSet}
+use Rattle.remainders.proofs.rows.Laws.{stays-all, stays-wide, stays-put, set-next, set-put, count-put}
 use Rattle.judge.proofs.advance.add_row.Statement.{statement}
 use Rattle.judge.proofs.advance.add_row.Tie as tie
 

@@ -7,8 +7,8 @@ use lib.ListN.{length}
 use borrow.Author.Needs.{needs}
 use borrow.Author.Tests.{not-false}
 use Rattle.judge.specs.declared.advance.Next.the-variants.{Fails, Over, Onto}
-use Rattle.judge.specs.Rows.{words}
-use Rattle.judge.proofs.rows.Laws.{stays-all}
+use Rattle.remainders.specs.Rows.{words}
+use Rattle.remainders.proofs.rows.Laws.{stays-all}
 use Rattle.judge.proofs.advance.Row.{row-short, row-barred, row-late, row-missed, row-over, row-full, row-onto}
 use Rattle.judge.proofs.advance.Built.{count-stays, late-stays, missed-stays, read-after, left-count, left-kept, over-stays, begun-count, begun-kept, full-stays, counted-kept, built-stays, built-few, built-owed, built-countdowns, built-leads, built-stopped}
 use Rattle.judge.proofs.advance.advance_row.Statement.{statement}

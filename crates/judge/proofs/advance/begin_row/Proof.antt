@@ -6,12 +6,12 @@ use native.Mathlib.Omega.{arith}
 use lib.ListN.{length, getD, take, drop}
 use borrow.Author.Needs.{needs}
 use Rattle.theory.specs.Adding.{allAddedTo}
-use Rattle.judge.specs.declared.obligation.Obligation as code
-use Rattle.judge.specs.View.{sameStored, blankObligation}
-use Rattle.judge.specs.Rows.{rowCount, rowSet, PartStays}
-use Rattle.judge.proofs.Places as places
+use Rattle.remainders.specs.declared.obligation.Obligation as code
+use Rattle.remainders.specs.View.{sameStored, blankObligation}
+use Rattle.remainders.specs.Rows.{rowCount, rowSet, PartStays}
+use Rattle.remainders.proofs.Places as places
 use Rattle.judge.proofs.advance.Adding.{rest-end, rest-over, rest-more}
-use Rattle.judge.proofs.rows.Laws.{stays-all, stays-on}
+use Rattle.remainders.proofs.rows.Laws.{stays-all, stays-on}
 use Rattle.judge.proofs.advance.begin_row.Statement.{statement}
 use Rattle.judge.proofs.advance.begin_row.Tie as tie
 

@@ -8,8 +8,8 @@ use lib.ListN.{drop, getD}
 use borrow.Author.Needs.{needs}
 use Rattle.records.specs.Lists.{listedFrom, listed}
 use Rattle.theory.specs.Step.{overlap}
-use Rattle.judge.specs.Word.{flagOf}
-use Rattle.judge.specs.Rows.{rowStop}
+use Rattle.remainders.specs.Word.{flagOf}
+use Rattle.remainders.specs.Rows.{rowStop}
 use Rattle.judge.proofs.advance.Effects.{overlap-end, overlap-here, overlap-more, not-here, not-barred}
 use Rattle.judge.proofs.advance.is_barred.Statement.{statement}
 use Rattle.judge.proofs.advance.is_barred.Tie as tie

@@ -1,7 +1,7 @@
 -- `lead_part` meets its contract: where no line leads, the row stays. Assumes nothing.
 use native.Mathlib.Omega.{arith}
 use borrow.Author.Needs.{needs}
-use Rattle.judge.proofs.rows.Laws.{stays-all}
+use Rattle.remainders.proofs.rows.Laws.{stays-all}
 use Rattle.judge.proofs.advance.lead_part.Statement.{statement}
 use Rattle.judge.proofs.advance.lead_part.Tie as tie
 

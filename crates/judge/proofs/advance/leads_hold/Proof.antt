@@ -8,8 +8,8 @@ use borrow.Author.Needs.{needs}
 use lib.Dec.{leb}
 use lib.ListN.{getD}
 use Rattle.tesl.specs.Lists.{below}
-use Rattle.judge.specs.Rows.{rowLead}
-use Rattle.judge.proofs.compare.Down.{below-end, below-no, below-more}
+use Rattle.remainders.specs.Rows.{rowLead}
+use Rattle.remainders.proofs.compare.Down.{below-end, below-no, below-more}
 use Rattle.judge.proofs.advance.leads_hold.Statement.{statement}
 use Rattle.judge.proofs.advance.leads_hold.Tie as tie
 

@@ -5,8 +5,8 @@ use Prim.Native.Nat.{ℕ, _+_, _-_, _≤_, _<_}
 use native.Mathlib.Omega.{arith}
 use lib.ListN.{getD}
 use borrow.Author.Needs.{needs}
-use Rattle.judge.specs.Rows.{leadsPart, stoppedPart, rowLead}
-use Rattle.judge.proofs.rows.Storing.{Storing, storing-start, storing-more}
+use Rattle.remainders.specs.Rows.{leadsPart, stoppedPart, rowLead}
+use Rattle.remainders.proofs.rows.Storing.{Storing, storing-start, storing-more}
 use Rattle.judge.proofs.advance.leads_on.Statement.{statement}
 use Rattle.judge.proofs.advance.leads_on.Tie as tie
 

@@ -9,12 +9,12 @@ use borrow.Author.Needs.{needs}
 use Rattle.records.specs.Lists.{listedFrom, listed}
 use Rattle.records.proofs.Lists.{listed-cons, listed-end}
 use Rattle.tesl.specs.Run.{Filled}
-use Rattle.judge.specs.declared.obligation.Obligation as code
+use Rattle.remainders.specs.declared.obligation.Obligation as code
 use Rattle.work.specs.View.{filledOf}
-use Rattle.judge.specs.Rows.{partWords, words, rowCount, rowObligation, rowSet, PartStays}
+use Rattle.remainders.specs.Rows.{partWords, words, rowCount, rowObligation, rowSet, PartStays}
 use Rattle.judge.specs.Left.{leftIn, eachLeft}
 use Rattle.judge.proofs.left.Laws.{leftFrom, left-start, left-end, left-done, left-unfit, left-still}
-use Rattle.judge.proofs.rows.Laws.{stays-all, stays-put, stays-wide, stays-on, part-stays, place-same, set-next, set-put, count-put}
+use Rattle.remainders.proofs.rows.Laws.{stays-all, stays-put, stays-wide, stays-on, part-stays, place-same, set-next, set-put, count-put}
 use Rattle.judge.proofs.advance.put_left.Statement.{statement}
 use Rattle.judge.proofs.advance.put_left.Tie as tie
 

@@ -7,9 +7,9 @@ use Prim.Native.Nat.{ℕ, _-_, _≤_}
 use native.Mathlib.Omega.{arith}
 use lib.ListN.{getD}
 use borrow.Author.Needs.{needs}
-use Rattle.judge.specs.Word.{flagOf}
-use Rattle.judge.specs.Rows.{stoppedPart, partsEnd, rowStop}
-use Rattle.judge.proofs.rows.Storing.{Storing, storing-start, storing-more}
+use Rattle.remainders.specs.Word.{flagOf}
+use Rattle.remainders.specs.Rows.{stoppedPart, partsEnd, rowStop}
+use Rattle.remainders.proofs.rows.Storing.{Storing, storing-start, storing-more}
 use Rattle.judge.proofs.advance.Effects.{either-listed, either-yes, either-no}
 use Rattle.judge.proofs.advance.stopped_on.Statement.{statement}
 use Rattle.judge.proofs.advance.stopped_on.Tie as tie

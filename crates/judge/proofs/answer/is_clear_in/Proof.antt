@@ -7,7 +7,7 @@ use borrow.Author.Needs.{needs}
 use Rattle.records.specs.Sheet.{SheetValue}
 use Rattle.tesl.specs.Lists.{any}
 use Rattle.tesl.specs.Remainder.{isClear}
-use Rattle.judge.specs.Rows.{rowsOf}
+use Rattle.remainders.specs.Rows.{rowsOf}
 use Rattle.judge.proofs.answer.Laws.{none-clear, row-owes, row-clear}
 use Rattle.judge.proofs.answer.is_clear_in.Statement.{statement}
 use Rattle.judge.proofs.answer.is_clear_in.Tie as tie

@@ -2,7 +2,7 @@
 use mathlib.Core.Path.{subst}
 use native.Mathlib.Omega.{arith}
 use borrow.Author.Needs.{needs}
-use Rattle.judge.specs.declared.held.Status.{Status}
+use Rattle.remainders.specs.declared.held.Status.{Status}
 use Rattle.judge.specs.Apply.{FewOwedIn}
 use Rattle.judge.proofs.answer.Laws.{rows-none, rows-some}
 use Rattle.judge.proofs.answer.say_rows.Statement.{statement}

@@ -22,10 +22,10 @@ use Rattle.judge.specs.declared.advance.Next.{Next}
 use Rattle.judge.specs.declared.advance.Next.the-variants.{Onto}
 use Rattle.judge.specs.declared.filling.Filling.{Filling}
 use Rattle.judge.specs.declared.plan.Plan.{Plan}
-use Rattle.judge.specs.Rows.{rowOf, rowsOf, FewOwed, RowsStay}
+use Rattle.remainders.specs.Rows.{rowOf, rowsOf, FewOwed, RowsStay}
 use Rattle.judge.specs.Filling.{filledInstant, begunIn, nextOf, GatheredFor}
-use Rattle.judge.proofs.rows.Laws.{rows-stay-all, rows-stay-one, rows-stay-wide, rows-stay-on}
-use Rattle.judge.proofs.rows.Laws.{few-words}
+use Rattle.remainders.proofs.rows.Laws.{rows-stay-all, rows-stay-one, rows-stay-wide, rows-stay-on}
+use Rattle.remainders.proofs.rows.Laws.{few-words}
 use Rattle.judge.proofs.apply.Laws.{row-stays, held-few, held-row, applied-start, applied-end, applied-fails, applied-over, applied-there, applied-full, applied-more}
 use Rattle.judge.proofs.apply.apply_filling.Statement.{statement}
 use Rattle.judge.proofs.apply.apply_filling.Tie as tie

@@ -17,11 +17,11 @@ use Rattle.work.specs.Lines.{smallLeads}
 use Rattle.work.specs.Fillings.{fillingsIn, takenBy, byFilling}
 use Rattle.work.proofs.Listing.{listed-same}
 use Rattle.judge.specs.declared.plan.Plan.{Plan}
-use Rattle.judge.specs.declared.held.Status.{Status}
+use Rattle.remainders.specs.declared.held.Status.{Status}
 use Rattle.judge.specs.Plan.{Planned}
-use Rattle.judge.specs.Rows.{rowsOf, FewOwed, RowsStay}
+use Rattle.remainders.specs.Rows.{rowsOf, FewOwed, RowsStay}
 use Rattle.judge.specs.Apply.{foundIn, FewOwedIn, builtRows}
-use Rattle.judge.proofs.rows.Laws.{rows-stay-all, rows-stay-wide, rows-stay-on}
+use Rattle.remainders.proofs.rows.Laws.{rows-stay-all, rows-stay-wide, rows-stay-on}
 use Rattle.judge.proofs.apply.Laws.{held-few, held-row}
 use Rattle.judge.proofs.apply_all.Laws.{takenFrom, by-filling-same, taken-start, taken-end, taken-more, taken-over}
 use Rattle.judge.proofs.apply_all.apply_all.Statement.{statement}

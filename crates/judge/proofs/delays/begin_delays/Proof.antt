@@ -4,8 +4,8 @@ use Prim.Native.Nat.{_+_, _-_, _≤_}
 use native.Mathlib.Omega.{arith}
 use lib.ListN.{replicate, length-replicate}
 use borrow.Author.Needs.{needs}
-use Rattle.judge.specs.Word.{dueOf}
-use Rattle.judge.specs.View.{blankObligation}
+use Rattle.remainders.specs.Word.{dueOf}
+use Rattle.remainders.specs.View.{blankObligation}
 use Rattle.judge.specs.Begun.{newObligation}
 use Rattle.judge.proofs.delays.Parts.{row-inside, Gathering, gathering-start, gathering-none, gathering-there, gathering-new, gathered-both}
 use Rattle.judge.proofs.delays.begin_delays.Statement.{statement}

@@ -7,9 +7,9 @@ use native.Mathlib.Omega.{arith}
 use lib.ListN.{length, getD, take, drop}
 use borrow.Author.Needs.{needs}
 use Rattle.tesl.specs.Lists.{any}
-use Rattle.judge.specs.declared.obligation.Obligation as code
-use Rattle.judge.specs.View.{sameStored, blankObligation}
-use Rattle.judge.proofs.Places as places
+use Rattle.remainders.specs.declared.obligation.Obligation as code
+use Rattle.remainders.specs.View.{sameStored, blankObligation}
+use Rattle.remainders.proofs.Places as places
 use Rattle.judge.proofs.delays.is_begun.Statement.{statement}
 use Rattle.judge.proofs.delays.is_begun.Tie as tie
 

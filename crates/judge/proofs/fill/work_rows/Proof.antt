@@ -14,12 +14,12 @@ use Rattle.work.specs.View.{heldList}
 use Rattle.work.specs.Lines.{smallLeads}
 use Rattle.work.specs.Relevant.{flagged}
 use Rattle.work.proofs.Listed.{at-most-256, few-listed}
-use Rattle.judge.specs.declared.held.Status.{Status}
-use Rattle.judge.specs.declared.held.Status.the-variants.{Live}
-use Rattle.judge.specs.Rows.{rowsClocks, rowsOf, FewOwed, RowsStay}
+use Rattle.remainders.specs.declared.held.Status.{Status}
+use Rattle.remainders.specs.declared.held.Status.the-variants.{Live}
+use Rattle.remainders.specs.Rows.{rowsClocks, rowsOf, FewOwed, RowsStay}
 use Rattle.judge.specs.Apply.{FewOwedIn, foundIn, builtRows}
 use Rattle.judge.specs.Fill.{workedRows}
-use Rattle.judge.proofs.rows.Laws.{rows-stay-all}
+use Rattle.remainders.proofs.rows.Laws.{rows-stay-all}
 use Rattle.judge.proofs.fill.Instant.{work-exhausted, work-broken, work-no, work-yes}
 use Rattle.judge.proofs.fill.work_rows.Statement.{statement}
 use Rattle.judge.proofs.fill.work_rows.Tie as tie

@@ -12,10 +12,10 @@ use Rattle.work.specs.Lines.{allStopped}
 use Rattle.work.specs.Carried.{needOf, gainOf, lossOf}
 use Rattle.work.specs.Parts.{isDelay, isCounted}
 use Rattle.work.proofs.Parts.{delays-enough, counted-enough}
-use Rattle.judge.specs.Word.{dueOf}
-use Rattle.judge.specs.View.{obligationOf, countdownOf}
+use Rattle.remainders.specs.Word.{dueOf}
+use Rattle.remainders.specs.View.{obligationOf, countdownOf}
 use Rattle.judge.specs.Plan.{delaysFrom, countedRows, planLine}
-use Rattle.judge.proofs.obligation.Laws.{same-read, same-counted}
+use Rattle.remainders.proofs.obligation.Laws.{same-read, same-counted}
 use Rattle.judge.proofs.filling.Laws.{part-begins, reads-counted}
 use Rattle.judge.proofs.filling.gather.Statement.{statement}
 use Rattle.judge.proofs.filling.gather.Tie as tie

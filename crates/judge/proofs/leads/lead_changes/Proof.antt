@@ -7,7 +7,7 @@ use native.Mathlib.Omega.{arith}
 use borrow.Author.Needs.{needs}
 use Rattle.work.specs.Carried.{needOf, gainOf, lossOf}
 use Rattle.judge.specs.Plan.{planLine}
-use Rattle.judge.proofs.rows.Placing.{Placing, placing-start, placing-more}
+use Rattle.remainders.proofs.rows.Placing.{Placing, placing-start, placing-more}
 use Rattle.judge.proofs.leads.lead_changes.Statement.{statement}
 use Rattle.judge.proofs.leads.lead_changes.Tie as tie
 

@@ -4,7 +4,7 @@ use borrow.Author.Needs.{needs}
 use lib.Signed.{leZ}
 use borrow.Author.Tests.{not-true, not-false}
 use Rattle.tesl.specs.Run.{tagIn}
-use Rattle.judge.specs.View.{obligationOf}
+use Rattle.remainders.specs.View.{obligationOf}
 use Rattle.judge.proofs.left.left_owed.Statement.{statement}
 use Rattle.judge.proofs.left.left_owed.Tie as tie
 

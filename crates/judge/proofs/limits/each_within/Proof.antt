@@ -8,9 +8,9 @@ use lib.ListN.{length, length-map, take}
 use borrow.Author.Needs.{needs}
 use Rattle.records.specs.Sheet.{sheetValue}
 use Rattle.tesl.specs.Lists.{all}
-use Rattle.judge.specs.declared.remainder.Remainder.{Remainder}
+use Rattle.remainders.specs.declared.remainder.Remainder.{Remainder}
 use Rattle.judge.specs.Limits.{remainderWithin}
-use Rattle.judge.proofs.Places.{all-next, all-miss, as-is}
+use Rattle.remainders.proofs.Places.{all-next, all-miss, as-is}
 use Rattle.judge.proofs.limits.each_within.Statement.{statement}
 use Rattle.judge.proofs.limits.each_within.Tie as tie
 

@@ -6,10 +6,10 @@ use native.Mathlib.Omega.{arith}
 use lib.ListN.{take}
 use borrow.Author.Needs.{needs}
 use Rattle.tesl.specs.Lists.{all}
-use Rattle.judge.specs.declared.obligation.Obligation as code
-use Rattle.judge.specs.View.{blankObligation}
+use Rattle.remainders.specs.declared.obligation.Obligation as code
+use Rattle.remainders.specs.View.{blankObligation}
 use Rattle.judge.specs.Limits.{storedWithin}
-use Rattle.judge.proofs.Places.{as-is, all-next, all-miss}
+use Rattle.remainders.proofs.Places.{as-is, all-next, all-miss}
 use Rattle.judge.proofs.limits.obligations_within.Statement.{statement}
 use Rattle.judge.proofs.limits.obligations_within.Tie as tie
 

@@ -2,7 +2,7 @@
 use borrow.Author.Needs.{needs}
 use borrow.Author.Tests.{not-true, not-false}
 use Rattle.records.specs.Sheet.{sheetValue}
-use Rattle.judge.specs.Word.{dueNumber}
+use Rattle.remainders.specs.Word.{dueNumber}
 use Rattle.judge.specs.Limits.{leastDue, mostDue}
 use Rattle.judge.proofs.limits.Laws.{not-owed, not-counted, by-leads}
 use Rattle.judge.proofs.limits.remainder_within.Statement.{statement}

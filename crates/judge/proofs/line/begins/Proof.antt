@@ -6,8 +6,8 @@ use lib.IntN.{pos, _+ℤ_}
 use borrow.Author.Needs.{needs}
 use Rattle.tesl.specs.Run.{tagIn}
 use Rattle.work.specs.Questions.{tickIn}
-use Rattle.judge.specs.Word.{dueOf}
-use Rattle.judge.proofs.obligation.Laws.{held-due}
+use Rattle.remainders.specs.Word.{dueOf}
+use Rattle.remainders.proofs.obligation.Laws.{held-due}
 use Rattle.judge.proofs.line.Laws.{begins-on-scale, begins-beyond}
 use Rattle.judge.proofs.line.begins.Statement.{statement}
 use Rattle.judge.proofs.line.begins.Tie as tie

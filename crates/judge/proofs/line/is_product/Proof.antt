@@ -6,7 +6,7 @@ use mir.Val.{toZ, ofZ}
 use mir.Syntax.{w64}
 use borrow.Author.Needs.{needs}
 use Rattle.records.proofs.word.Widened.{product-fits, relation-fits, wide-fits, widened, held-wide}
-use Rattle.judge.proofs.Whole.{bits-eqZ}
+use Rattle.remainders.proofs.Whole.{bits-eqZ}
 use Rattle.judge.proofs.line.is_product.Statement.{statement}
 use Rattle.judge.proofs.line.is_product.Tie as tie
 

@@ -12,7 +12,7 @@ use mir.Facts.{toZ-ofZ}
 use borrow.Author.Needs.{needs}
 use Rattle.tesl.specs.Lists.{below}
 use Rattle.tesl.specs.Run.{tagIn}
-use Rattle.judge.proofs.Whole.{ltZ-leZ}
+use Rattle.remainders.proofs.Whole.{ltZ-leZ}
 use Rattle.judge.proofs.lines.Laws.{below-end, below-no, below-more}
 use Rattle.judge.proofs.lines.none_falls.Statement.{statement}
 use Rattle.judge.proofs.lines.none_falls.Tie as tie

@@ -6,7 +6,7 @@ use Prim.Native.Nat.{ℕ, _+_, _*_, _-_, _≤_}
 use native.Mathlib.Omega.{arith}
 use lib.ListN.{getD}
 use borrow.Author.Needs.{needs}
-use Rattle.judge.proofs.rows.Placing.{Placing, placing-start, placing-more, listed-is}
+use Rattle.remainders.proofs.rows.Placing.{Placing, placing-start, placing-more, listed-is}
 use Rattle.judge.proofs.list.flags_at.Statement.{statement}
 use Rattle.judge.proofs.list.flags_at.Tie as tie
 

@@ -3,7 +3,7 @@ use mathlib.Core.Path.{_≡_}
 use native.Mathlib.Omega.{arith}
 use lib.ListN.{length}
 use borrow.Author.Needs.{needs}
-use Rattle.judge.specs.Rows.{words}
+use Rattle.remainders.specs.Rows.{words}
 use Rattle.judge.proofs.live.Finding.{found-none, found-refused, found-many, found-prepares, found-tests, found-held}
 use Rattle.judge.proofs.live.find_state.Statement.{statement}
 use Rattle.judge.proofs.live.find_state.Tie as tie

@@ -6,7 +6,7 @@ use lib.ListN.{length, replicate, length-replicate}
 use borrow.Author.Needs.{needs}
 use Rattle.records.specs.Types.{IsBytes}
 use Rattle.judge.specs.Plan.{numbers, Preparing}
-use Rattle.judge.specs.Rows.{words}
+use Rattle.remainders.specs.Rows.{words}
 use Rattle.records.proofs.word.Bytes.{each-byte}
 use Rattle.judge.proofs.monitor.Opened.{prepares-read}
 use Rattle.judge.proofs.live.Opening.{blank-row, one-held, first-put, opened-refused, small-opened, opened-state}

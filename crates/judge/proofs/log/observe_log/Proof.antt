@@ -6,16 +6,16 @@ use lib.ListN.{length-replicate}
 use borrow.Author.Needs.{needs}
 use Rattle.records.specs.Sheet.{SheetValue}
 use Rattle.records.specs.Types.{IsBytes}
-use Rattle.judge.specs.declared.held.Status.the-variants.{Live}
+use Rattle.remainders.specs.declared.held.Status.the-variants.{Live}
 use Rattle.judge.specs.declared.progress.Progress.{Progress}
 use Rattle.judge.specs.declared.answer.Reply.the-variants.{Answered}
 use Rattle.judge.specs.Plan.{numbers}
-use Rattle.judge.specs.Rows.{width, words, headRows}
+use Rattle.remainders.specs.Rows.{width, words, headRows}
 use Rattle.judge.specs.Answer.{answerOf, saidBy}
 use Rattle.judge.specs.Apply.{FewOwedIn, foundIn}
 use Rattle.judge.specs.Progress.{firstProgress}
 use Rattle.judge.specs.Records.{ObservedRecords}
-use Rattle.judge.proofs.rows.Placing.{blank-at}
+use Rattle.remainders.proofs.rows.Placing.{blank-at}
 use Rattle.records.proofs.word.Bytes.{each-byte}
 use Rattle.judge.proofs.monitor.Opened.{prepares-read, opened-rows}
 use Rattle.judge.proofs.log.Opening.{log-refused, log-observed}

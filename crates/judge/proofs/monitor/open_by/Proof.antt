@@ -6,10 +6,10 @@ use lib.ListN.{length-replicate}
 use borrow.Author.Needs.{needs}
 use Rattle.records.specs.Types.{IsBytes}
 use Rattle.judge.specs.Plan.{numbers}
-use Rattle.judge.specs.Rows.{width, words, headRows}
+use Rattle.remainders.specs.Rows.{width, words, headRows}
 use Rattle.judge.specs.Apply.{FewOwedIn}
 use Rattle.judge.specs.Monitor.{refusal}
-use Rattle.judge.proofs.rows.Placing.{blank-at}
+use Rattle.remainders.proofs.rows.Placing.{blank-at}
 use Rattle.records.proofs.word.Bytes.{each-byte}
 use Rattle.judge.proofs.monitor.Opened.{prepares-read, opened-refused, opened-rows, opened-done}
 use Rattle.judge.proofs.monitor.open_by.Statement.{statement}

@@ -6,7 +6,7 @@ use borrow.Author.Needs.{needs}
 use Rattle.records.specs.Lists.{listed}
 use Rattle.tesl.specs.Lists.{flatMap}
 use Rattle.work.specs.Relevant.{flagged}
-use Rattle.judge.specs.Rows.{rowObligation, clocksAsked}
+use Rattle.remainders.specs.Rows.{rowObligation, clocksAsked}
 use Rattle.judge.proofs.relevant.Laws.{namedFrom, named-start, named-more, named-end}
 use Rattle.judge.proofs.relevant.flag_part.Statement.{statement}
 use Rattle.judge.proofs.relevant.flag_part.Tie as tie

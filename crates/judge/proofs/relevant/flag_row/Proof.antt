@@ -4,7 +4,7 @@ use Prim.Native.Nat.{ℕ, _≤_, _-_}
 use native.Mathlib.Omega.{arith}
 use borrow.Author.Needs.{needs}
 use Rattle.work.specs.Relevant.{flagged}
-use Rattle.judge.specs.Rows.{parts, partClocks, rowClocks}
+use Rattle.remainders.specs.Rows.{parts, partClocks, rowClocks}
 use Rattle.judge.proofs.relevant.Laws.{namedFrom, named-start, named-more, named-end}
 use Rattle.judge.proofs.relevant.flag_row.Statement.{statement}
 use Rattle.judge.proofs.relevant.flag_row.Tie as tie

@@ -1,7 +1,7 @@
 -- `row_within` meets its contract: one test after the other. Assumes nothing.
 use borrow.Author.Needs.{needs}
 use borrow.Author.Tests.{not-true, not-false}
-use Rattle.judge.specs.Word.{dueNumber}
+use Rattle.remainders.specs.Word.{dueNumber}
 use Rattle.judge.specs.Limits.{leastDue, mostDue}
 use Rattle.judge.proofs.rows_limits.Laws.{row-owed, row-counted, row-leads}
 use Rattle.judge.proofs.rows_limits.row_within.Statement.{statement}

@@ -1,7 +1,7 @@
 -- `is_state` meets its contract: one test after the other. Assumes nothing.
 use mathlib.Core.Path.{_≡_, sym, ap, _∙_}
 use borrow.Author.Needs.{needs}
-use Rattle.judge.specs.Rows.{word}
+use Rattle.remainders.specs.Rows.{word}
 use Rattle.judge.specs.State.{isSide, isCase, isState}
 use Rattle.judge.proofs.state.is_state.Statement.{statement}
 use Rattle.judge.proofs.state.is_state.Tie as tie

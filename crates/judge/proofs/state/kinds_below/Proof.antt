@@ -8,7 +8,7 @@ use lib.Dec.{ltb}
 use borrow.Author.Needs.{needs}
 use Rattle.tesl.specs.Lists.{below}
 use Rattle.work.proofs.Below.{below-next, below-miss}
-use Rattle.judge.specs.Rows.{word}
+use Rattle.remainders.specs.Rows.{word}
 use Rattle.judge.specs.State.{isKind}
 use Rattle.judge.proofs.state.kinds_below.Statement.{statement}
 use Rattle.judge.proofs.state.kinds_below.Tie as tie

@@ -8,7 +8,7 @@ use Rattle.records.specs.declared.line.Slot.{Slot}
 use Rattle.records.specs.Line.{blankLine}
 use Rattle.records.specs.Sheet.{slotOf}
 use Rattle.judge.specs.State.{stateSlot}
-use Rattle.judge.proofs.rows.Placing.{Placing, placing-start, placing-more, listed-is}
+use Rattle.remainders.proofs.rows.Placing.{Placing, placing-start, placing-more, listed-is}
 use Rattle.judge.proofs.state.lines_in.Statement.{statement}
 use Rattle.judge.proofs.state.lines_in.Tie as tie
 

@@ -2,7 +2,7 @@
 use mathlib.Core.Path.{refl, sym, ap, _∙_}
 use native.Mathlib.Omega.{arith}
 use borrow.Author.Needs.{needs}
-use Rattle.judge.specs.View.{liveCount}
+use Rattle.remainders.specs.View.{liveCount}
 use Rattle.judge.proofs.state.Laws.{few-live, count-put}
 use Rattle.judge.proofs.state.put_count.Statement.{statement}
 use Rattle.judge.proofs.state.put_count.Tie as tie

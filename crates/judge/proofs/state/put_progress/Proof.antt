@@ -5,7 +5,7 @@ use Prim.Native.Nat.{ℕ, _+_, _*_}
 use native.Mathlib.Omega.{arith}
 use lib.ListN.{length, set}
 use borrow.Author.Needs.{needs}
-use Rattle.judge.specs.Rows.{width, words}
+use Rattle.remainders.specs.Rows.{width, words}
 use Rattle.judge.proofs.state.Laws.{side-small, sided, sided-long, progress-put}
 use Rattle.judge.proofs.state.put_progress.Statement.{statement}
 use Rattle.judge.proofs.state.put_progress.Tie as tie

@@ -5,7 +5,7 @@ use Prim.Native.Nat.{ℕ, _+_, _*_}
 use native.Mathlib.Omega.{arith}
 use lib.ListN.{set}
 use borrow.Author.Needs.{needs}
-use Rattle.judge.specs.Rows.{width}
+use Rattle.remainders.specs.Rows.{width}
 use Rattle.judge.proofs.state.Sheet.{sheeted, sheet-put}
 use Rattle.judge.proofs.state.put_sheet.Statement.{statement}
 use Rattle.judge.proofs.state.put_sheet.Tie as tie

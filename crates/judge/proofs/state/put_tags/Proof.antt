@@ -7,8 +7,8 @@ use lib.IntN.{ℤ, pos}
 use lib.ListN.{getD}
 use borrow.Author.Needs.{needs}
 use Rattle.records.specs.Word.{tagOf, rawOf}
-use Rattle.judge.proofs.rows.Storing.{Storing, storing-start, storing-more}
-use Rattle.judge.proofs.rows.Placing.{listed-is}
+use Rattle.remainders.proofs.rows.Storing.{Storing, storing-start, storing-more}
+use Rattle.remainders.proofs.rows.Placing.{listed-is}
 use Rattle.judge.proofs.state.put_tags.Statement.{statement}
 use Rattle.judge.proofs.state.put_tags.Tie as tie
 

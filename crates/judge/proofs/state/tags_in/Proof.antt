@@ -8,7 +8,7 @@ use borrow.Author.Needs.{needs}
 use Rattle.records.specs.Word.{tagOf}
 use Rattle.records.proofs.word.Laws.{back}
 use Rattle.judge.specs.State.{stateTag}
-use Rattle.judge.proofs.rows.Placing.{Placing, placing-start, placing-more, listed-is}
+use Rattle.remainders.proofs.rows.Placing.{Placing, placing-start, placing-more, listed-is}
 use Rattle.judge.proofs.state.tags_in.Statement.{statement}
 use Rattle.judge.proofs.state.tags_in.Tie as tie
 

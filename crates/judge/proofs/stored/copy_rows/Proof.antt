@@ -4,10 +4,10 @@ use Prim.Native.Nat.{ℕ, _+_, _-_, _≤_}
 use native.Mathlib.Omega.{arith}
 use borrow.Author.Needs.{needs}
 use Rattle.judge.specs.declared.plan.Plan.{Plan}
-use Rattle.judge.specs.declared.remainder.Remainder as arrays
-use Rattle.judge.specs.View.{blankRemainder}
+use Rattle.remainders.specs.declared.remainder.Remainder as arrays
+use Rattle.remainders.specs.View.{blankRemainder}
 use Rattle.judge.specs.Stored.{RemainderAt}
-use Rattle.judge.proofs.rows.Placing.{Placing, placing-start, placing-more}
+use Rattle.remainders.proofs.rows.Placing.{Placing, placing-start, placing-more}
 use Rattle.judge.proofs.stored.copy_rows.Statement.{statement}
 use Rattle.judge.proofs.stored.copy_rows.Tie as tie
 

@@ -6,8 +6,8 @@ use Prim.Native.Nat.{ℕ, _%_, _≤_, _-_}
 use native.Mathlib.Omega.{arith}
 use lib.ListN.{getD}
 use borrow.Author.Needs.{needs}
-use Rattle.judge.specs.Rows.{rowLead}
-use Rattle.judge.proofs.rows.Placing.{Placing, placing-start, placing-more}
+use Rattle.remainders.specs.Rows.{rowLead}
+use Rattle.remainders.proofs.rows.Placing.{Placing, placing-start, placing-more}
 use Rattle.judge.proofs.stored.leads_at.Statement.{statement}
 use Rattle.judge.proofs.stored.leads_at.Tie as tie
 

@@ -5,9 +5,9 @@ use Prim.Native.Nat.{ℕ, _-_, _≤_}
 use native.Mathlib.Omega.{arith}
 use lib.ListN.{getD}
 use borrow.Author.Needs.{needs}
-use Rattle.judge.specs.Rows.{leadsPart, stoppedPart}
-use Rattle.judge.proofs.rows.Storing.{Storing, storing-start, storing-more}
-use Rattle.judge.proofs.rows.Placing.{listed-is}
+use Rattle.remainders.specs.Rows.{leadsPart, stoppedPart}
+use Rattle.remainders.proofs.rows.Storing.{Storing, storing-start, storing-more}
+use Rattle.remainders.proofs.rows.Placing.{listed-is}
 use Rattle.judge.proofs.stored.put_leads.Statement.{statement}
 use Rattle.judge.proofs.stored.put_leads.Tie as tie
 

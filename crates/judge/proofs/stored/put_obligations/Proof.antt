@@ -8,10 +8,10 @@ use lib.ListN.{length, take}
 use lib.Seq.{take-suc}
 use borrow.Author.Needs.{needs}
 use Rattle.records.specs.Lists.{listedFrom, listed}
-use Rattle.judge.specs.declared.obligation.Obligation as code
-use Rattle.judge.specs.View.{blankObligation}
-use Rattle.judge.specs.Rows.{partWords, words, rowObligation, PartStays}
-use Rattle.judge.proofs.rows.Laws.{stays-all, stays-put, stays-wide, stays-on, set-next, set-put, count-put}
+use Rattle.remainders.specs.declared.obligation.Obligation as code
+use Rattle.remainders.specs.View.{blankObligation}
+use Rattle.remainders.specs.Rows.{partWords, words, rowObligation, PartStays}
+use Rattle.remainders.proofs.rows.Laws.{stays-all, stays-put, stays-wide, stays-on, set-next, set-put, count-put}
 use Rattle.judge.proofs.stored.put_obligations.Statement.{statement}
 use Rattle.judge.proofs.stored.put_obligations.Tie as tie
 

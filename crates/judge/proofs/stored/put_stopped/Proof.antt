@@ -6,10 +6,10 @@ use Prim.Native.Nat.{ℕ, _-_, _≤_}
 use native.Mathlib.Omega.{arith}
 use lib.ListN.{getD}
 use borrow.Author.Needs.{needs}
-use Rattle.judge.specs.Word.{flagOf}
-use Rattle.judge.specs.Rows.{stoppedPart, partsEnd}
-use Rattle.judge.proofs.rows.Storing.{Storing, storing-start, storing-more}
-use Rattle.judge.proofs.rows.Placing.{listed-is}
+use Rattle.remainders.specs.Word.{flagOf}
+use Rattle.remainders.specs.Rows.{stoppedPart, partsEnd}
+use Rattle.remainders.proofs.rows.Storing.{Storing, storing-start, storing-more}
+use Rattle.remainders.proofs.rows.Placing.{listed-is}
 use Rattle.judge.proofs.stored.put_stopped.Statement.{statement}
 use Rattle.judge.proofs.stored.put_stopped.Tie as tie
 

@@ -5,9 +5,9 @@ use mathlib.Core.Path.{_≡_, ap, _∙_}
 use Prim.Native.Nat.{ℕ, _≤_, _-_}
 use native.Mathlib.Omega.{arith}
 use borrow.Author.Needs.{needs}
-use Rattle.judge.specs.Word.{flagOf}
-use Rattle.judge.specs.Rows.{rowStop}
-use Rattle.judge.proofs.rows.Placing.{Placing, placing-start, placing-more}
+use Rattle.remainders.specs.Word.{flagOf}
+use Rattle.remainders.specs.Rows.{rowStop}
+use Rattle.remainders.proofs.rows.Placing.{Placing, placing-start, placing-more}
 use Rattle.judge.proofs.stored.stopped_at.Statement.{statement}
 use Rattle.judge.proofs.stored.stopped_at.Tie as tie
 

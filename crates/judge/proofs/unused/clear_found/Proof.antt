@@ -2,7 +2,7 @@
 use Prim.Native.Nat.{ℕ, _≤_}
 use native.Mathlib.Omega.{arith}
 use borrow.Author.Needs.{needs}
-use Rattle.judge.specs.Rows.{FewOwed}
+use Rattle.remainders.specs.Rows.{FewOwed}
 use Rattle.judge.proofs.stored.Held.{small-live}
 use Rattle.judge.proofs.unused.Sides.{small-first, found-exhausted, found-live}
 use Rattle.judge.proofs.unused.clear_found.Statement.{statement}

@@ -2,7 +2,7 @@
 use Prim.Native.Nat.{_-_}
 use native.Mathlib.Omega.{arith}
 use borrow.Author.Needs.{needs}
-use Rattle.judge.specs.Rows.{parts}
+use Rattle.remainders.specs.Rows.{parts}
 use Rattle.judge.proofs.unused.Laws.{Sets, sets-start, sets-few, sets-more, sets-cleared}
 use Rattle.judge.proofs.unused.clear_sets.Statement.{statement}
 use Rattle.judge.proofs.unused.clear_sets.Tie as tie

@@ -1,7 +1,7 @@
 -- `live_rows::same::are_same` is safe and ends: each turn leaves one word less. Assumes nothing.
 use borrow.Author.Needs.{needs}
 use Prim.Native.Nat.{_-_}
-use Rattle.judge.specs.Rows.{words}
+use Rattle.remainders.specs.Rows.{words}
 use Rattle.live_rows.proofs.same.are_same.Statement.{statement}
 use Rattle.live_rows.proofs.same.are_same.Tie as tie
 
