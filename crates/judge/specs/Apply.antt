@@ -14,10 +14,10 @@ use Rattle.tesl.specs.Answer.{mostLive}
 use Rattle.work.specs.Lines.{smallLeads}
 use Rattle.work.specs.Fillings.{mostFillings, takenBy, byFilling}
 use Rattle.judge.specs.declared.filling.Filling.{Filling}
-use Rattle.judge.specs.declared.plan.Plan.{Plan}
+use Rattle.lines.specs.declared.plan.Plan.{Plan}
 use Rattle.remainders.specs.declared.held.Status.{Status}
 use Rattle.remainders.specs.declared.held.Status.the-variants.{Exhausted, Live}
-use Rattle.judge.specs.Plan.{PlanFits, Planned}
+use Rattle.lines.specs.Plan.{PlanFits, Planned}
 use Rattle.remainders.specs.Rows.{sides, secondSide, headRows, words, rowsOf, FewOwed, RowsStay}
 use Rattle.judge.specs.Filling.{GatheredFor}
 

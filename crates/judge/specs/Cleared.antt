@@ -7,10 +7,10 @@ use lib.ListN.{length}
 use Rattle.records.specs.Sheet.{SheetValue}
 use Rattle.tesl.specs.Answer.{mostLive}
 use Rattle.work.specs.View.{usedPart}
-use Rattle.judge.specs.declared.plan.Plan.{Plan}
+use Rattle.lines.specs.declared.plan.Plan.{Plan}
 use Rattle.remainders.specs.declared.held.Status.{Status}
 use Rattle.remainders.specs.View.{liveCount}
-use Rattle.judge.specs.Plan.{PlanFits, Planned}
+use Rattle.lines.specs.Plan.{PlanFits, Planned}
 use Rattle.remainders.specs.Rows.{parts, partWords, leadsPart, stoppedPart, width, sides, word, rowSet, rowObligation, rowLead, rowOf, CountsSame, NothingInParts, Stays, HeadStays, RowsStay}
 use Rattle.judge.specs.Apply.{Side, foundIn, FewOwedIn, builtRows}
 use Rattle.judge.specs.Fill.{workedRows}

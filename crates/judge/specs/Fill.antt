@@ -17,10 +17,10 @@ use Rattle.work.specs.Fillings.{mostFillings, listSize, fillingsIn}
 use Rattle.work.specs.Work.{worked}
 use Rattle.judge.specs.declared.fill.Before.{Before}
 use Rattle.judge.specs.declared.fill.Extent.{Extent}
-use Rattle.judge.specs.declared.plan.Plan.{Plan}
+use Rattle.lines.specs.declared.plan.Plan.{Plan}
 use Rattle.remainders.specs.declared.held.Status.{Status}
 use Rattle.remainders.specs.View.{liveCount}
-use Rattle.judge.specs.Plan.{PlanFits, Planned}
+use Rattle.lines.specs.Plan.{PlanFits, Planned}
 use Rattle.remainders.specs.Rows.{sides, words, RowsStay}
 use Rattle.judge.specs.Apply.{Side, FewOwedIn, foundIn, builtRows}
 

@@ -22,9 +22,9 @@ use Rattle.remainders.specs.declared.obligation.Obligation as code
 use Rattle.judge.specs.declared.advance.Next.{Next}
 use Rattle.judge.specs.declared.advance.Next.the-variants.{Fails, Over, Onto}
 use Rattle.judge.specs.declared.filling.Filling.{Filling}
-use Rattle.judge.specs.declared.plan.Plan.{Plan}
+use Rattle.lines.specs.declared.plan.Plan.{Plan}
 use Rattle.remainders.specs.View.{countdownOf, firstOf}
-use Rattle.judge.specs.Plan.{PlanFits, Planned}
+use Rattle.lines.specs.Plan.{PlanFits, Planned}
 use Rattle.remainders.specs.Rows.{width, rowOf, FewInRow, Between, Stays}
 
 -- the instant, and what its delay lines and its counted lines begin

@@ -9,10 +9,10 @@ use Rattle.records.specs.Sheet.{SheetValue}
 use Rattle.records.specs.Word.{rawOf}
 use Rattle.tesl.specs.Answer.{mostLive}
 use Rattle.judge.specs.declared.progress.Progress.{Progress}
-use Rattle.judge.specs.declared.plan.Plan.{Plan}
+use Rattle.lines.specs.declared.plan.Plan.{Plan}
 use Rattle.judge.specs.declared.live.Found.{Found}
 use Rattle.remainders.specs.View.{liveCount}
-use Rattle.judge.specs.Plan.{PlanFits, Planned}
+use Rattle.lines.specs.Plan.{PlanFits, Planned}
 use Rattle.remainders.specs.Rows.{words, headRows, width, sides, word, RowsStay}
 use Rattle.judge.specs.Apply.{Side, foundIn, FewOwedIn}
 use Rattle.judge.specs.Fill.{workedRows}

@@ -20,7 +20,6 @@ pub mod Log
 pub mod Demands
 -- ---- to be believed of a monitor in words that a caller lends; the records in Rows and Progress are inner promises
 -- what a row of words and six words are read as: `word`, `rowSet`, `rowLead`, `rowStop`, `lineOfWords`; a row's words that no set uses: `NothingInParts`
-pub mod LineWords
 -- the struct that a sheet, what is kept beside it, and rows stand for: `rowsMonitor`
 pub mod Progress
 -- what a whole array of words is read as: `stateMonitor`, `isState`; and the words that nothing uses: `KeepsNothingIn`
@@ -30,10 +29,8 @@ pub mod UnusedState
 pub mod Live
 -- ---- for inner contracts and proofs only: nothing public cites these
 -- a sheet's lines as words
-pub mod Plan
 -- an instant: what depends on a filling alone, the rows by a filling and by all of them, the fillings listed; the remainder of no instant; remainders stored in rows and read back; words that no remainder uses, and how they are cleared
 pub mod Left
-pub mod Begun
 pub mod Filling
 pub mod Apply
 pub mod Fill

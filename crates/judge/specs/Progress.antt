@@ -18,7 +18,7 @@ use Rattle.judge.specs.declared.answer.Reply.the-variants.{Answered, Ref
 use Rattle.remainders.specs.declared.held.Status.{Status}
 use Rattle.remainders.specs.declared.held.Status.the-variants.{Live}
 use Rattle.remainders.specs.declared.held.Held.{Held}
-use Rattle.judge.specs.declared.plan.Plan.{Plan}
+use Rattle.lines.specs.declared.plan.Plan.{Plan}
 use Rattle.judge.specs.declared.progress.Progress.{Progress}
 use Rattle.judge.specs.declared.progress.InstantResult.{InstantResult}
 use Rattle.judge.specs.declared.monitor.Monitor.{Monitor}
@@ -27,7 +27,7 @@ use Rattle.remainders.specs.View.{liveCount}
 use Rattle.remainders.specs.Unused.{BlankFrom}
 use Rattle.judge.specs.Limits.{monitorWithin}
 use Rattle.judge.specs.Monitor.{Accepts}
-use Rattle.judge.specs.Plan.{Planned}
+use Rattle.lines.specs.Plan.{Planned}
 use Rattle.judge.specs.Stored.{FromRows}
 use Rattle.remainders.specs.Rows.{headRows, sides, rowCount, rowSet, rowLeads, rowStopped, RowsStay}
 use Rattle.judge.specs.Promises.{Called}

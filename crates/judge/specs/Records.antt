@@ -14,7 +14,7 @@ use Rattle.tesl.specs.Answer.{Answer}
 use Rattle.tesl.specs.Machine.{machine, listAfterCalls, LogResult, concluded, callsOf, judgeLog}
 use Rattle.judge.specs.declared.answer.Reply.{Reply}
 use Rattle.judge.specs.declared.progress.Progress.{Progress}
-use Rattle.judge.specs.declared.plan.Plan.{Plan}
+use Rattle.lines.specs.declared.plan.Plan.{Plan}
 use Rattle.judge.specs.declared.monitor.Monitor.{Monitor}
 use Rattle.judge.specs.declared.monitor.CallResult.{CallResult}
 use Rattle.judge.specs.declared.log.LastMonitor.{LastMonitor}

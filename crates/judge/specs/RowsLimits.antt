@@ -8,9 +8,9 @@ use lib.ListN.{getD}
 use Rattle.records.specs.Sheet.{SheetValue}
 use Rattle.tesl.specs.Lists.{below}
 use Rattle.remainders.specs.declared.held.Status.{Status}
-use Rattle.judge.specs.declared.plan.Plan.{Plan}
+use Rattle.lines.specs.declared.plan.Plan.{Plan}
 use Rattle.judge.specs.Limits.{storedWithin, remainderWithin, heldWithin}
-use Rattle.judge.specs.Plan.{PlanFits, Planned}
+use Rattle.lines.specs.Plan.{PlanFits, Planned}
 use Rattle.remainders.specs.Rows.{secondSide, height, rowObligation, rowLead}
 use Rattle.judge.specs.Progress.{rowRemainder, rowsHeld}
 

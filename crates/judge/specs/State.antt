@@ -19,9 +19,9 @@ use Rattle.tesl.specs.Lists.{below}
 use Rattle.remainders.specs.declared.held.Status.{Status}
 use Rattle.remainders.specs.declared.held.Status.the-variants.{Exhausted, Live}
 use Rattle.judge.specs.declared.progress.Progress.{Progress}
-use Rattle.judge.specs.declared.line_words.LineWords.{LineWords}
+use Rattle.lines.specs.declared.line_words.LineWords.{LineWords}
 use Rattle.judge.specs.declared.monitor.Monitor.{Monitor}
-use Rattle.judge.specs.LineWords.{lineOfWords, wordsOf}
+use Rattle.lines.specs.LineWords.{lineOfWords, wordsOf}
 use Rattle.remainders.specs.View.{liveCount}
 use Rattle.remainders.specs.Rows.{headRows, secondSide, width, words, word, Stays}
 use Rattle.judge.specs.Progress.{rowsMonitor}

@@ -10,12 +10,12 @@ use Rattle.tesl.specs.Lists.{all}
 use Rattle.work.specs.View.{usedPart, heldList}
 use Rattle.work.specs.Lines.{smallLeads}
 use Rattle.remainders.specs.declared.obligation.Obligation as code
-use Rattle.judge.specs.declared.plan.Plan.{Plan}
+use Rattle.lines.specs.declared.plan.Plan.{Plan}
 use Rattle.remainders.specs.declared.remainder.Remainder as arrays
 use Rattle.remainders.specs.declared.held.Status.{Status}
 use Rattle.remainders.specs.View.{remainderOf, blankRemainder, viewOf, liveCount, heldIn, fewOwed, sizedIn}
 use Rattle.remainders.specs.Unused.{BlankFrom, NothingUnused}
-use Rattle.judge.specs.Plan.{PlanFits, Planned}
+use Rattle.lines.specs.Plan.{PlanFits, Planned}
 use Rattle.remainders.specs.Rows.{leadsPart, stoppedPart, partsEnd, secondSide, headRows, height, words, rowCount, rowSet, rowLead, rowLeads, rowStop, rowStopped, rowOf, rowsOf, FewInRow, FewOwed, Stays, PartStays, HeadStays}
 use Rattle.judge.specs.Apply.{foundIn, FewOwedIn}
 

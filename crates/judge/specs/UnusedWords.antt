@@ -5,7 +5,7 @@ use mathlib.Core.Path.{_≡_}
 use Prim.Native.Nat.{ℕ, _+_, _≤_, _<_}
 use lib.Dec.{ltb}
 use lib.ListN.{getD}
-use Rattle.judge.specs.declared.plan.Plan.{Plan}
+use Rattle.lines.specs.declared.plan.Plan.{Plan}
 use Rattle.remainders.specs.declared.held.Status.{Status}
 use Rattle.remainders.specs.View.{liveCount}
 use Rattle.remainders.specs.Rows.{stoppedPart, width, height, headRows, word, rowLead, NothingInParts}

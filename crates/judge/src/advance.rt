@@ -2,7 +2,7 @@
 use crate::filling::Filling;
 use crate::left::Left;
 use crate::left::left_of;
-use crate::plan::Plan;
+use lines::plan::Plan;
 use remainders::obligation::Obligation;
 use remainders::rows::COUNTDOWNS;
 use remainders::rows::LEADS;

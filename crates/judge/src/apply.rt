@@ -2,7 +2,7 @@
 use crate::advance::Next;
 use crate::advance::advance_row;
 use crate::filling::Filling;
-use crate::plan::Plan;
+use lines::plan::Plan;
 use records::number;
 use remainders::compare::is_duplicate;
 use remainders::held::Status;

@@ -1,14 +1,14 @@
 // The fillings of an instant, and what the rows held become by them.
 use crate::apply_all::apply_all;
-use crate::lines::all_tags_hold;
-use crate::lines::none_falls;
 use crate::list::LIST;
 use crate::list::put_flags;
-use crate::plan::NUMBERS;
-use crate::plan::Plan;
-use crate::relevant::flag_rows;
-use crate::rules::all_hold;
-use crate::rules::is_forbidden;
+use lines::plan::NUMBERS;
+use lines::plan::Plan;
+use lines::relevant::flag_rows;
+use lines::rules::all_hold;
+use lines::rules::is_forbidden;
+use lines::tags::all_tags_hold;
+use lines::tags::none_falls;
 use records::instant::Instant;
 use records::instant::Tick;
 use records::instant::TickSlot;
@@ -25,7 +25,7 @@ ghost use Rattle.work.specs.View.{tagsBefore};
 ghost use Rattle.work.specs.Questions.{tagsHold};
 ghost use Rattle.work.specs.Rules.{allowed};
 ghost use Rattle.work.specs.Relevant.{fillingsLeft};
-ghost use Rattle.judge.specs.Plan.{planLines, relationsFrom, rulesFrom};
+ghost use Rattle.lines.specs.Plan.{planLines, relationsFrom, rulesFrom};
 ghost use Rattle.judge.specs.Fill.{Listing, Listed, Working, Worked};
 
 // What went before an instant: nothing, or the last tags.

@@ -1,12 +1,12 @@
 // What depends on a filling alone, gathered once for all rows.
-use crate::delays::begin_delays;
-use crate::leads::lead_changes;
-use crate::plan::NUMBERS;
-use crate::plan::Plan;
-use crate::rules::all_stops;
+use lines::delays::begin_delays;
+use lines::leads::lead_changes;
+use lines::plan::NUMBERS;
+use lines::plan::Plan;
+use lines::rules::all_stops;
 use remainders::obligation::MOST_DUE;
 use remainders::obligation::Obligation;
-ghost use Rattle.judge.specs.Plan.{PlanFits};
+ghost use Rattle.lines.specs.Plan.{PlanFits};
 ghost use Rattle.judge.specs.Filling.{Gathered};
 
 // The instant; the clocks that lines stop; what precedes lines need, gain and lose; what delay lines begin, the first `owed`, and behind it, up to `count`, what counted lines do.

@@ -1,6 +1,6 @@
 // The limits of remainders in rows, refusal 11, tested where they stand.
 use crate::limits::obligation_within;
-use crate::plan::Plan;
+use lines::plan::Plan;
 use records::number;
 use remainders::held::Status;
 use remainders::obligation::LEAST_DUE;

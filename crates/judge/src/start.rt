@@ -1,6 +1,6 @@
 // What a sheet owes before the first instant: the remainder that a monitor begins with, in a row.
 use crate::advance::add_row;
-use crate::line::NewObligation;
+use lines::line::NewObligation;
 use records::line::Line;
 use records::sheet::Sheet;
 use records::sheet::line_at;
@@ -15,7 +15,7 @@ ghost use Rattle.records.specs.Sheet.{sheetValue};
 ghost use Rattle.tesl.specs.Lists.{flatMap};
 ghost use Rattle.tesl.specs.Fits.{owedAtStart};
 ghost use Rattle.remainders.specs.View.{obligationOf};
-ghost use Rattle.judge.specs.Begun.{newObligation};
+ghost use Rattle.lines.specs.Begun.{newObligation};
 ghost use Rattle.remainders.specs.Rows.{headRows, Row};
 ghost use Rattle.judge.specs.Start.{BlankRow, StartedRow, BegunRows};
 

@@ -1,8 +1,8 @@
 // A whole monitor in a lent array of words: the words of its head, in rows 0 to 2, read and stored. Its remainders stand behind the head, a row each.
-use crate::line_words::LineWords;
-use crate::line_words::line_of_words;
-use crate::line_words::words_of_line;
 use crate::progress::Progress;
+use lines::line_words::LineWords;
+use lines::line_words::line_of_words;
+use lines::line_words::words_of_line;
 use records::line::Line;
 use records::line::Slot;
 use records::sheet::Sheet;

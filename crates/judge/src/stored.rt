@@ -1,7 +1,7 @@
 // A monitor's remainders, structs, stored in rows, and read back from them; and the monitor with them.
 use crate::monitor::Monitor;
-use crate::plan::Plan;
 use crate::progress::Progress;
+use lines::plan::Plan;
 use records::sheet::Sheet;
 use remainders::held::Held;
 use remainders::held::Status;

@@ -1,5 +1,5 @@
 // Words that no remainder uses are zero: what an instant leaves behind in them is cleared.
-use crate::plan::Plan;
+use lines::plan::Plan;
 use remainders::held::Status;
 use remainders::held::live_in;
 use remainders::rows::LEADS;

@@ -28,7 +28,7 @@ use Rattle.work.proofs.Below.{below-ext}
 use Rattle.work.proofs.Listing.{listed-at}
 use Rattle.work.proofs.Carried.{sheetLine, small-lead, carried-holds, carried-stopped, carried-leads}
 use Rattle.judge.specs.declared.filling.Filling.{Filling}
-use Rattle.judge.specs.declared.plan.Plan.{Plan}
+use Rattle.lines.specs.declared.plan.Plan.{Plan}
 use Rattle.remainders.specs.Rows.{rowSet, rowOwed, rowCountdowns, rowLead, rowLeads, rowStop, rowStopped, rowOf, provided, BegunRow}
 use Rattle.judge.specs.Left.{LeftRow}
 use Rattle.remainders.specs.View.{obligationOf, countdownOf}

@@ -19,10 +19,10 @@ use Rattle.work.specs.View.{filledOf}
 use Rattle.work.specs.Parts.{isCounted}
 use Rattle.remainders.specs.declared.obligation.Obligation as code
 use Rattle.remainders.specs.View.{countdownOf, sameStored}
-use Rattle.judge.specs.Plan.{planLine, planLines}
-use Rattle.judge.specs.Begun.{countStored, storedBy, storedOnce}
+use Rattle.lines.specs.Plan.{planLine, planLines}
+use Rattle.lines.specs.Begun.{countStored, storedBy, storedOnce}
 use Rattle.remainders.proofs.rows.Reading.{once-each-read}
-use Rattle.judge.proofs.delays.Laws.{begun-read, of-kind}
+use Rattle.lines.proofs.delays.Laws.{begun-read, of-kind}
 
 -- ---- a counted line
 

@@ -22,7 +22,7 @@ use Rattle.remainders.specs.Word.{dueOf, dueNumber}
 use Rattle.remainders.specs.View.{obligationOf, countdownOf, viewOf}
 use Rattle.judge.specs.Limits.{obligationWithin, countdownWithin, storedWithin, leastDue, mostDue, leastWanted, mostWanted, setWithin, remainderWithin}
 use Rattle.remainders.proofs.obligation.Laws.{due-le}
-use Rattle.judge.proofs.lines.Laws.{okFrom, ok-start}
+use Rattle.lines.proofs.tags.Laws.{okFrom, ok-start}
 
 -- ---- obligations
 module _ (c : ℕ) where

@@ -16,10 +16,10 @@ use Rattle.records.specs.Inner.{Checked}
 use Rattle.records.proofs.Lists.{both}
 use Rattle.tesl.proofs.Tests.{≡→T}
 use Rattle.judge.specs.declared.progress.Progress.{Progress}
-use Rattle.judge.specs.declared.plan.Plan.{Plan}
+use Rattle.lines.specs.declared.plan.Plan.{Plan}
 use Rattle.judge.specs.declared.live.Found.{Found}
 use Rattle.judge.specs.Limits.{monitorWithin, Limited}
-use Rattle.judge.specs.Plan.{numbers, Preparing, PlanOf, Planned}
+use Rattle.lines.specs.Plan.{numbers, Preparing, PlanOf, Planned}
 use Rattle.remainders.specs.Rows.{words, word}
 use Rattle.judge.specs.RowsLimits.{RowsWithin, TestingAll}
 use Rattle.judge.specs.State.{hasFormat, hasKinds, isSide, isState, stateSheet, stateProgress, stateMonitor}

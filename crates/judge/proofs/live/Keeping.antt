@@ -9,7 +9,7 @@ use Rattle.records.proofs.Lists.{both}
 use Rattle.remainders.specs.declared.held.Status.{Status}
 use Rattle.remainders.specs.declared.held.Status.the-variants.{Exhausted, Live}
 use Rattle.judge.specs.declared.progress.Progress.{Progress}
-use Rattle.judge.specs.declared.plan.Plan.{Plan}
+use Rattle.lines.specs.declared.plan.Plan.{Plan}
 use Rattle.remainders.specs.View.{liveCount}
 use Rattle.remainders.specs.Rows.{headRows, width, word}
 use Rattle.judge.specs.Apply.{foundIn, FewOwedIn}

@@ -28,7 +28,7 @@ use Rattle.judge.specs.declared.monitor.CallResult.{CallResult}
 use Rattle.remainders.specs.View.{liveCount, heldOf, sized}
 use Rattle.judge.specs.Answer.{replyOf, saidBy}
 use Rattle.judge.specs.Limits.{monitorWithin}
-use Rattle.judge.specs.Plan.{Planned}
+use Rattle.lines.specs.Plan.{Planned}
 use Rattle.remainders.specs.Rows.{word, HeadStays}
 use Rattle.judge.specs.UnusedWords.{NothingBeside}
 use Rattle.judge.specs.Apply.{Side, FewOwedIn}

@@ -21,10 +21,10 @@ use Rattle.judge.specs.declared.answer.Reply.the-variants.{Answered, Ref
 use Rattle.remainders.specs.declared.held.Status.the-variants.{Live}
 use Rattle.remainders.specs.declared.held.Held.{Held}
 use Rattle.judge.specs.declared.progress.Progress.{Progress}
-use Rattle.judge.specs.declared.plan.Plan.{Plan}
+use Rattle.lines.specs.declared.plan.Plan.{Plan}
 use Rattle.remainders.specs.View.{liveCount, heldOf}
 use Rattle.judge.specs.Answer.{answerOf, saidBy}
-use Rattle.judge.specs.Plan.{PlanFits, Planned, PlanOf}
+use Rattle.lines.specs.Plan.{PlanFits, Planned, PlanOf}
 use Rattle.remainders.specs.Rows.{width, words, headRows, word}
 use Rattle.judge.specs.Apply.{foundIn, FewOwedIn}
 use Rattle.judge.specs.Start.{BlankRow, BegunRows}

@@ -8,10 +8,10 @@ use lib.ListN.{getD}
 use Rattle.records.specs.declared.sheet.Sheet.{Sheet}
 use Rattle.records.specs.Sheet.{SheetValue, sheetValue}
 use Rattle.records.specs.Word.{unsigned, rawOf}
-use Rattle.judge.specs.declared.plan.Plan.{Plan}
+use Rattle.lines.specs.declared.plan.Plan.{Plan}
 use Rattle.remainders.specs.View.{liveCount}
 use Rattle.remainders.specs.Unused.{BlankFrom}
-use Rattle.judge.specs.Plan.{Planned}
+use Rattle.lines.specs.Plan.{Planned}
 use Rattle.remainders.specs.Rows.{width, headRows, word}
 use Rattle.judge.specs.UnusedWords.{NothingInRow, NothingBeside}
 use Rattle.judge.specs.State.{stateWords, stateSheet, stateProgress, noWords}

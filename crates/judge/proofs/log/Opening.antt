@@ -23,7 +23,7 @@ use Rattle.judge.specs.declared.answer.Reply.the-variants as reply
 use Rattle.judge.specs.declared.log.LastMonitor.{LastMonitor}
 use Rattle.judge.specs.declared.log.LastRows.{LastRows}
 use Rattle.judge.specs.declared.monitor.Monitor.{Monitor}
-use Rattle.judge.specs.declared.plan.Plan.{Plan}
+use Rattle.lines.specs.declared.plan.Plan.{Plan}
 use Rattle.judge.specs.Answer.{replyOf}
 use Rattle.judge.specs.Entry.{entry, answersFrom}
 use Rattle.judge.specs.Promises.{Follows}

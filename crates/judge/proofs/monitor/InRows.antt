@@ -13,14 +13,14 @@ use Rattle.tesl.specs.Answer.{Answer}
 use Rattle.judge.specs.declared.answer.Answer as code
 use Rattle.judge.specs.declared.answer.Reply.the-variants as reply
 use Rattle.remainders.specs.declared.remainder.Remainder as arrays
-use Rattle.judge.specs.declared.plan.Plan.{Plan}
+use Rattle.lines.specs.declared.plan.Plan.{Plan}
 use Rattle.judge.specs.declared.progress.Progress.{Progress}
 use Rattle.judge.specs.declared.progress.InstantResult.{InstantResult}
 use Rattle.judge.specs.declared.monitor.Monitor.{Monitor}
 use Rattle.judge.specs.declared.monitor.CallResult.{CallResult}
 use Rattle.judge.specs.Answer.{replyOf, saidBy}
 use Rattle.judge.specs.Limits.{monitorWithin, Limited}
-use Rattle.judge.specs.Plan.{PlanOf}
+use Rattle.lines.specs.Plan.{PlanOf}
 use Rattle.judge.specs.Stored.{StoredHeld, FindingRows, FromRows}
 use Rattle.judge.specs.Monitor.{refusal}
 use Rattle.judge.specs.Progress.{rowsMonitor, progressOf, given, readBack, ReadBack, Ready, Takes}

@@ -40,13 +40,13 @@ use Rattle.work.specs.Owed.{owing, addedAll}
 use Rattle.judge.specs.declared.answer.Answer as code
 use Rattle.judge.specs.declared.answer.Reply.the-variants as reply
 use Rattle.remainders.specs.declared.held.Status.the-variants.{Live}
-use Rattle.judge.specs.declared.plan.Plan.{Plan}
+use Rattle.lines.specs.declared.plan.Plan.{Plan}
 use Rattle.judge.specs.declared.monitor.Monitor.{Monitor}
 use Rattle.judge.specs.declared.monitor.CallResult.{CallResult}
 use Rattle.remainders.specs.View.{sized}
 use Rattle.judge.specs.Answer.{answerOf, saidBy}
 use Rattle.judge.specs.Limits.{isTaken, sheetWithin, monitorWithin}
-use Rattle.judge.specs.Plan.{numbers, Preparing, PlanOf}
+use Rattle.lines.specs.Plan.{numbers, Preparing, PlanOf}
 use Rattle.remainders.specs.Rows.{headRows, rowsOf}
 use Rattle.judge.specs.Apply.{foundIn}
 use Rattle.judge.specs.Start.{BegunRows}

@@ -35,14 +35,14 @@ use Rattle.remainders.specs.declared.remainder.Remainder as arrays
 use Rattle.remainders.specs.declared.held.Status.{Status}
 use Rattle.remainders.specs.declared.held.Status.the-variants.{Exhausted, Live}
 use Rattle.remainders.specs.declared.held.Held.{Held}
-use Rattle.judge.specs.declared.plan.Plan.{Plan}
+use Rattle.lines.specs.declared.plan.Plan.{Plan}
 use Rattle.judge.specs.declared.progress.Progress.{Progress}
 use Rattle.judge.specs.declared.monitor.Monitor.{Monitor}
 use Rattle.remainders.specs.View.{obligationOf, countdownOf, owedOf, countdownsOf, viewOf, heldOf, liveCount, fewOwed, sized}
 use Rattle.remainders.specs.Unused.{BlankFrom}
 use Rattle.judge.specs.Answer.{answerOf, saidBy}
 use Rattle.judge.specs.Limits.{sheetWithin, monitorWithin, Limited}
-use Rattle.judge.specs.Plan.{numbers, Preparing, PlanOf}
+use Rattle.lines.specs.Plan.{numbers, Preparing, PlanOf}
 use Rattle.remainders.specs.Rows.{words, rowCount, rowObligation, rowOwed, rowCountdowns, rowLeads, rowStopped, rowOf, FewInRow}
 use Rattle.judge.specs.Apply.{Side, foundIn, FewOwedIn}
 use Rattle.judge.specs.Stored.{StoringHeld, StoredHeld, FromRows}

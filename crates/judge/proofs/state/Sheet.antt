@@ -18,8 +18,8 @@ use Rattle.records.specs.Sheet.{SheetValue, slotOf, lineAt}
 use Rattle.tesl.proofs.FormulaLists.{below-of}
 use Rattle.tesl.proofs.Tests.{≡→T, T→≡}
 use Rattle.work.proofs.Listing.{listed-at, listed-same}
-use Rattle.judge.specs.declared.line_words.LineWords.{LineWords}
-use Rattle.judge.specs.LineWords.{lineOfWords, wordsOf, WordsOf}
+use Rattle.lines.specs.declared.line_words.LineWords.{LineWords}
+use Rattle.lines.specs.LineWords.{lineOfWords, wordsOf, WordsOf}
 use Rattle.remainders.specs.Rows.{width, words, word}
 use Rattle.judge.specs.State.{stateWords, stateLine, clocksBy, stateSlot, stateSheet, isKind, hasKinds, OthersStay, PutWords, noWords, SlotWords, PutLines, PutSheet}
 use Rattle.remainders.proofs.rows.Laws.{stored, stored-other}

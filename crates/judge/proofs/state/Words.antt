@@ -8,8 +8,8 @@ use lib.Dec.{ltb}
 use lib.ListN.{length, getD, set, length-set}
 use lib.Seq.{getD-set-same, getD-set-other}
 use borrow.Author.Tests.{ltb-true, ltb-false}
-use Rattle.judge.specs.declared.line_words.LineWords.{LineWords}
-use Rattle.judge.specs.LineWords.{wordsBy}
+use Rattle.lines.specs.declared.line_words.LineWords.{LineWords}
+use Rattle.lines.specs.LineWords.{wordsBy}
 use Rattle.remainders.specs.Rows.{width, words, word}
 use Rattle.judge.specs.State.{stateWords, PutWords}
 

@@ -18,13 +18,13 @@ use Rattle.work.specs.Lines.{smallLeads}
 use Rattle.work.specs.Parts.{isPrecedes}
 use Rattle.work.proofs.Listing.{one-of, all-of}
 use Rattle.work.proofs.Carried.{used-by}
-use Rattle.judge.specs.declared.plan.Plan.{Plan}
+use Rattle.lines.specs.declared.plan.Plan.{Plan}
 use Rattle.remainders.specs.declared.remainder.Remainder as arrays
 use Rattle.remainders.specs.declared.held.Status.{Status}
 use Rattle.remainders.specs.declared.held.Status.the-variants.{Exhausted, Live}
 use Rattle.remainders.specs.View.{remainderOf, blankObligation, blankRemainder, viewOf, fewOwed, sizedIn}
 use Rattle.remainders.specs.Unused.{NothingUnused}
-use Rattle.judge.specs.Plan.{Planned}
+use Rattle.lines.specs.Plan.{Planned}
 use Rattle.remainders.specs.Rows.{words, rowOf, rowsOf, FewInRow, FewOwed, HeadStays}
 use Rattle.judge.specs.Apply.{FewOwedIn}
 use Rattle.judge.specs.Stored.{PutRemainder, ToRows, StoredHeld, CopiedRows, FromRows}

@@ -19,11 +19,11 @@ use Rattle.work.specs.Lines.{smallLeads}
 use Rattle.work.specs.Parts.{isPrecedes}
 use Rattle.work.proofs.Listing.{listed-at, listed-same}
 use Rattle.work.proofs.Carried.{sheetLine, next-places, used-by, small-lead}
-use Rattle.judge.specs.declared.plan.Plan.{Plan}
+use Rattle.lines.specs.declared.plan.Plan.{Plan}
 use Rattle.remainders.specs.declared.remainder.Remainder as arrays
 use Rattle.remainders.specs.View.{obligationOf, countdownOf, owedOf, countdownsOf, viewOf, fewOwed}
 use Rattle.remainders.specs.Unused.{NothingUnused}
-use Rattle.judge.specs.Plan.{Planned}
+use Rattle.lines.specs.Plan.{Planned}
 use Rattle.remainders.specs.Rows.{leadsPart, partsEnd, word, rowCount, rowObligation, rowOwed, rowCountdowns, FewInRow, rowLead, rowLeads, rowStop, rowStopped, rowOf, ObligationsAt}
 use Rattle.judge.specs.Stored.{PutObligations, PutLeads, PutStopped, PutRemainder, LeadsAt, StoppedAt, RemainderAt}
 use Rattle.remainders.proofs.rows.Laws.{stays-wide, stays-on, set-words, few-words}

@@ -18,10 +18,10 @@ use Rattle.work.specs.View.{inUse}
 use Rattle.work.specs.Parts.{isPrecedes}
 use Rattle.work.proofs.Listing.{listed-at, listed-same}
 use Rattle.work.proofs.Carried.{sheetLine, next-places, used-by}
-use Rattle.judge.specs.declared.plan.Plan.{Plan}
+use Rattle.lines.specs.declared.plan.Plan.{Plan}
 use Rattle.remainders.specs.Word.{flagOf}
 use Rattle.remainders.specs.View.{obligationOf, countdownOf}
-use Rattle.judge.specs.Plan.{PlanFits, Planned}
+use Rattle.lines.specs.Plan.{PlanFits, Planned}
 use Rattle.remainders.specs.Rows.{parts, partWords, leadsPart, stoppedPart, width, word, rowCount, rowObligation, rowSet, rowOwed, rowCountdowns, rowLead, rowLeads, rowStop, rowStopped, FewInRow, CountsSame, Stays, ClearedWords}
 use Rattle.judge.specs.UnusedWords.{leadUsed}
 use Rattle.judge.specs.Cleared.{ClearedPart, ClearedRows, ClearedOwed, ClearedSets, ClearedLeads, ClearedUnused}

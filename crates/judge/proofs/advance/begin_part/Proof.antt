@@ -2,7 +2,7 @@
 use mathlib.Core.Path.{sym}
 use native.Mathlib.Omega.{arith}
 use borrow.Author.Needs.{needs}
-use Rattle.judge.proofs.delays.Laws.{none-from}
+use Rattle.lines.proofs.delays.Laws.{none-from}
 use Rattle.remainders.proofs.rows.Laws.{stays-all}
 use Rattle.judge.proofs.advance.begin_part.Statement.{statement}
 use Rattle.judge.proofs.advance.begin_part.Tie as tie

@@ -21,7 +21,7 @@ use Rattle.work.proofs.Listing.{listed-same, one-of}
 use Rattle.judge.specs.declared.advance.Next.{Next}
 use Rattle.judge.specs.declared.advance.Next.the-variants.{Onto}
 use Rattle.judge.specs.declared.filling.Filling.{Filling}
-use Rattle.judge.specs.declared.plan.Plan.{Plan}
+use Rattle.lines.specs.declared.plan.Plan.{Plan}
 use Rattle.remainders.specs.Rows.{rowOf, rowsOf, FewOwed, RowsStay}
 use Rattle.judge.specs.Filling.{filledInstant, begunIn, nextOf, GatheredFor}
 use Rattle.remainders.proofs.rows.Laws.{rows-stay-all, rows-stay-one, rows-stay-wide, rows-stay-on}

@@ -16,9 +16,9 @@ use Rattle.work.specs.View.{usedPart}
 use Rattle.work.specs.Lines.{smallLeads}
 use Rattle.work.specs.Fillings.{fillingsIn, takenBy, byFilling}
 use Rattle.work.proofs.Listing.{listed-same}
-use Rattle.judge.specs.declared.plan.Plan.{Plan}
+use Rattle.lines.specs.declared.plan.Plan.{Plan}
 use Rattle.remainders.specs.declared.held.Status.{Status}
-use Rattle.judge.specs.Plan.{Planned}
+use Rattle.lines.specs.Plan.{Planned}
 use Rattle.remainders.specs.Rows.{rowsOf, FewOwed, RowsStay}
 use Rattle.judge.specs.Apply.{foundIn, FewOwedIn, builtRows}
 use Rattle.remainders.proofs.rows.Laws.{rows-stay-all, rows-stay-wide, rows-stay-on}

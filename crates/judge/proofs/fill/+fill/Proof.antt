@@ -14,7 +14,7 @@ use Rattle.work.specs.View.{seenOf}
 use Rattle.work.specs.Relevant.{relevantOnly, fillingsLeft}
 use Rattle.work.specs.Rules.{allowed}
 use Rattle.work.proofs.Forbidden.{forbidden-none}
-use Rattle.judge.specs.Plan.{planLines, rulesFrom}
+use Rattle.lines.specs.Plan.{planLines, rulesFrom}
 use Rattle.judge.proofs.fill.Listed.{left-end, left-idle, left-ticks, left-unseen, left-irrelevant, room-same, room-first, room-second, listed-none, listed-not, listed-one, listed-same, listed-both, flag-there}
 use Rattle.judge.proofs.fill.fill.Reads as fill
 use Rattle.judge.proofs.fill.fill.Kinds as fill-kinds
@@ -22,8 +22,8 @@ use Rattle.judge.proofs.fill.+fill.Lts-fill as fill-lts
 use Rattle.judge.proofs.fill.seen_at.Reads as seen-at-reads
 use Rattle.judge.proofs.fill.with_tick.Reads as with-tick-reads
 use Rattle.judge.proofs.list.put_flags.Reads as put-flags-reads
-use Rattle.judge.proofs.rules.all_hold.Reads as all-hold-reads
-use Rattle.judge.proofs.rules.is_forbidden.Reads as is-forbidden-reads
+use Rattle.lines.proofs.rules.all_hold.Reads as all-hold-reads
+use Rattle.lines.proofs.rules.is_forbidden.Reads as is-forbidden-reads
 use Rattle.judge.proofs.fill.+fill.{statement}
 use Rattle.judge.proofs.fill.+fill.Tie.{close}
 

@@ -14,7 +14,7 @@ use Rattle.work.specs.Parts.{isDelay, isCounted}
 use Rattle.work.proofs.Parts.{delays-enough, counted-enough}
 use Rattle.remainders.specs.Word.{dueOf}
 use Rattle.remainders.specs.View.{obligationOf, countdownOf}
-use Rattle.judge.specs.Plan.{delaysFrom, countedRows, planLine}
+use Rattle.lines.specs.Plan.{delaysFrom, countedRows, planLine}
 use Rattle.remainders.proofs.obligation.Laws.{same-read, same-counted}
 use Rattle.judge.proofs.filling.Laws.{part-begins, reads-counted}
 use Rattle.judge.proofs.filling.gather.Statement.{statement}

@@ -7,7 +7,7 @@ use Rattle.records.specs.Sheet.{sheetValue}
 use Rattle.tesl.specs.Lists.{all}
 use Rattle.theory.specs.Step.{nextLeads}
 use Rattle.work.specs.View.{inUse}
-use Rattle.judge.proofs.lines.Laws.{okFrom, ok-end, ok-no, ok-more}
+use Rattle.lines.proofs.tags.Laws.{okFrom, ok-end, ok-no, ok-more}
 use Rattle.judge.proofs.limits.Laws.{leadOk, leads-start}
 use Rattle.judge.proofs.limits.leads_within.Statement.{statement}
 use Rattle.judge.proofs.limits.leads_within.Tie as tie

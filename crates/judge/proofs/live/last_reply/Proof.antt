@@ -1,7 +1,7 @@
 -- `last_reply` meets its contract: those held say it, where a monitor is found. Assumes nothing.
 use Prim.Native.Nat.{ℕ}
 use lib.ListN.{length-replicate}
-use Rattle.judge.specs.Plan.{numbers}
+use Rattle.lines.specs.Plan.{numbers}
 use Rattle.judge.proofs.live.Reading.{said-none, can-say, said-one}
 use Rattle.judge.proofs.live.last_reply.Statement.{statement}
 use Rattle.judge.proofs.live.last_reply.Tie as tie

@@ -2,7 +2,7 @@
 use Prim.Native.Nat.{ℕ}
 use lib.ListN.{length-replicate}
 use borrow.Author.Needs.{needs}
-use Rattle.judge.specs.Plan.{numbers}
+use Rattle.lines.specs.Plan.{numbers}
 use Rattle.judge.proofs.live.Reading.{given-none, can-say, can-read, given-one}
 use Rattle.judge.proofs.live.monitor_in.Statement.{statement}
 use Rattle.judge.proofs.live.monitor_in.Tie as tie

@@ -3,7 +3,7 @@ use mathlib.Core.Bool.{false}
 use Prim.Native.Nat.{ℕ}
 use lib.ListN.{length-replicate}
 use borrow.Author.Needs.{needs}
-use Rattle.judge.specs.Plan.{numbers}
+use Rattle.lines.specs.Plan.{numbers}
 use Rattle.judge.proofs.live.Observing.{observed-none, room, observed-refused, keeping, observed-answered}
 use Rattle.judge.proofs.live.observe_state.Statement.{statement}
 use Rattle.judge.proofs.live.observe_state.Tie as tie

@@ -5,7 +5,7 @@ use native.Mathlib.Omega.{arith}
 use lib.ListN.{length, replicate, length-replicate}
 use borrow.Author.Needs.{needs}
 use Rattle.records.specs.Types.{IsBytes}
-use Rattle.judge.specs.Plan.{numbers, Preparing}
+use Rattle.lines.specs.Plan.{numbers, Preparing}
 use Rattle.remainders.specs.Rows.{words}
 use Rattle.records.proofs.word.Bytes.{each-byte}
 use Rattle.judge.proofs.monitor.Opened.{prepares-read}

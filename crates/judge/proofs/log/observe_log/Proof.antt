@@ -9,7 +9,7 @@ use Rattle.records.specs.Types.{IsBytes}
 use Rattle.remainders.specs.declared.held.Status.the-variants.{Live}
 use Rattle.judge.specs.declared.progress.Progress.{Progress}
 use Rattle.judge.specs.declared.answer.Reply.the-variants.{Answered}
-use Rattle.judge.specs.Plan.{numbers}
+use Rattle.lines.specs.Plan.{numbers}
 use Rattle.remainders.specs.Rows.{width, words, headRows}
 use Rattle.judge.specs.Answer.{answerOf, saidBy}
 use Rattle.judge.specs.Apply.{FewOwedIn, foundIn}

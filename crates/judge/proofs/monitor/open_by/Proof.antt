@@ -5,7 +5,7 @@ use native.Mathlib.Omega.{arith}
 use lib.ListN.{length-replicate}
 use borrow.Author.Needs.{needs}
 use Rattle.records.specs.Types.{IsBytes}
-use Rattle.judge.specs.Plan.{numbers}
+use Rattle.lines.specs.Plan.{numbers}
 use Rattle.remainders.specs.Rows.{width, words, headRows}
 use Rattle.judge.specs.Apply.{FewOwedIn}
 use Rattle.judge.specs.Monitor.{refusal}

@@ -11,14 +11,14 @@ use Rattle.tesl.specs.Fits.{Obligation, owedAtStart}
 use Rattle.theory.specs.Adding.{addedTo}
 use Rattle.tesl.specs.Remainder.{sameObligation}
 use Rattle.work.specs.Owed.{addedAll}
-use Rattle.judge.specs.declared.line.NewObligation.{NewObligation}
+use Rattle.lines.specs.declared.line.NewObligation.{NewObligation}
 use Rattle.remainders.specs.View.{obligationOf}
-use Rattle.judge.specs.Begun.{newObligation}
+use Rattle.lines.specs.Begun.{newObligation}
 use Rattle.remainders.specs.Rows.{rowCount, rowOwed, provided, PartStays}
 use Rattle.remainders.proofs.obligation.Laws.{same-read}
 use Rattle.remainders.proofs.rows.Reading.{added-row-read}
 use Rattle.judge.proofs.advance.Adding.{rest-end, rest-over, rest-more}
-use Rattle.judge.proofs.delays.Laws.{begunFrom, begun-start, begun-end, begun-line}
+use Rattle.lines.proofs.delays.Laws.{begunFrom, begun-start, begun-end, begun-line}
 use Rattle.remainders.proofs.rows.Laws.{stays-all, stays-on}
 use Rattle.judge.proofs.start.start_row.Statement.{statement}
 use Rattle.judge.proofs.start.start_row.Tie as tie

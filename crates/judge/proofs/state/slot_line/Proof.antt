@@ -2,7 +2,7 @@
 use mathlib.Core.Path.{ap, _∙_}
 use borrow.Author.Needs.{needs}
 use borrow.Author.Tests.{lt-ltb, le-ltb}
-use Rattle.judge.specs.LineWords.{lineOfWords}
+use Rattle.lines.specs.LineWords.{lineOfWords}
 use Rattle.judge.proofs.state.slot_line.Statement.{statement}
 use Rattle.judge.proofs.state.slot_line.Tie as tie
 
