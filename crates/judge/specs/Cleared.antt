@@ -12,8 +12,8 @@ use Rattle.remainders.specs.declared.held.Status.{Status}
 use Rattle.remainders.specs.View.{liveCount}
 use Rattle.lines.specs.Plan.{PlanFits, Planned}
 use Rattle.remainders.specs.Rows.{parts, partWords, leadsPart, stoppedPart, width, sides, word, rowSet, rowObligation, rowLead, rowOf, CountsSame, NothingInParts, Stays, HeadStays, RowsStay}
-use Rattle.judge.specs.Apply.{Side, foundIn, FewOwedIn, builtRows}
-use Rattle.judge.specs.Fill.{workedRows}
+use Rattle.step.specs.Apply.{Side, foundIn, FewOwedIn, builtRows}
+use Rattle.step.specs.Fill.{workedRows}
 use Rattle.judge.specs.UnusedWords.{leadUsed, NothingInRow, NothingBeside}
 
 -- words lo to hi - 1 of row i are zero, the others stay

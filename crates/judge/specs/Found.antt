@@ -14,8 +14,8 @@ use Rattle.judge.specs.declared.live.Found.{Found}
 use Rattle.remainders.specs.View.{liveCount}
 use Rattle.lines.specs.Plan.{PlanFits, Planned}
 use Rattle.remainders.specs.Rows.{words, headRows, width, sides, word, RowsStay}
-use Rattle.judge.specs.Apply.{Side, foundIn, FewOwedIn}
-use Rattle.judge.specs.Fill.{workedRows}
+use Rattle.step.specs.Apply.{Side, foundIn, FewOwedIn}
+use Rattle.step.specs.Fill.{workedRows}
 use Rattle.judge.specs.UnusedWords.{NothingBeside}
 use Rattle.judge.specs.Progress.{Ready}
 use Rattle.judge.specs.State.{isState, stateSheet, stateProgress}

@@ -30,10 +30,6 @@ pub mod Live
 -- ---- for inner contracts and proofs only: nothing public cites these
 -- a sheet's lines as words
 -- an instant: what depends on a filling alone, the rows by a filling and by all of them, the fillings listed; the remainder of no instant; remainders stored in rows and read back; words that no remainder uses, and how they are cleared
-pub mod Left
-pub mod Filling
-pub mod Apply
-pub mod Fill
 pub mod Start
 pub mod Stored
 pub mod UnusedWords

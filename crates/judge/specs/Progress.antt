@@ -31,7 +31,7 @@ use Rattle.lines.specs.Plan.{Planned}
 use Rattle.judge.specs.Stored.{FromRows}
 use Rattle.remainders.specs.Rows.{headRows, sides, rowCount, rowSet, rowLeads, rowStopped, RowsStay}
 use Rattle.judge.specs.Promises.{Called}
-use Rattle.judge.specs.Fill.{Working, workedRows}
+use Rattle.step.specs.Fill.{Working, workedRows}
 
 -- row i as a struct
 abbrev pub rowRemainder : List ℕ → ℕ → arrays.Remainder

@@ -22,7 +22,7 @@ use Rattle.judge.specs.declared.log.LastRows.{LastRows}
 use Rattle.judge.specs.Answer.{replyOf}
 use Rattle.judge.specs.Entry.{entry, answersFrom}
 use Rattle.judge.specs.Promises.{Follows}
-use Rattle.judge.specs.Fill.{Working}
+use Rattle.step.specs.Fill.{Working}
 use Rattle.judge.specs.Progress.{rowsMonitor, given, Ready}
 use Rattle.judge.specs.Log.{entries, FollowsLog}
 

@@ -12,7 +12,7 @@ use Rattle.tesl.specs.Remainder.{remainder}
 use Rattle.work.specs.Owed.{owing, addedAll}
 use Rattle.remainders.specs.declared.held.Status.the-variants.{Live}
 use Rattle.remainders.specs.Rows.{width, words, headRows, word, rowCount, rowOwed, rowsOf, provided, PartStays}
-use Rattle.judge.specs.Apply.{FewOwedIn}
+use Rattle.step.specs.Apply.{FewOwedIn}
 
 -- row i, all words of it 0
 pub record BlankRow (rows : List ℕ) (i : ℕ) : Type 0 where

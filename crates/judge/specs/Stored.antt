@@ -17,7 +17,7 @@ use Rattle.remainders.specs.View.{remainderOf, blankRemainder, viewOf, liveCoun
 use Rattle.remainders.specs.Unused.{BlankFrom, NothingUnused}
 use Rattle.lines.specs.Plan.{PlanFits, Planned}
 use Rattle.remainders.specs.Rows.{leadsPart, stoppedPart, partsEnd, secondSide, headRows, height, words, rowCount, rowSet, rowLead, rowLeads, rowStop, rowStopped, rowOf, rowsOf, FewInRow, FewOwed, Stays, PartStays, HeadStays}
-use Rattle.judge.specs.Apply.{foundIn, FewOwedIn}
+use Rattle.step.specs.Apply.{foundIn, FewOwedIn}
 
 -- ---- stored
 

@@ -13,7 +13,7 @@ ghost use Rattle.tesl.specs.Lists.{any};
 ghost use Rattle.tesl.specs.Remainder.{isClear};
 ghost use Rattle.judge.specs.Answer.{answerOf, saidBy};
 ghost use Rattle.remainders.specs.Rows.{secondSide, height, rowCount, rowsOf};
-ghost use Rattle.judge.specs.Apply.{foundIn, FewOwedIn};
+ghost use Rattle.step.specs.Apply.{foundIn, FewOwedIn};
 
 // live: how many distinct remainders; clear: one of them owes nothing.
 pub enum Answer {

@@ -1,15 +1,8 @@
 // The monitor: what clocks, obligations and lines say of a filled instant, what a remainder becomes, the remainders held, and the monitor itself.
-mod advance;
 pub mod answer;
-mod apply;
-mod apply_all;
 mod count;
 pub mod entry;
-mod fill;
-mod filling;
-mod left;
 mod limits;
-mod list;
 pub mod live;
 pub mod log;
 pub mod monitor;

@@ -1,7 +1,6 @@
 // The monitor in a state of words that the caller lends: opened with a sheet, called instant by instant; between calls the words are all there is.
 use crate::answer::Reply;
 use crate::answer::say_rows;
-use crate::list::LIST;
 use crate::monitor::CallResult;
 use crate::monitor::blank_monitor;
 use crate::monitor::refuse;
@@ -33,6 +32,7 @@ use records::sheet::read_sheet;
 use remainders::held::Status;
 use remainders::rows::HEAD;
 use remainders::rows::SIZE;
+use step::list::LIST;
 ghost use mathlib.Core.Path.{_≡_};
 ghost use mathlib.Core.List.{[]};
 ghost use lib.ListN.{length};

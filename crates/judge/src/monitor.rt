@@ -2,7 +2,6 @@
 use crate::answer::Reply;
 use crate::answer::say_rows;
 use crate::limits::is_within;
-use crate::list::LIST;
 use crate::progress::first_progress;
 use crate::progress::observe_rows;
 use crate::progress::progress_of;
@@ -21,6 +20,7 @@ use remainders::held::Status;
 use remainders::remainder::blank_remainder;
 use remainders::rows::HEAD;
 use remainders::rows::SIZE;
+use step::list::LIST;
 ghost use mathlib.Core.Path.{_≡_};
 ghost use Rattle.records.specs.Sheet.{readBy, readSheet, readBase};
 ghost use Rattle.judge.specs.Limits.{monitorWithin};

@@ -1,9 +1,6 @@
 // An instant taken by a monitor whose remainders stand in rows: for `observe`, for the loop over a log, where they stay there from one instant to the next, and for a state of words, where they stay from one call to the next.
 use crate::answer::Reply;
 use crate::answer::say_rows;
-use crate::fill::Before;
-use crate::fill::work_rows;
-use crate::list::LIST;
 use crate::monitor::Monitor;
 use lines::plan::NUMBERS;
 use lines::plan::Plan;
@@ -14,9 +11,12 @@ use remainders::held::Status;
 use remainders::rows::HEAD;
 use remainders::rows::SIDES;
 use remainders::rows::SIZE;
+use step::fill::Before;
+use step::fill::work_rows;
+use step::list::LIST;
 ghost use mathlib.Core.Path.{_≡_};
 ghost use Prim.Native.Nat.{_<_};
-ghost use Rattle.judge.specs.Fill.{Working};
+ghost use Rattle.step.specs.Fill.{Working};
 ghost use Rattle.judge.specs.Progress.{progressOf, firstProgress, Works, Takes};
 
 // A monitor beside its sheet and its rows.

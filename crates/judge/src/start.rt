@@ -1,5 +1,4 @@
 // What a sheet owes before the first instant: the remainder that a monitor begins with, in a row.
-use crate::advance::add_row;
 use lines::line::NewObligation;
 use records::line::Line;
 use records::sheet::Sheet;
@@ -9,6 +8,7 @@ use remainders::obligation::tag_number;
 use remainders::rows::HEAD;
 use remainders::rows::OBLIGATIONS;
 use remainders::rows::SIZE;
+use step::advance::add_row;
 ghost use mathlib.Core.Path.{_≡_};
 ghost use mathlib.Core.List.{map};
 ghost use Rattle.records.specs.Sheet.{sheetValue};

@@ -22,7 +22,7 @@ use Rattle.remainders.specs.declared.obligation.Obligation as code
 use Rattle.remainders.specs.View.{obligationOf, countdownOf}
 use Rattle.judge.specs.Answer.{saidBy}
 use Rattle.remainders.specs.Rows.{rowCount, rowObligation, rowSet, rowOf, rowsOf}
-use Rattle.judge.specs.Apply.{foundIn}
+use Rattle.step.specs.Apply.{foundIn}
 
 -- one of each of a list is none only of the empty list
 distinct-none : {A : Type 0} (same : A → A → Bool) (xs : List A) → eqb (length (distinct same xs)) 0 ≡ eqb (length xs) 0

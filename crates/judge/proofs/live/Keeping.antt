@@ -12,7 +12,7 @@ use Rattle.judge.specs.declared.progress.Progress.{Progress}
 use Rattle.lines.specs.declared.plan.Plan.{Plan}
 use Rattle.remainders.specs.View.{liveCount}
 use Rattle.remainders.specs.Rows.{headRows, width, word}
-use Rattle.judge.specs.Apply.{foundIn, FewOwedIn}
+use Rattle.step.specs.Apply.{foundIn, FewOwedIn}
 use Rattle.judge.specs.UnusedWords.{NothingBeside}
 use Rattle.judge.specs.Cleared.{Tidying, Tidied}
 use Rattle.judge.specs.State.{hasFormat, hasKinds, isSide, isState, FewIn, PuttingProgress, PutProgress}

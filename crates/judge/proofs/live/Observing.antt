@@ -31,8 +31,8 @@ use Rattle.judge.specs.Limits.{monitorWithin}
 use Rattle.lines.specs.Plan.{Planned}
 use Rattle.remainders.specs.Rows.{word, HeadStays}
 use Rattle.judge.specs.UnusedWords.{NothingBeside}
-use Rattle.judge.specs.Apply.{Side, FewOwedIn}
-use Rattle.judge.specs.Fill.{Working}
+use Rattle.step.specs.Apply.{Side, FewOwedIn}
+use Rattle.step.specs.Fill.{Working}
 use Rattle.judge.specs.Progress.{rowsHeld, rowsMonitor, given, Ready, Takes}
 use Rattle.judge.specs.Promises.{observes, Accepted, Called}
 use Rattle.judge.specs.State.{isState, stateSheet, stateCount, stateProgress, stateMonitor}

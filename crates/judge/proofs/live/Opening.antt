@@ -26,7 +26,7 @@ use Rattle.remainders.specs.View.{liveCount, heldOf}
 use Rattle.judge.specs.Answer.{answerOf, saidBy}
 use Rattle.lines.specs.Plan.{PlanFits, Planned, PlanOf}
 use Rattle.remainders.specs.Rows.{width, words, headRows, word}
-use Rattle.judge.specs.Apply.{foundIn, FewOwedIn}
+use Rattle.step.specs.Apply.{foundIn, FewOwedIn}
 use Rattle.judge.specs.Start.{BlankRow, BegunRows}
 use Rattle.judge.specs.UnusedWords.{NothingBeside}
 use Rattle.judge.specs.Cleared.{ClearedRows, Holding, ClearedBeside}

@@ -14,7 +14,7 @@ use Rattle.judge.specs.declared.live.Found.{Found}
 use Rattle.judge.specs.declared.monitor.Monitor.{Monitor}
 use Rattle.judge.specs.declared.monitor.CallResult.{CallResult}
 use Rattle.judge.specs.Answer.{answerOf, replyOf, saidBy}
-use Rattle.judge.specs.Apply.{foundIn, FewOwedIn}
+use Rattle.step.specs.Apply.{foundIn, FewOwedIn}
 use Rattle.judge.specs.Stored.{FindingRows, FromRows}
 use Rattle.judge.specs.Monitor.{heldBy, blankMonitor, noMonitor, refusal}
 use Rattle.judge.specs.Progress.{given, readBack, ReadBack}

@@ -27,7 +27,7 @@ use Rattle.judge.specs.declared.monitor.CallResult.{CallResult}
 use Rattle.judge.specs.Answer.{answerOf, replyOf}
 use Rattle.judge.specs.Entry.{liveCode, entry, answersFrom, PutEntry}
 use Rattle.judge.specs.Promises.{Follows, Called}
-use Rattle.judge.specs.Fill.{Working}
+use Rattle.step.specs.Fill.{Working}
 use Rattle.judge.specs.Progress.{rowsMonitor, given, Ready}
 use Rattle.judge.specs.Records.{FollowsRecords}
 use Rattle.judge.proofs.log.Answers.{answers-small, length-entries, entries-snoc, entry-fits}

@@ -48,7 +48,7 @@ use Rattle.judge.specs.Answer.{answerOf, saidBy}
 use Rattle.judge.specs.Limits.{isTaken, sheetWithin, monitorWithin}
 use Rattle.lines.specs.Plan.{numbers, Preparing, PlanOf}
 use Rattle.remainders.specs.Rows.{headRows, rowsOf}
-use Rattle.judge.specs.Apply.{foundIn}
+use Rattle.step.specs.Apply.{foundIn}
 use Rattle.judge.specs.Start.{BegunRows}
 use Rattle.judge.specs.Monitor.{sheetBy, heldBy, blankMonitor, noMonitor, refusal}
 use Rattle.judge.specs.Progress.{rowsMonitor, firstProgress, given, ReadBack, Ready}

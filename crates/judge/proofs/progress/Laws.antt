@@ -44,10 +44,10 @@ use Rattle.judge.specs.Answer.{answerOf, saidBy}
 use Rattle.judge.specs.Limits.{sheetWithin, monitorWithin, Limited}
 use Rattle.lines.specs.Plan.{numbers, Preparing, PlanOf}
 use Rattle.remainders.specs.Rows.{words, rowCount, rowObligation, rowOwed, rowCountdowns, rowLeads, rowStopped, rowOf, FewInRow}
-use Rattle.judge.specs.Apply.{Side, foundIn, FewOwedIn}
+use Rattle.step.specs.Apply.{Side, foundIn, FewOwedIn}
 use Rattle.judge.specs.Stored.{StoringHeld, StoredHeld, FromRows}
 use Rattle.judge.specs.Monitor.{KeepsNothing, sheetBy, heldBy, Accepts}
-use Rattle.judge.specs.Fill.{Working}
+use Rattle.step.specs.Fill.{Working}
 use Rattle.judge.specs.Progress.{rowRemainder, rowsHeld, rowsMonitor, progressOf, given, readBack, Ready}
 use Rattle.judge.specs.Promises.{Follows}
 use Rattle.judge.proofs.monitor.Limits.{held-limits, limits-of, within-limits, leads-small}

@@ -22,7 +22,7 @@ use Rattle.remainders.specs.Word.{flagOf}
 use Rattle.remainders.specs.Rows.{parts, partWords, leadsPart, stoppedPart, headRows, rowCount, rowOwed, rowCountdowns, rowLead, rowLeads, rowStop, rowStopped, rowOf, provided, Row}
 use Rattle.judge.specs.Start.{BlankRow, StartedRow, BegunRows}
 use Rattle.remainders.proofs.rows.Placing.{blank-at, listed-is}
-use Rattle.judge.proofs.advance.Row.{same-remainder}
+use Rattle.step.proofs.advance.Row.{same-remainder}
 
 -- ---- nothing leads and nothing is stopped
 

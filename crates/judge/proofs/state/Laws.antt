@@ -17,7 +17,7 @@ use Rattle.remainders.specs.declared.held.Status.the-variants.{Live}
 use Rattle.judge.specs.declared.progress.Progress.{Progress}
 use Rattle.remainders.specs.View.{liveCount}
 use Rattle.remainders.specs.Rows.{width, words, word, Stays}
-use Rattle.judge.specs.Apply.{Side}
+use Rattle.step.specs.Apply.{Side}
 use Rattle.judge.specs.State.{countBy, stateCount, isSide, isCase, isKind, hasKinds, hasFormat, isState, format, PutFormat, FewIn, PutCount, PutLastTags, PutProgress}
 use Rattle.remainders.proofs.rows.Laws.{stored, stored-other, stays-all, stays-put, stays-wide, stays-on}
 

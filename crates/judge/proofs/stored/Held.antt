@@ -26,12 +26,12 @@ use Rattle.remainders.specs.View.{remainderOf, blankObligation, blankRemainder,
 use Rattle.remainders.specs.Unused.{NothingUnused}
 use Rattle.lines.specs.Plan.{Planned}
 use Rattle.remainders.specs.Rows.{words, rowOf, rowsOf, FewInRow, FewOwed, HeadStays}
-use Rattle.judge.specs.Apply.{FewOwedIn}
+use Rattle.step.specs.Apply.{FewOwedIn}
 use Rattle.judge.specs.Stored.{PutRemainder, ToRows, StoredHeld, CopiedRows, FromRows}
 use Rattle.remainders.proofs.Places.{as-is, all-at}
 use Rattle.remainders.proofs.rows.Placing.{blank-at, each-place, first-listed}
 use Rattle.remainders.proofs.rows.Laws.{few-words}
-use Rattle.judge.proofs.apply.Laws.{row-stays}
+use Rattle.step.proofs.apply.Laws.{row-stays}
 
 -- what past the end of an array of remainders reads
 abbrev pub pastEnd : arrays.Remainder

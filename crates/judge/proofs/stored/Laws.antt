@@ -27,8 +27,8 @@ use Rattle.lines.specs.Plan.{Planned}
 use Rattle.remainders.specs.Rows.{leadsPart, partsEnd, word, rowCount, rowObligation, rowOwed, rowCountdowns, FewInRow, rowLead, rowLeads, rowStop, rowStopped, rowOf, ObligationsAt}
 use Rattle.judge.specs.Stored.{PutObligations, PutLeads, PutStopped, PutRemainder, LeadsAt, StoppedAt, RemainderAt}
 use Rattle.remainders.proofs.rows.Laws.{stays-wide, stays-on, set-words, few-words}
-use Rattle.judge.proofs.advance.Row.{same-remainder}
-use Rattle.judge.proofs.advance.Built.{other-count, other-set}
+use Rattle.step.proofs.advance.Row.{same-remainder}
+use Rattle.step.proofs.advance.Built.{other-count, other-set}
 
 -- ---- stored
 

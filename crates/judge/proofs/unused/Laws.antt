@@ -27,7 +27,7 @@ use Rattle.judge.specs.UnusedWords.{leadUsed}
 use Rattle.judge.specs.Cleared.{ClearedPart, ClearedRows, ClearedOwed, ClearedSets, ClearedLeads, ClearedUnused}
 use Rattle.remainders.proofs.rows.Laws.{stored-zero, stored-other, stays-all, stays-put, stays-wide, stays-on, obligation-same, place-same, set-same, part-stays, few-counts, set-words, nothing-words}
 use Rattle.judge.proofs.stored.Laws.{take-same}
-use Rattle.judge.proofs.advance.Row.{same-remainder}
+use Rattle.step.proofs.advance.Row.{same-remainder}
 
 -- ---- words of a row, and rows
 pub part-cleared : (i lo hi : ℕ) {a b : List ℕ} → ClearedWords (width * i + lo) (width * i + hi) a b → hi ≤ width → ClearedPart i lo hi a b

@@ -17,12 +17,12 @@ use Rattle.remainders.specs.declared.held.Status.{Status}
 use Rattle.remainders.specs.declared.held.Status.the-variants.{Exhausted, Live}
 use Rattle.remainders.specs.View.{liveCount}
 use Rattle.remainders.specs.Rows.{partWords, leadsPart, width, height, word, rowOf, FewInRow, FewOwed, CountsSame, RowsStay}
-use Rattle.judge.specs.Apply.{Side, foundIn, FewOwedIn, builtRows}
-use Rattle.judge.specs.Fill.{workedRows}
+use Rattle.step.specs.Apply.{Side, foundIn, FewOwedIn, builtRows}
+use Rattle.step.specs.Fill.{workedRows}
 use Rattle.judge.specs.UnusedWords.{NothingInRow, NothingBeside}
 use Rattle.judge.specs.Cleared.{ClearedRows, ClearedRow, ClearedUnused, ClearedEach, ClearedBeside, ClearedFound, Tidied}
 use Rattle.remainders.proofs.rows.Laws.{few-counts, counts-words, few-words, nothing-words, rows-stay-all, rows-stay-one, rows-stay-among, rows-stay-wide, rows-stay-on}
-use Rattle.judge.proofs.apply.Laws.{row-same}
+use Rattle.step.proofs.apply.Laws.{row-same}
 
 -- row h is one of n rows from `first` on, or none of them
 among-rows : {X : Type 0} (h first n : ℕ) → (first ≤ h → h < first + n → X) → ((first ≤ h → h < first + n → ⊥) → X) → X

@@ -12,7 +12,7 @@ use Rattle.judge.specs.declared.answer.Reply.the-variants.{Answered}
 use Rattle.lines.specs.Plan.{numbers}
 use Rattle.remainders.specs.Rows.{width, words, headRows}
 use Rattle.judge.specs.Answer.{answerOf, saidBy}
-use Rattle.judge.specs.Apply.{FewOwedIn, foundIn}
+use Rattle.step.specs.Apply.{FewOwedIn, foundIn}
 use Rattle.judge.specs.Progress.{firstProgress}
 use Rattle.judge.specs.Records.{ObservedRecords}
 use Rattle.remainders.proofs.rows.Placing.{blank-at}

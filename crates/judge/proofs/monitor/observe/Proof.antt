@@ -8,7 +8,7 @@ use Rattle.judge.specs.declared.progress.Progress.{Progress}
 use Rattle.judge.specs.declared.monitor.Monitor.{Monitor}
 use Rattle.judge.specs.Limits.{Limited}
 use Rattle.lines.specs.Plan.{numbers}
-use Rattle.judge.specs.Fill.{Working}
+use Rattle.step.specs.Fill.{Working}
 use Rattle.judge.specs.Progress.{progressOf, Takes}
 use Rattle.judge.proofs.progress.Laws.{room-stored, inside, has-room, prepares}
 use Rattle.judge.proofs.monitor.Called.{observed-outside}

@@ -7,7 +7,7 @@ use borrow.Author.Needs.{needs}
 use Rattle.records.specs.Types.{IsBytes}
 use Rattle.lines.specs.Plan.{numbers}
 use Rattle.remainders.specs.Rows.{width, words, headRows}
-use Rattle.judge.specs.Apply.{FewOwedIn}
+use Rattle.step.specs.Apply.{FewOwedIn}
 use Rattle.judge.specs.Monitor.{refusal}
 use Rattle.remainders.proofs.rows.Placing.{blank-at}
 use Rattle.records.proofs.word.Bytes.{each-byte}

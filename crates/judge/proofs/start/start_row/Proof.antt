@@ -17,7 +17,7 @@ use Rattle.lines.specs.Begun.{newObligation}
 use Rattle.remainders.specs.Rows.{rowCount, rowOwed, provided, PartStays}
 use Rattle.remainders.proofs.obligation.Laws.{same-read}
 use Rattle.remainders.proofs.rows.Reading.{added-row-read}
-use Rattle.judge.proofs.advance.Adding.{rest-end, rest-over, rest-more}
+use Rattle.step.proofs.advance.Adding.{rest-end, rest-over, rest-more}
 use Rattle.lines.proofs.delays.Laws.{begunFrom, begun-start, begun-end, begun-line}
 use Rattle.remainders.proofs.rows.Laws.{stays-all, stays-on}
 use Rattle.judge.proofs.start.start_row.Statement.{statement}

@@ -1,0 +1,45 @@
+// The rows held, filling by filling of an instant.
+use crate::apply::apply_filling;
+use crate::filling::gather;
+use crate::list::LIST;
+use crate::list::flags_at;
+use lines::plan::NUMBERS;
+use lines::plan::Plan;
+use remainders::held::Status;
+use remainders::rows::SIDES;
+use remainders::rows::SIZE;
+ghost use Rattle.work.specs.Fillings.{fillingsIn};
+ghost use Rattle.step.specs.Apply.{ApplyingAll, AppliedAll};
+
+// What n rows from row `from` on become by m listed fillings.
+pub(crate) fn apply_all(
+    rows: &mut [u32; SIZE],
+    from: usize,
+    n: usize,
+    plan: Plan,
+    lines: &[u32; NUMBERS],
+    tags: [i16; 8],
+    m: usize,
+    list: &[bool; LIST],
+) -> Status
+    requires { ⌜ ApplyingAll (now rows) from n plan m ⌝ }
+    ensures { λ r. ⌜ AppliedAll (now (lines .entry)) plan tags (fillingsIn (now (list .entry)) m) from n r (now (rows .entry)) (now (rows .exit)) ⌝ }
+{
+    let to = SIDES - from;
+    let mut live = 0;
+    let mut i = 0;
+    while i < m {
+        let ticks = flags_at(list, i);
+        i += 1;
+        let f = gather(lines, plan, ticks, tags);
+        match apply_filling(rows, from, to, n, live, plan, f) {
+            Status::Exhausted => {
+                return Status::Exhausted;
+            }
+            Status::Live(more) => {
+                live = more;
+            }
+        }
+    }
+    Status::Live(live)
+}
