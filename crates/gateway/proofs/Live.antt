@@ -17,7 +17,7 @@ use Rattle.tesl.specs.Machine.{accepts, listAfter, reply, listAfterCalls}
 use Rattle.theory.specs.Session.{Observing}
 use Rattle.work.specs.View.{heldList}
 use Rattle.judge.specs.declared.answer.Reply.{Reply}
-use Rattle.judge.specs.declared.live.Replied.{Replied}
+use Rattle.lent.specs.declared.live.Replied.{Replied}
 use Rattle.judge.specs.declared.monitor.Monitor.{Monitor}
 use Rattle.judge.specs.declared.monitor.CallResult.{CallResult}
 use Rattle.judge.specs.Answer.{replyOf, saidBy}
@@ -26,13 +26,13 @@ use Rattle.judge.specs.Limits.{monitorWithin}
 use Rattle.judge.specs.Monitor.{heldBy, noMonitor}
 use Rattle.judge.specs.Progress.{given}
 use Rattle.judge.specs.Promises.{Follows}
-use Rattle.judge.specs.State.{isState, stateMonitor}
-use Rattle.judge.specs.Live.{stateWithin, instantsIn, observesIn, FollowsIn, OpenedIn, ObservedIn, SaidIn, GivenIn}
+use Rattle.lent.specs.State.{isState, stateMonitor}
+use Rattle.lent.specs.Live.{stateWithin, instantsIn, observesIn, FollowsIn, OpenedIn, ObservedIn, SaidIn, GivenIn}
 use Rattle.judge.proofs.log.Answers.{live-small}
-use Rattle.judge.proofs.live.Observing.{instants-held, no-instants}
+use Rattle.lent.proofs.live.Observing.{instants-held, no-instants}
 use Rattle.judge.proofs.monitor.Opened.{no-monitor-outside}
 use Rattle.judge.proofs.Demands.{called-follows}
-use Rattle.judge.proofs.LiveDemands.{called-in, state-in}
+use Rattle.lent.proofs.LiveDemands.{called-in, state-in}
 use Rattle.panel.specs.Panel.{owesClock, panelCount}
 use Rattle.panel.proofs.Run.{within-count}
 use Rattle.gateway.specs.Result.{numberOf, unlessRefused, packed, shownCount, owingIn}

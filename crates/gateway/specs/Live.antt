@@ -12,11 +12,11 @@ use Rattle.tesl.specs.Answer.{Answer, answer}
 use Rattle.tesl.specs.Machine.{accepts, listAfter, reply, listAfterCalls}
 use Rattle.theory.specs.Numbered.{RecordOf, RunsAlong}
 use Rattle.judge.specs.declared.answer.Reply.{Reply}
-use Rattle.judge.specs.declared.live.Replied.{Replied}
+use Rattle.lent.specs.declared.live.Replied.{Replied}
 use Rattle.judge.specs.Answer.{replyOf, saidBy}
 use Rattle.judge.specs.Monitor.{heldBy}
-use Rattle.judge.specs.State.{stateMonitor}
-use Rattle.judge.specs.Live.{stateWithin, instantsIn, FollowsIn, OpenedIn, ObservedIn}
+use Rattle.lent.specs.State.{stateMonitor}
+use Rattle.lent.specs.Live.{stateWithin, instantsIn, FollowsIn, OpenedIn, ObservedIn}
 use Rattle.panel.specs.Panel.{panelCount}
 use Rattle.gateway.specs.Result.{numberOf, packed, judgedCode, shownCount, owingIn}
 

@@ -1,3 +1,2 @@
 pub mod Demands
 pub mod SameAnswers
-pub mod LiveDemands

@@ -23,18 +23,11 @@ pub mod Demands
 -- the struct that a sheet, what is kept beside it, and rows stand for: `rowsMonitor`
 pub mod Progress
 -- what a whole array of words is read as: `stateMonitor`, `isState`; and the words that nothing uses: `KeepsNothingIn`
-pub mod State
-pub mod UnusedState
 -- the promises of `open_state`, `observe_state`, `last_reply` and `monitor_in`; demands 2 and 3 over words
-pub mod Live
 -- ---- for inner contracts and proofs only: nothing public cites these
 -- a sheet's lines as words
 -- an instant: what depends on a filling alone, the rows by a filling and by all of them, the fillings listed; the remainder of no instant; remainders stored in rows and read back; words that no remainder uses, and how they are cleared
 pub mod Start
 pub mod Stored
-pub mod UnusedWords
-pub mod Cleared
 -- the limits of remainders in rows, and a monitor found in words; the records of a log
-pub mod RowsLimits
-pub mod Found
 pub mod Records

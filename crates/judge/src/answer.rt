@@ -56,7 +56,7 @@ fn is_clear_in(rows: &[u32; SIZE], from: usize, n: usize) -> bool
 }
 
 // What those in rows from row `from` on say.
-pub(crate) fn say_rows(rows: &[u32; SIZE], from: usize, count: Status) -> Answer
+pub fn say_rows(rows: &[u32; SIZE], from: usize, count: Status) -> Answer
     requires { ⌜ (from ≤ secondSide) × FewOwedIn count (now rows) from ⌝ }
     ensures { λ r. ⌜ ((v : SheetValue) → answerOf r ≡ saidBy (foundIn v count (now (rows .entry)) from)) ⌝ }
 {

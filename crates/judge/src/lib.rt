@@ -1,14 +1,10 @@
-// The monitor: what clocks, obligations and lines say of a filled instant, what a remainder becomes, the remainders held, and the monitor itself.
+// The monitor: what is held of a lift, opened by a sheet, taken on by an instant, and what it answers; a whole log.
 pub mod answer;
 mod count;
 pub mod entry;
-mod limits;
-pub mod live;
+pub mod limits;
 pub mod log;
 pub mod monitor;
-mod progress;
-mod rows_limits;
-mod start;
-mod state;
-mod stored;
-mod unused;
+pub mod progress;
+pub mod start;
+pub mod stored;

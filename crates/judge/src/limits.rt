@@ -24,7 +24,7 @@ ghost use Rattle.work.specs.View.{inUse};
 ghost use Rattle.judge.specs.Limits.{storedWithin, setWithin, remainderWithin, heldWithin, Limited};
 
 // Its clocks below `clocks`, and its number within bounds.
-pub(crate) fn obligation_within(clocks: u8, least: u16, most: u16, o: Obligation) -> bool
+pub fn obligation_within(clocks: u8, least: u16, most: u16, o: Obligation) -> bool
     ensures { λ r. ⌜ r ≡ storedWithin clocks least most o ⌝ }
 {
     if o.clock < clocks {

@@ -42,7 +42,7 @@ pub struct CallResult {
 }
 
 // What stands in a monitor's place where there is none.
-pub(crate) fn blank_monitor(sheet: Sheet) -> Monitor
+pub fn blank_monitor(sheet: Sheet) -> Monitor
     ensures { λ m. ⌜ m ≡ blankMonitor sheet ⌝ }
 {
     let blank = blank_remainder();
@@ -101,7 +101,7 @@ pub fn open_unordered(bytes: &[u8]) -> CallResult
 }
 
 // The number, and the monitor as it came.
-pub(crate) fn refuse(n: u8, monitor: Monitor) -> CallResult
+pub fn refuse(n: u8, monitor: Monitor) -> CallResult
     ensures { λ r. ⌜ r ≡ refusal n monitor ⌝ }
 {
     let reply = Reply::Refused(n);

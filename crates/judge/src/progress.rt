@@ -54,7 +54,7 @@ pub(crate) fn progress_of(monitor: Monitor) -> Progress
 }
 
 // Of no instant: one remainder, in the first row of the first side.
-pub(crate) fn first_progress() -> Progress
+pub fn first_progress() -> Progress
     ensures { λ k. ⌜ k ≡ firstProgress ⌝ }
 {
     let tags = [0i16; 8];
@@ -103,7 +103,7 @@ fn work_instant(
 }
 
 // Takes an instant: refused, the number and the monitor as it came; accepted, the answer and the monitor after it.
-pub(crate) fn observe_rows(
+pub fn observe_rows(
     progress: Progress,
     plan: Plan,
     lines: &[u32; NUMBERS],

@@ -214,7 +214,7 @@ pub(crate) fn from_rows(
 }
 
 // The monitor that is kept in rows, its remainders read back from them.
-pub(crate) fn read_back(sheet: Sheet, progress: Progress, plan: Plan, rows: &[u32; SIZE]) -> Monitor
+pub fn read_back(sheet: Sheet, progress: Progress, plan: Plan, rows: &[u32; SIZE]) -> Monitor
     requires { ⌜ FindingRows (now rows) (progress .count) (progress .from) plan ⌝ }
     ensures { λ m. ⌜ ReadBack sheet progress plan m (now (rows .entry)) ⌝ }
 {

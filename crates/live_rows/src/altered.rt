@@ -10,7 +10,7 @@ use crate::state::owing;
 use crate::text::say;
 use gateway::lift_observe;
 use gateway::lift_open;
-use judge::live::STATE_WORDS;
+use lent::live::STATE_WORDS;
 
 // The bytes of a sheet of sixteen lines: 0 delayed by 0 to 15 on 0 implies 0.
 const SIXTEEN_LINES: usize = 149;

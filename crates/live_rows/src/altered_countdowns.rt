@@ -6,7 +6,7 @@ use crate::place;
 use crate::text::say;
 use gateway::lift_observe;
 use gateway::lift_open;
-use judge::live::STATE_WORDS;
+use lent::live::STATE_WORDS;
 
 // Ticks, each of which begins a countdown.
 const TICKS: usize = 8;

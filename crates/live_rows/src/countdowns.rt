@@ -13,7 +13,7 @@ use crate::state::owing;
 use crate::text::number;
 use crate::text::say;
 use gateway::lift_open;
-use judge::live::STATE_WORDS;
+use lent::live::STATE_WORDS;
 
 // An instant of the valve, the pulse and the strain, clocks 0 to 2, each as seen, with tags 0.
 fn seen(state: &mut [u32; STATE_WORDS], call: &[u8], valve: u8, pulse: u8, strain: u8) {

@@ -5,7 +5,7 @@ use crate::state::observe;
 use crate::text::say;
 use gateway::lift_observe;
 use gateway::lift_open;
-use judge::live::STATE_WORDS;
+use lent::live::STATE_WORDS;
 
 // Instants before the rows.
 const UNTOLD: usize = 3998;

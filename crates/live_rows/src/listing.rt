@@ -5,7 +5,7 @@ use crate::state::observe;
 use crate::state::owing;
 use crate::text::say;
 use gateway::lift_open;
-use judge::live::STATE_WORDS;
+use lent::live::STATE_WORDS;
 
 // 0 delayed by 2 on 0 implies 1.
 pub fn opened(state: &mut [u32; STATE_WORDS]) {

@@ -10,7 +10,7 @@ use crate::state::owing;
 use crate::text::say;
 use gateway::lift_observe;
 use gateway::lift_open;
-use judge::live::STATE_WORDS;
+use lent::live::STATE_WORDS;
 
 fn opened(state: &mut [u32; STATE_WORDS]) {
     let r = lift_open(

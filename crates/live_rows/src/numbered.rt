@@ -4,7 +4,7 @@ use crate::listing::unseen;
 use crate::state::last;
 use crate::state::observe;
 use crate::text::say;
-use judge::live::STATE_WORDS;
+use lent::live::STATE_WORDS;
 
 fn first(state: &mut [u32; STATE_WORDS], what: &[u8]) {
     let r = b"\x08\x00\x21\x00\x01\x00\x01\xfd\xff\x00\x00\x00";

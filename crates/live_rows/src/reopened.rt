@@ -8,7 +8,7 @@ use crate::same::compared;
 use crate::state::last;
 use crate::text::say;
 use gateway::lift_open;
-use judge::live::STATE_WORDS;
+use lent::live::STATE_WORDS;
 
 // Opens bytes that are no sheet.
 fn refused(state: &mut [u32; STATE_WORDS], call: &[u8], sheet: &[u8]) {

@@ -1,6 +1,6 @@
 // Words compared.
 use crate::text::say;
-use judge::live::STATE_WORDS;
+use lent::live::STATE_WORDS;
 
 fn are_same(a: &[u32; STATE_WORDS], b: &[u32; STATE_WORDS]) -> bool {
     let mut i = 0;

@@ -9,7 +9,7 @@ use crate::state::observe;
 use crate::state::owing;
 use crate::text::say;
 use gateway::lift_open;
-use judge::live::STATE_WORDS;
+use lent::live::STATE_WORDS;
 
 // The high byte of each tag here, and the low bytes of 32,600, 32,700 and 32,759; the end has 255.
 const HIGH: u8 = 127;

@@ -4,7 +4,7 @@ use crate::row::row_of;
 use gateway::lift_last;
 use gateway::lift_observe;
 use gateway::lift_owing;
-use judge::live::STATE_WORDS;
+use lent::live::STATE_WORDS;
 
 // How a clock is seen.
 pub const IDLE: u8 = 0;
