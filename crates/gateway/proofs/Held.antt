@@ -17,7 +17,7 @@ use Rattle.remainders.specs.declared.held.Status.the-variants.{Exhausted, Live}
 use Rattle.judge.specs.declared.monitor.Monitor.{Monitor}
 use Rattle.remainders.specs.View.{viewOf, heldIn}
 use Rattle.judge.specs.Answer.{saidBy}
-use Rattle.judge.specs.Entry.{liveCode}
+use Rattle.logs.specs.Entry.{liveCode}
 use Rattle.judge.specs.Limits.{sheetWithin, heldWithin, monitorWithin}
 use Rattle.judge.specs.Monitor.{sheetBy, heldBy}
 use Rattle.panel.proofs.Laws.{within-held}

@@ -21,14 +21,14 @@ use Rattle.lent.specs.declared.live.Replied.{Replied}
 use Rattle.judge.specs.declared.monitor.Monitor.{Monitor}
 use Rattle.judge.specs.declared.monitor.CallResult.{CallResult}
 use Rattle.judge.specs.Answer.{replyOf, saidBy}
-use Rattle.judge.specs.Entry.{liveCode}
+use Rattle.logs.specs.Entry.{liveCode}
 use Rattle.judge.specs.Limits.{monitorWithin}
 use Rattle.judge.specs.Monitor.{heldBy, noMonitor}
 use Rattle.judge.specs.Progress.{given}
 use Rattle.judge.specs.Promises.{Follows}
 use Rattle.lent.specs.State.{isState, stateMonitor}
 use Rattle.lent.specs.Live.{stateWithin, instantsIn, observesIn, FollowsIn, OpenedIn, ObservedIn, SaidIn, GivenIn}
-use Rattle.judge.proofs.log.Answers.{live-small}
+use Rattle.logs.proofs.log.Answers.{live-small}
 use Rattle.lent.proofs.live.Observing.{instants-held, no-instants}
 use Rattle.judge.proofs.monitor.Opened.{no-monitor-outside}
 use Rattle.judge.proofs.Demands.{called-follows}

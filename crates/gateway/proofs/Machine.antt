@@ -11,9 +11,9 @@ use Rattle.records.specs.Sheet.{SheetValue, readSheet}
 use Rattle.records.specs.Types.{All}
 use Rattle.tesl.specs.Answer.{Answer, answer}
 use Rattle.tesl.specs.Machine.{machine, session, concluded, callsOf, judgeLog}
-use Rattle.judge.specs.Entry.{liveCode, answersTaken}
-use Rattle.judge.specs.Log.{entries, Watched, watchLog}
-use Rattle.judge.proofs.log.Answers.{live-small, answers-small, answers-few, concluded-count}
+use Rattle.logs.specs.Entry.{liveCode, answersTaken}
+use Rattle.logs.specs.Log.{entries, Watched, watchLog}
+use Rattle.logs.proofs.log.Answers.{live-small, answers-small, answers-few, concluded-count}
 use Rattle.gateway.specs.Result.{unlessRefused}
 use Rattle.gateway.specs.Inner.{Packable}
 

@@ -9,9 +9,9 @@ use Rattle.records.specs.Sheet.{SheetValue}
 use Rattle.tesl.specs.Run.{Instant}
 use Rattle.tesl.specs.Answer.{Answer}
 use Rattle.tesl.specs.Machine.{LogResult}
-use Rattle.judge.specs.declared.log.LastMonitor.{LastMonitor}
+use Rattle.logs.specs.declared.log.LastMonitor.{LastMonitor}
 use Rattle.judge.specs.Answer.{replyOf}
-use Rattle.judge.specs.Entry.{liveCode}
+use Rattle.logs.specs.Entry.{liveCode}
 use Rattle.judge.specs.Promises.{Follows}
 use Rattle.gateway.specs.Result.{unlessRefused, owingIn}
 

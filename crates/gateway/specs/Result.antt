@@ -8,8 +8,8 @@ use Rattle.tesl.specs.Lists.{count}
 use Rattle.tesl.specs.Run.{Instant}
 use Rattle.tesl.specs.Answer.{Answer, exhausted, broken, holding, remainders, answer}
 use Rattle.tesl.specs.Machine.{listAfterCalls, LogResult, callsOf, judgeLog}
-use Rattle.judge.specs.Entry.{answerCode, liveCode, clearCode}
-use Rattle.judge.specs.Log.{Watched}
+use Rattle.logs.specs.Entry.{answerCode, liveCode, clearCode}
+use Rattle.logs.specs.Log.{Watched}
 use Rattle.panel.specs.Panel.{owesClock}
 
 -- ---- numbers

@@ -1,7 +1,7 @@
 // What the panel shows of a monitor.
 use judge::answer::Reply;
-use judge::log::LastMonitor;
 use judge::monitor::Monitor;
+use logs::log::LastMonitor;
 use panel::Panel;
 use panel::panel_count;
 ghost use mathlib.Core.Path.{_≡_};

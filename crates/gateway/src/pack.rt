@@ -1,8 +1,8 @@
 // Answers and results as numbers.
 use judge::answer::Reply;
-use judge::entry::answer_code;
-use judge::entry::clear_code;
-use judge::entry::live_code;
+use logs::entry::answer_code;
+use logs::entry::clear_code;
+use logs::entry::live_code;
 use records::record::Decision;
 ghost use mathlib.Core.Path.{_≡_};
 ghost use Prim.Native.Nat.{_≤_};

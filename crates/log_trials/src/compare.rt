@@ -17,8 +17,8 @@ use gateway::lift_panel;
 use gateway::lift_watch;
 use judge::answer::Answer;
 use judge::answer::Reply;
-use judge::log::Judged;
-use judge::log::judge_log;
+use logs::log::Judged;
+use logs::log::judge_log;
 
 // A byte that no entry has.
 const BLANK: u8 = 165;

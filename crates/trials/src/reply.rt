@@ -2,8 +2,8 @@
 use filler::verdict::Verdict;
 use judge::answer::Answer;
 use judge::answer::Reply;
-use judge::entry::answer_code;
-use judge::entry::clear_code;
+use logs::entry::answer_code;
+use logs::entry::clear_code;
 
 // Whether an answer is the verdict on the whole run, live and clear with it.
 pub fn is_verdict(a: Answer, v: Verdict) -> bool {

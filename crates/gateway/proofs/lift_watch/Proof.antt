@@ -1,7 +1,7 @@
 -- `lift_watch` meets its contract: what every answer of a log comes to has room in a result. Assumes nothing.
 use mathlib.Core.Path.{_∙_, ap}
 use borrow.Author.Needs.{needs}
-use Rattle.judge.specs.Log.{Watched}
+use Rattle.logs.specs.Log.{Watched}
 use Rattle.gateway.specs.Result.{judgedCode}
 use Rattle.gateway.proofs.Machine.{watched-small}
 use Rattle.gateway.proofs.lift_watch.Statement.{statement}

@@ -20,8 +20,8 @@ use Rattle.judge.specs.Answer.{replyOf}
 use Rattle.judge.specs.Limits.{monitorWithin}
 use Rattle.judge.specs.Monitor.{heldBy}
 use Rattle.judge.specs.Promises.{Follows}
-use Rattle.judge.specs.Log.{FollowsLog}
-use Rattle.judge.specs.declared.log.LastMonitor.{LastMonitor}
+use Rattle.logs.specs.Log.{FollowsLog}
+use Rattle.logs.specs.declared.log.LastMonitor.{LastMonitor}
 use Rattle.panel.specs.declared.Panel.{Panel}
 use Rattle.panel.specs.declared.Panel.the-variants as shown
 use Rattle.panel.specs.Panel.{owesClock, panelOf, panelCount}

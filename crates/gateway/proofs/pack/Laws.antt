@@ -12,7 +12,7 @@ use Rattle.judge.specs.declared.answer.Answer as code
 use Rattle.judge.specs.declared.answer.Reply.{Reply}
 use Rattle.judge.specs.declared.answer.Reply.the-variants as reply
 use Rattle.judge.specs.Answer.{answerOf, replyOf}
-use Rattle.judge.specs.Entry.{answerCode, liveCode, clearCode}
+use Rattle.logs.specs.Entry.{answerCode, liveCode, clearCode}
 use Rattle.gateway.specs.Result.{numberOf, packed, judgedCode}
 use Rattle.gateway.specs.Inner.{readingNumber, Packable}
 
