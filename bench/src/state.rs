@@ -1,5 +1,5 @@
 //! The words of a state, read as the monitor of documents 01 and 02 by the
-//! layout of judge's specs/State.antt and specs/Rows.antt: what the library
+//! layout of lent's specs/State.antt and remainders' specs/Rows.antt: what the library
 //! leaves in them is held against the plain monitor, and damaged words against
 //! the limits. It shares nothing with the library.
 use crate::bytes;
