@@ -10,7 +10,6 @@ use Rattle.records.specs.declared.instant.Instant.{Instant}
 use Rattle.records.specs.Lists.{listed}
 use Rattle.records.specs.Sheet.{sheetValue}
 use Rattle.records.specs.Types.{IsSheet}
-use Rattle.tesl.specs.Answer.{mostLive}
 use Rattle.remainders.specs.declared.remainder.Remainder as arrays
 use Rattle.judge.specs.declared.answer.Answer.{Answer}
 use Rattle.judge.specs.declared.answer.Reply.{Reply}
@@ -83,13 +82,13 @@ pub record Moved (k next : Progress) (a b : List ℕ) : Type 0 where
   pub to : next .from ≡ sides - k .from
   pub stays : RowsStay (sides - k .from) (workedRows (k .count) (next .count)) a b
 
--- room to work in after an instant that was read, and, whatever the sheet, what is answered to it
-pub record Works (k : Progress) (p : Plan) (i : Instant) (lines : List ℕ) (t : InstantResult) (a b : List ℕ) (list : List Bool) : Type 0 where
-  pub room : Working b (t .progress .from) (t .progress .count) p list
+-- rows to work in after an instant that was read, and, whatever the sheet, what is answered to it with room for so many remainders
+pub record Works (room : ℕ) (k : Progress) (p : Plan) (i : Instant) (lines : List ℕ) (t : InstantResult) (a b : List ℕ) (list : List Bool) : Type 0 where
+  pub working : Working b (t .progress .from) (t .progress .count) p list
   pub moved : Moved k (t .progress) a b
   -- it is no refusal
   pub answered : (n : ℕ) → t .reply ≡ Refused n → ⊥
-  pub accepts : (s : Sheet) → Ready s k p lines a → Accepts mostLive (rowsMonitor s k a) i (given (t .reply) (rowsMonitor s (t .progress) b))
+  pub accepts : (s : Sheet) → Ready s k p lines a → Accepts room (rowsMonitor s k a) i (given (t .reply) (rowsMonitor s (t .progress) b))
 
 -- room to work in after a call; refused, the monitor and all words are as they came; and, whatever the sheet, what the call gives; answered, the last tags of clocks from C on are 0; and the monitor to call next is as ready
 pub record Takes (k : Progress) (p : Plan) (bytes lines : List ℕ) (t : InstantResult) (a b : List ℕ) (list : List Bool) : Type 0 where

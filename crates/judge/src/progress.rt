@@ -6,6 +6,7 @@ use lines::plan::NUMBERS;
 use lines::plan::Plan;
 use records::instant::Instant;
 use records::next::read_next;
+use records::number;
 use records::record::Decision;
 use remainders::held::Status;
 use remainders::rows::HEAD;
@@ -15,7 +16,8 @@ use step::fill::Before;
 use step::fill::work_rows;
 use step::list::LIST;
 ghost use mathlib.Core.Path.{_≡_};
-ghost use Prim.Native.Nat.{_<_};
+ghost use Prim.Native.Nat.{_<_, _≤_};
+ghost use Rattle.tesl.specs.Answer.{mostLive};
 ghost use Rattle.step.specs.Fill.{Working};
 ghost use Rattle.judge.specs.Progress.{progressOf, firstProgress, Works, Takes};
 
@@ -66,17 +68,18 @@ pub fn first_progress() -> Progress
     }
 }
 
-// Works on an instant that was read: the answer, with those held after it on the other side. What is promised holds of every sheet that the plan is of.
+// Works on an instant that was read, with room for so many remainders: the answer, with those held after it on the other side. What is promised holds of every sheet that the plan is of.
 fn work_instant(
     progress: Progress,
+    room: usize,
     plan: Plan,
     lines: &[u32; NUMBERS],
     instant: Instant,
     rows: &mut [u32; SIZE],
     list: &mut [bool; LIST],
 ) -> InstantResult
-    requires { ⌜ Working (now rows) (progress .from) (progress .count) plan (now list) × (progress .instants < 4000) ⌝ }
-    ensures { λ t. ⌜ Works progress plan instant (now (lines .entry)) t (now (rows .entry)) (now (rows .exit)) (now (list .exit)) ⌝ }
+    requires { ⌜ Working (now rows) (progress .from) (progress .count) plan (now list) × ((progress .instants < 4000) × (room ≤ mostLive)) ⌝ }
+    ensures { λ t. ⌜ Works room progress plan instant (now (lines .entry)) t (now (rows .entry)) (now (rows .exit)) (now (list .exit)) ⌝ }
 {
     let from = progress.from;
     let instants = progress.instants;
@@ -84,6 +87,7 @@ fn work_instant(
     let before = Before {
         first: instants == 0,
         tags: was,
+        room,
     };
     let count = progress.count;
     let next = work_rows(rows, from, count, plan, lines, before, instant, list);
@@ -124,7 +128,7 @@ pub fn observe_rows(
         },
         Decision::Done => {
             let instant = read.instant;
-            work_instant(progress, plan, lines, instant, rows, list)
+            work_instant(progress, number::MAX_LIVE, plan, lines, instant, rows, list)
         }
     }
 }

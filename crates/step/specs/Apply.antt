@@ -5,7 +5,6 @@ use mathlib.Core.Option.{Option, none, some}
 use mathlib.Core.Path.{_≡_}
 use Prim.Native.Nat.{ℕ, _+_, _-_, _≤_, _<_}
 use lib.Dec.{T}
-use lib.IntN.{ℤ}
 use lib.ListN.{length}
 use Rattle.records.specs.Sheet.{SheetValue}
 use Rattle.tesl.specs.Lists.{all}
@@ -13,6 +12,7 @@ use Rattle.tesl.specs.Remainder.{Remainder}
 use Rattle.tesl.specs.Answer.{mostLive}
 use Rattle.work.specs.Lines.{smallLeads}
 use Rattle.work.specs.Fillings.{mostFillings, takenBy, byFilling}
+use Rattle.step.specs.declared.apply_all.Conditions.{Conditions}
 use Rattle.step.specs.declared.filling.Filling.{Filling}
 use Rattle.lines.specs.declared.plan.Plan.{Plan}
 use Rattle.remainders.specs.declared.held.Status.{Status}
@@ -47,11 +47,12 @@ abbrev pub builtRows : Status → ℕ
 builtRows Exhausted = sideRows
 builtRows (Live n) = n + 1
 
--- what a filling works on: n rows held, and those found so far
-pub record Applying (rows : List ℕ) (from to n found : ℕ) (p : Plan) (f : Filling) : Type 0 where
+-- what a filling works on: n rows held, and those found so far; a side has rows for as many as there is room for
+pub record Applying (rows : List ℕ) (from to n found room : ℕ) (p : Plan) (f : Filling) : Type 0 where
   pub size : length rows ≡ words
   pub sides : Sides from to
   pub held : n ≤ mostLive
+  pub sized : room ≤ mostLive
   pub fewer : found ≤ mostLive
   pub small : FewOwed rows from n
   pub smallFound : FewOwed rows to found
@@ -60,11 +61,11 @@ pub record Applying (rows : List ℕ) (from to n found : ℕ) (p : Plan) (f : Fi
   pub begun : f .count ≤ 16
 
 -- those found with what the rows held become by a filling; none is lost, and the rows that nothing was built in stay
-pub record Applied (p : Plan) (f : Filling) (from to n found : ℕ) (r : Status) (a b : List ℕ) : Type 0 where
+pub record Applied (p : Plan) (f : Filling) (from to n found room : ℕ) (r : Status) (a b : List ℕ) : Type 0 where
   pub more : found < builtRows r
   pub stays : RowsStay to (builtRows r) a b
   pub small : FewOwedIn r b to
-  pub applied : (v : SheetValue) → GatheredFor v p f → T (all smallLeads (rowsOf v a from n)) → foundIn v r b to ≡ byFilling mostLive v (f .tags) (rowsOf v a from n) (some (rowsOf v a to found)) (f .ticks)
+  pub applied : (v : SheetValue) → GatheredFor v p f → T (all smallLeads (rowsOf v a from n)) → foundIn v r b to ≡ byFilling room v (f .tags) (rowsOf v a from n) (some (rowsOf v a to found)) (f .ticks)
 
 -- ---- all fillings of an instant, and the instant; what is found goes to the other side
 
@@ -73,16 +74,17 @@ abbrev pub Side : ℕ → Type 0
 Side from = Sides from (sides - from)
 
 -- n rows held, and m fillings
-pub record ApplyingAll (rows : List ℕ) (from n : ℕ) (p : Plan) (m : ℕ) : Type 0 where
+pub record ApplyingAll (rows : List ℕ) (from n room : ℕ) (p : Plan) (m : ℕ) : Type 0 where
   pub size : length rows ≡ words
   pub side : Side from
   pub held : n ≤ mostLive
+  pub sized : room ≤ mostLive
   pub small : FewOwed rows from n
   pub plan : PlanFits p
   pub few : m ≤ mostFillings
 
 -- those found by all fillings, on the other side; the rows that nothing was built in stay
-pub record AppliedAll (lines : List ℕ) (p : Plan) (tags : List ℤ) (fillings : List (List Bool)) (from n : ℕ) (r : Status) (a b : List ℕ) : Type 0 where
+pub record AppliedAll (lines : List ℕ) (p : Plan) (x : Conditions) (fillings : List (List Bool)) (from n : ℕ) (r : Status) (a b : List ℕ) : Type 0 where
   pub stays : RowsStay (sides - from) (builtRows r) a b
   pub small : FewOwedIn r b (sides - from)
-  pub applied : (v : SheetValue) → Planned v p lines → T (all smallLeads (rowsOf v a from n)) → foundIn v r b (sides - from) ≡ takenBy (byFilling mostLive v tags (rowsOf v a from n)) fillings (some [])
+  pub applied : (v : SheetValue) → Planned v p lines → T (all smallLeads (rowsOf v a from n)) → foundIn v r b (sides - from) ≡ takenBy (byFilling (x .room) v (x .tags) (rowsOf v a from n)) fillings (some [])

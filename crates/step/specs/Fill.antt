@@ -9,7 +9,6 @@ use Rattle.records.specs.declared.instant.TickSlot.{TickSlot}
 use Rattle.records.specs.declared.instant.Instant.{Instant}
 use Rattle.records.specs.Sheet.{SheetValue}
 use Rattle.tesl.specs.Lists.{all, filter}
-use Rattle.tesl.specs.Answer.{mostLive}
 use Rattle.work.specs.Relevant.{fillingsLeft}
 use Rattle.work.specs.View.{heldList, seenOf, tagsBefore}
 use Rattle.work.specs.Lines.{smallLeads}
@@ -58,4 +57,4 @@ pub record Worked (lines : List ℕ) (p : Plan) (before : Before) (instant : Ins
   pub small : FewOwedIn r b (sides - from)
   pub lists : length list ≡ listSize
   pub works : (v : SheetValue) → Planned v p lines → T (all smallLeads (heldList (foundIn v count a from)))
-      → foundIn v r b (sides - from) ≡ worked mostLive v (tagsBefore (before .first) (before .tags)) (seenOf (v .clocks) (instant .ticks)) (instant .tags) (foundIn v count a from)
+      → foundIn v r b (sides - from) ≡ worked (before .room) v (tagsBefore (before .first) (before .tags)) (seenOf (v .clocks) (instant .ticks)) (instant .tags) (foundIn v count a from)

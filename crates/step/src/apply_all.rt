@@ -11,6 +11,12 @@ use remainders::rows::SIZE;
 ghost use Rattle.work.specs.Fillings.{fillingsIn};
 ghost use Rattle.step.specs.Apply.{ApplyingAll, AppliedAll};
 
+// What every filling of an instant has: the instant's tags, and how many remainders there is room for.
+pub(crate) struct Conditions {
+    pub(crate) tags: [i16; 8],
+    pub(crate) room: usize,
+}
+
 // What n rows from row `from` on become by m listed fillings.
 pub(crate) fn apply_all(
     rows: &mut [u32; SIZE],
@@ -18,13 +24,15 @@ pub(crate) fn apply_all(
     n: usize,
     plan: Plan,
     lines: &[u32; NUMBERS],
-    tags: [i16; 8],
+    conditions: Conditions,
     m: usize,
     list: &[bool; LIST],
 ) -> Status
-    requires { ⌜ ApplyingAll (now rows) from n plan m ⌝ }
-    ensures { λ r. ⌜ AppliedAll (now (lines .entry)) plan tags (fillingsIn (now (list .entry)) m) from n r (now (rows .entry)) (now (rows .exit)) ⌝ }
+    requires { ⌜ ApplyingAll (now rows) from n (conditions .room) plan m ⌝ }
+    ensures { λ r. ⌜ AppliedAll (now (lines .entry)) plan conditions (fillingsIn (now (list .entry)) m) from n r (now (rows .entry)) (now (rows .exit)) ⌝ }
 {
+    let tags = conditions.tags;
+    let room = conditions.room;
     let to = SIDES - from;
     let mut live = 0;
     let mut i = 0;
@@ -32,7 +40,7 @@ pub(crate) fn apply_all(
         let ticks = flags_at(list, i);
         i += 1;
         let f = gather(lines, plan, ticks, tags);
-        match apply_filling(rows, from, to, n, live, plan, f) {
+        match apply_filling(rows, from, to, n, live, room, plan, f) {
             Status::Exhausted => {
                 return Status::Exhausted;
             }

@@ -1,4 +1,5 @@
 // The fillings of an instant, and what the rows held become by them.
+use crate::apply_all::Conditions;
 use crate::apply_all::apply_all;
 use crate::list::LIST;
 use crate::list::put_flags;
@@ -21,6 +22,7 @@ ghost use lib.ListN.{set};
 ghost use Rattle.records.specs.Instant.{tickAt};
 ghost use Rattle.tesl.specs.Lists.{all};
 ghost use Rattle.tesl.specs.Fits.{noneFalls};
+ghost use Rattle.tesl.specs.Answer.{mostLive};
 ghost use Rattle.work.specs.View.{tagsBefore};
 ghost use Rattle.work.specs.Questions.{tagsHold};
 ghost use Rattle.work.specs.Rules.{allowed};
@@ -28,10 +30,14 @@ ghost use Rattle.work.specs.Relevant.{fillingsLeft};
 ghost use Rattle.lines.specs.Plan.{planLines, relationsFrom, rulesFrom};
 ghost use Rattle.step.specs.Fill.{Listing, Listed, Working, Worked};
 
-// What went before an instant: nothing, or the last tags.
+// What an instant meets.
 pub struct Before {
+    // No instant went before it.
     pub first: bool,
+    // The last tags, where one did.
     pub tags: [i16; 8],
+    // How many distinct remainders there is room for.
+    pub room: usize,
 }
 
 // How many clocks are filled, and how many rules are asked: small, so that a call is handed them in a word.
@@ -135,7 +141,7 @@ pub fn work_rows(
     instant: Instant,
     list: &mut [bool; LIST],
 ) -> Status
-    requires { ⌜ Working (now rows) from count plan (now list) ⌝ }
+    requires { ⌜ Working (now rows) from count plan (now list) × (before .room ≤ mostLive) ⌝ }
     ensures { λ r. ⌜ Worked (now (lines .entry)) plan before instant from count r (now (rows .entry)) (now (rows .exit)) (now (list .exit)) ⌝ }
 {
     match count {
@@ -157,7 +163,11 @@ pub fn work_rows(
             let flags = flag_rows(rows, from, n, named);
             let ticks = [false; 8];
             let m = fill(lines, extent, flags, 0, seen, ticks, list, 0);
-            apply_all(rows, from, n, plan, lines, tags, m, list)
+            let conditions = Conditions {
+                tags,
+                room: before.room,
+            };
+            apply_all(rows, from, n, plan, lines, conditions, m, list)
         }
     }
 }

@@ -24,7 +24,6 @@ use Rattle.tesl.specs.Remainder.{Remainder}
 use Rattle.tesl.specs.Run as tesl
 use Rattle.tesl.proofs.Tests.{and-l, and-r, and-i, ≡→T}
 use Rattle.theory.specs.Limits.{withinLimits}
-use Rattle.tesl.specs.Answer.{mostLive}
 use Rattle.work.specs.View.{usedPart, heldList, seenOf, tagsBefore}
 use Rattle.work.specs.Lines.{smallLeads}
 use Rattle.work.specs.Work.{worked}
@@ -125,15 +124,15 @@ module _ (s : Sheet) (k : Progress) (rows : List ℕ) where
   pub leads-rows : T (all smallLeads (heldList (heldBy m))) → T (all smallLeads (heldList (foundIn v (k .count) rows (k .from))))
   leads-rows t = subst (λ (o : Option (List Remainder)). T (all smallLeads (heldList o))) (held-rows rows (k .from) v (k .count)) t
 
-  pub accepts-rows : (i : Instant) (next : Status) (out : List ℕ) (to : ℕ) {said : code.Answer}
-      → foundIn v next out to ≡ worked mostLive v (tagsBefore (eqb (k .instants) 0) (k .tags)) (seenOf (s .clocks) (i .ticks)) (i .tags) (foundIn v (k .count) rows (k .from))
+  pub accepts-rows : (room : ℕ) (i : Instant) (next : Status) (out : List ℕ) (to : ℕ) {said : code.Answer}
+      → foundIn v next out to ≡ worked room v (tagsBefore (eqb (k .instants) 0) (k .tags)) (seenOf (s .clocks) (i .ticks)) (i .tags) (foundIn v (k .count) rows (k .from))
       → FewOwedIn next out to → answerOf said ≡ saidBy (foundIn v next out to)
-      → Accepts mostLive m i (given (reply.Answered said) (rowsMonitor s (record { instants = k .instants + 1; tags = i .tags; count = next; from = to }) out))
-  accepts-rows i next out to w small q = record {
+      → Accepts room m i (given (reply.Answered said) (rowsMonitor s (record { instants = k .instants + 1; tags = i .tags; count = next; from = to }) out))
+  accepts-rows room i next out to w small q = record {
     sheet = refl;
     instants = add-one (k .instants);
     tags = refl;
-    held = held-rows out to v next ∙ w ∙ ap (worked mostLive v (tagsBefore (eqb (k .instants) 0) (k .tags)) (seenOf (s .clocks) (i .ticks)) (i .tags)) (sym (held-rows rows (k .from) v (k .count)));
+    held = held-rows out to v next ∙ w ∙ ap (worked room v (tagsBefore (eqb (k .instants) 0) (k .tags)) (seenOf (s .clocks) (i .ticks)) (i .tags)) (sym (held-rows rows (k .from) v (k .count)));
     fits = sized-rows out to next small;
     said = ap taken (q ∙ ap saidBy (sym (held-rows out to v next)));
   }

@@ -60,7 +60,7 @@ abbrev read : tie.After-enum-told → tie.After-read-next
 read e = e .before .before
 
 work-instant-requires : tie.Need-work-instant-requires
-work-instant-requires c κs = let e = done c in (first (read e) .pre, done-room _ _ _ (read e .read-next .ensures) (e .enum-told .given .1))
+work-instant-requires c κs = let e = done c in (first (read e) .pre, (done-room _ _ _ (read e .read-next .ensures) (e .enum-told .given .1), omega arith))
 
 module _ (c : tie.After-work-instant) where
   abbrev taken : tie.After-enum-told
@@ -75,7 +75,7 @@ module _ (c : tie.After-work-instant) where
   bytes : IsBytes (entry .args .bytes .now)
   bytes = each-byte (entry .args .bytes .now) (λ i. known was-read .shared-slice-known .given i .fits)
 
-  observes : (s : Sheet) (ready : Ready s (entry .args .progress) (entry .args .plan) (entry .args .lines .now) (entry .args .rows .now)) → Called (rowsMonitor s (entry .args .progress) (entry .args .rows .now)) (entry .args .bytes .now) (given (c .work-instant .result .reply) (rowsMonitor s (c .work-instant .result .progress) (c .work-instant .last .1 .1 .1 .1 .0)))
+  observes : (s : Sheet) (ready : Ready s (entry .args .progress) (entry .args .plan) (entry .args .lines .now) (entry .args .rows .now)) → Called (rowsMonitor s (entry .args .progress) (entry .args .rows .now)) (entry .args .bytes .now) (given (c .work-instant .result .reply) (rowsMonitor s (c .work-instant .result .progress) (c .work-instant .last .1 .1 .1 .1 .1 .0)))
   observes s ready =
       let k = entry .args .progress in
       called (start was-read s ready) (entry .args .bytes .now) (within was-read s ready) refl (reads was-read s ready) (taken .enum-told .given .1)
@@ -83,7 +83,7 @@ module _ (c : tie.After-work-instant) where
 
 returns-2 : tie.Need-returns-2
 returns-2 c = record {
-  room = c .work-instant .ensures .room;
+  room = c .work-instant .ensures .working;
   refused = λ n f. absurd (c .work-instant .ensures .answered n f);
   moved = λ x f. c .work-instant .ensures .moved;
   called = observes c;

@@ -25,15 +25,15 @@ returns c =
     let p = e .pre .0 in
     let r = w .work-rows .ensures in
     record {
-      room = record { size = r .stays .size ∙ p .size; side = other-side (p .side); small = r .small; plan = p .plan; lists = r .lists };
+      working = record { size = r .stays .size ∙ p .size; side = other-side (p .side); small = r .small; plan = p .plan; lists = r .lists };
       moved = record { to = refl; stays = r .stays };
       answered = λ n f. answered-refused f;
       accepts = λ s ready.
           let m = rowsMonitor s k a in
-          let can = workable m (limits-of m (ready .value) (ready .limits)) (e .pre .1) in
+          let can = workable m (limits-of m (ready .value) (ready .limits)) (e .pre .1 .0) in
           let v = sheetValue s in
-          accepts-rows s k a (e .args .instant) (w .work-rows .result) _ _ (r .works v (ready .planned) (leads-rows s k a (can .leads))) (r .small) (q .say-rows .ensures v);
+          accepts-rows s k a (e .args .room) (e .args .instant) (w .work-rows .result) _ _ (r .works v (ready .planned) (leads-rows s k a (can .leads))) (r .small) (q .say-rows .ensures v);
     }
 
 pub work-instant-spec : {M : Type 1} → statement M
-work-instant-spec = tie.close (tie.spec (λ c κs. start c .pre .0) (λ c. search needs) say-rows-requires (λ c. search needs) returns)
+work-instant-spec = tie.close (tie.spec (λ c κs. (start c .pre .0, start c .pre .1 .1)) (λ c. search needs) say-rows-requires (λ c. search needs) returns)

@@ -34,19 +34,19 @@ use Rattle.step.proofs.apply.apply_filling.Tie as tie
 abbrev rest : SheetValue → List ℕ → ℕ → ℕ → ℕ → List Remainder
 rest v was from n k = listedFrom (λ j. usedPart v (rowOf was (from + j))) k (n - k)
 
-record Found (p : Plan) (f : Filling) (from to n found : ℕ) (was rows : List ℕ) (live k : ℕ) : Type 0 where
+record Found (p : Plan) (f : Filling) (from to n found room : ℕ) (was rows : List ℕ) (live k : ℕ) : Type 0 where
   turns : k ≤ n
   fewer : live ≤ 32
   more : found ≤ live
   stays : RowsStay to (live + 1) was rows
   small : FewOwed rows to live
-  applied : (v : SheetValue) → GatheredFor v p f → T (all smallLeads (rowsOf v was from n)) → byFilling 32 v (f .tags) (rowsOf v was from n) (some (rowsOf v was to found)) (f .ticks) ≡ allAdvanced 32 v (filledInstant f) (begunIn f) (rest v was from n k) (some (rowsOf v rows to live))
+  applied : (v : SheetValue) → GatheredFor v p f → T (all smallLeads (rowsOf v was from n)) → byFilling room v (f .tags) (rowsOf v was from n) (some (rowsOf v was to found)) (f .ticks) ≡ allAdvanced room v (filledInstant f) (begunIn f) (rest v was from n k) (some (rowsOf v rows to live))
 
 abbrev Inv-loop : tie.InvT-loop
-Inv-loop was from to n found plan f clocks leaders precede live₀ k₀ rows live k = Found plan f from to n found was rows live k
+Inv-loop was from to n found room plan f clocks leaders precede live₀ k₀ rows live k = Found plan f from to n found room was rows live k
 
 abbrev μ-loop : tie.MeasureT-loop
-μ-loop was from to n found plan f clocks leaders precede live₀ k₀ rows live k = n - k
+μ-loop was from to n found room plan f clocks leaders precede live₀ k₀ rows live k = n - k
 
 abbrev start : tie.At-loop Inv-loop μ-loop → tie.Start Inv-loop μ-loop
 start at = at .before .before
@@ -60,7 +60,7 @@ loop-holds c =
       more = omega arith;
       stays = rows-stay-all _ _ _;
       small = s .pre .smallFound;
-      applied = λ v asked small. applied-start 32 v _ _ (asked .begins) _ (s .args .n) _;
+      applied = λ v asked small. applied-start (s .args .room) v _ _ (asked .begins) _ (s .args .n) _;
     }
 
 advance-row-requires : tie.Need-advance-row-requires Inv-loop μ-loop
@@ -187,7 +187,7 @@ loop-again-3 c =
     let live = at t .loop .live in
     record {
       turns = omega arith;
-      fewer = omega arith;
+      fewer = omega (arith, start (at t) .pre .sized);
       more = omega (arith, w .more);
       stays = rows-stay-wide (stays t) (live + 1 + 1) (omega arith);
       small = more (e .before .before .before);

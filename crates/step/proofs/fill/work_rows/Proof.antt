@@ -47,7 +47,7 @@ module _ (k : tie.After-known-told) where
   counted = k .before .count .given .1
 
   small : (k .before .count .given .0 .0 ≤ 32) × FewOwed (start k .args .rows .now) (start k .args .from) (k .before .count .given .0 .0)
-  small = subst (λ (r : Status). FewOwedIn r (start k .args .rows .now) (start k .args .from)) counted (start k .pre .small)
+  small = subst (λ (r : Status). FewOwedIn r (start k .args .rows .now) (start k .args .from)) counted (start k .pre .0 .small)
 
   leads : (v : SheetValue) → T (all smallLeads (heldList (foundIn v (start k .args .count) (start k .args .rows .now) (start k .args .from)))) → T (all smallLeads (rowsOf v (start k .args .rows .now) (start k .args .from) (k .before .count .given .0 .0)))
   leads v = subst (λ (r : Status). T (all smallLeads (heldList (foundIn v r (start k .args .rows .now) (start k .args .from))))) counted
@@ -60,12 +60,12 @@ returns c =
     record {
       stays = rows-stay-all _ _ _;
       small = (omega arith, λ j l. absurd (omega arith));
-      lists = s .pre .lists;
-      works = λ v planned leads. work-broken 32 v _ _ _ (a .count) (a .rows .now) (a .from) (counted k) (c .if1 .taken) (a .rows .now) (45 - a .from);
+      lists = s .pre .0 .lists;
+      works = λ v planned leads. work-broken (a .before .room) v _ _ _ (a .count) (a .rows .now) (a .from) (counted k) (c .if1 .taken) (a .rows .now) (45 - a .from);
     }
 
 tags-fit-requires : tie.Need-tags-fit-requires
-tags-fit-requires c κs = let p = start (c .before .before .before) .pre .plan in (p .clocks, p .few-relations)
+tags-fit-requires c κs = let p = start (c .before .before .before) .pre .0 .plan in (p .clocks, p .few-relations)
 
 returns-2 : tie.Need-returns-2
 returns-2 c =
@@ -77,21 +77,21 @@ returns-2 c =
     record {
       stays = rows-stay-all _ _ _;
       small = (omega arith, λ j l. absurd (omega arith));
-      lists = s .pre .lists;
-      works = λ v planned leads. work-no 32 v _ _ _ (a .count) (a .rows .now) (a .from) (counted k) (e .if1 .left) (planned .as-many) (planned .relations) (t .tags-fit .ensures) (not-true _ (c .if2 .taken)) (a .rows .now) (45 - a .from);
+      lists = s .pre .0 .lists;
+      works = λ v planned leads. work-no (a .before .room) v _ _ _ (a .count) (a .rows .now) (a .from) (counted k) (e .if1 .left) (planned .as-many) (planned .relations) (t .tags-fit .ensures) (not-true _ (c .if2 .taken)) (a .rows .now) (45 - a .from);
     }
 
 flag-rows-requires : tie.Need-flag-rows-requires
 flag-rows-requires c κs =
     let k = some (c .before .before .before .before .before .before) .before in
     let x = small k in
-    (omega (arith, x .0, start k .pre .side .one), x .1)
+    (omega (arith, x .0, start k .pre .0 .side .one), x .1)
 
 fill-requires : tie.Need-fill-requires
 fill-requires c κs =
     let f = c .before in
     let s = start (some (fits f .before) .before) in
-    record { size = s .pre .lists; few-clocks = s .pre .plan .clocks; few-rules = s .pre .plan .few-rules; clock = omega arith; room = at-most-256 (f .flag-rows .result) (s .args .instant .ticks) (s .args .plan .clocks) (replicate 8 false) (s .pre .plan .clocks) }
+    record { size = s .pre .0 .lists; few-clocks = s .pre .0 .plan .clocks; few-rules = s .pre .0 .plan .few-rules; clock = omega arith; room = at-most-256 (f .flag-rows .result) (s .args .instant .ticks) (s .args .plan .clocks) (replicate 8 false) (s .pre .0 .plan .clocks) }
 
 apply-all-requires : tie.Need-apply-all-requires
 apply-all-requires c κs =
@@ -99,13 +99,13 @@ apply-all-requires c κs =
     let f = l .before .before in
     let k = some (fits f .before) .before in
     let s = start k in
-    record { size = s .pre .size; side = s .pre .side; held = small k .0; small = small k .1; plan = s .pre .plan; few = few-listed (f .flag-rows .result) (s .args .instant .ticks) (s .args .plan .clocks) (replicate 8 false) (s .pre .plan .clocks) (l .fill .ensures .fewer) }
+    record { size = s .pre .0 .size; side = s .pre .0 .side; held = small k .0; sized = s .pre .1; small = small k .1; plan = s .pre .0 .plan; few = few-listed (f .flag-rows .result) (s .args .instant .ticks) (s .args .plan .clocks) (replicate 8 false) (s .pre .0 .plan .clocks) (l .fill .ensures .fewer) }
 
 returns-3 : tie.Need-returns-3
 returns-3 c =
     let s = c .before .before in
     let a = s .args in
-    record { stays = rows-stay-all _ _ _; small = tt; lists = s .pre .lists; works = λ v planned leads. work-exhausted 32 v _ _ _ (a .count) (a .rows .now) (a .from) (c .enum-told .given .1) }
+    record { stays = rows-stay-all _ _ _; small = tt; lists = s .pre .0 .lists; works = λ v planned leads. work-exhausted (a .before .room) v _ _ _ (a .count) (a .rows .now) (a .from) (c .enum-told .given .1) }
 
 returns-4 : tie.Need-returns-4
 returns-4 c =
@@ -121,10 +121,10 @@ returns-4 c =
       stays = worked-stays (counted k) (e .if1 .left) (c .apply-all .result) (r .stays);
       small = r .small;
       lists = l .fill .ensures .size;
-      works = λ v planned long. work-yes 32 v _ _ _ (a .count) (a .rows .now) (a .from) (counted k) (e .if1 .left) (planned .as-many) (planned .relations) (t .tags-fit .ensures) (not-false _ (x .if2 .left))
+      works = λ v planned long. work-yes (a .before .room) v _ _ _ (a .count) (a .rows .now) (a .from) (counted k) (e .if1 .left) (planned .as-many) (planned .relations) (t .tags-fit .ensures) (not-false _ (x .if2 .left))
           (f .flag-rows .ensures ∙ ap (flagged (rowsClocks (a .rows .now) (a .from) (n k))) (planned .named)) (planned .rules) (a .list .now) (l .fill .ensures .listed) (r .applied v planned (leads k v long));
     }
 
 pub work-rows-spec : {M : Type 1} → statement M
 work-rows-spec =
-    tie.close (tie.spec (λ c. search needs) (λ c. search needs) returns tags-fit-requires returns-2 (λ c. omega (arith, start (some (c .before .before) .before) .pre .plan .clocks)) (λ c. omega (arith, start (some (c .before .before .before) .before) .pre .plan .few-rules)) flag-rows-requires fill-requires apply-all-requires returns-3 returns-4)
+    tie.close (tie.spec (λ c. search needs) (λ c. search needs) returns tags-fit-requires returns-2 (λ c. omega (arith, start (some (c .before .before) .before) .pre .0 .plan .clocks)) (λ c. omega (arith, start (some (c .before .before .before) .before) .pre .0 .plan .few-rules)) flag-rows-requires fill-requires apply-all-requires returns-3 returns-4)
