@@ -21,7 +21,7 @@ pub record Remainder : Type 0 where
   -- for each clock, whether some kills line has stopped it
   pub stopped : List Bool
 
--- in a fitting run B is never ahead of A, so that this subtraction cuts nothing: `never-ahead`, theory's proofs/Seen.antt
+-- in a fitting run B is never ahead of A, so that this subtraction cuts nothing: `never-ahead`, theory's proofs/SameLeft.antt
 abbrev pub leadOf : List Filled → Line → ℕ
 leadOf run l = ofPrecedes 0 (λ A B. ticksIn A run - ticksIn B run) l
 

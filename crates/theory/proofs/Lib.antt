@@ -28,7 +28,10 @@ pub mod Unmet
 pub mod Seen
 -- Demand 3, for a monitor of any kind.
 pub mod Machine
--- The answer in document 01's words, with quantifiers.
+-- In document 01's words, with quantifiers: what two filled runs leave, the fillings, one for each remainder, and the answer.
+pub mod SameLeft
+pub mod Listed
+pub mod Kept
 pub mod Said
 -- The same sheet in another order.
 pub mod SameLines

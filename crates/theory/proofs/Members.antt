@@ -6,12 +6,12 @@ use mathlib.Core.Path.{_≡_, refl, sym, ap, _∙_, subst}
 use Prim.Native.Nat.{ℕ, zero, suc, _-_, _≤_, _<_}
 use native.Mathlib.Nat.{le-of-suc-le-suc, not-suc-le-zero}
 use native.Mathlib.Omega.{arith}
-use lib.Dec.{T}
+use lib.Dec.{T, T-not, not-T}
 use lib.ListN.{length, getD, drop, length-drop}
 use Rattle.records.specs.Types.{All}
 use Rattle.tesl.specs.Lists.{any, filter, distinct, beginnings, flatMap, byLater}
-use Rattle.theory.specs.Sets.{apart}
-use Rattle.tesl.proofs.Tests.{and-r, or-l, or-r, or-e}
+use Rattle.theory.specs.Sets.{apart, NoTwo}
+use Rattle.tesl.proofs.Tests.{and-l, and-r, and-i, or-l, or-r, or-e}
 use Rattle.theory.proofs.Lists.{any-map, member-any, any-member}
 use Rattle.theory.proofs.Sets.{Equivalence, length-le}
 
@@ -138,3 +138,23 @@ module _ {A : Type 0} (same : A → A → Bool) where
       let m = any-member (same z) xs t in
       let r = h (m .0) (m .1) in
       member-any (same z) (r .1) (E .chain z (m .0) (r .0) (m .2) (r .2)))
+
+-- apart by a test, and R of no two
+module _ {A : Type 0} (same : A → A → Bool) (R : A → A → Type 0) where
+  -- where R is of none but what the test calls the same
+  pub of-apart : ((x y : A) → R x y → T (same x y)) → (xs : List A) → T (apart same xs) → NoTwo R xs
+  of-apart h [] a = tt
+  of-apart h (x ∷ xs) a =
+      let n = not (any (same x) xs) in (
+        each-of (λ (y : A). R x y → ⊥) xs (λ y m r. T-not (any (same x) xs) (and-l n (apart same xs) a) (member-any (same x) m (h x y r))),
+        of-apart h xs (and-r n (apart same xs) a),
+      )
+
+  -- where R is of all that the test calls the same, among those with P
+  pub to-apart : (P : A → Type 0) → ((x y : A) → P x → P y → T (same x y) → R x y) → (xs : List A) → All P xs → NoTwo R xs → T (apart same xs)
+  to-apart P h [] p n = tt
+  to-apart P h (x ∷ xs) p n = and-i (not (any (same x) xs)) (apart same xs)
+      (not-T (any (same x) xs) (λ t.
+      let m = any-member (same x) xs t in
+      of-each (λ (y : A). R x y → ⊥) (n .0) (m .1) (h x (m .0) (p .0) (of-each P (p .1) (m .1)) (m .2))))
+      (to-apart P h xs (p .1) (n .1))

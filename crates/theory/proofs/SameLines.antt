@@ -20,7 +20,6 @@ use Rattle.tesl.specs.Fits.{lastTags, noneFalls, holdsAt, fitsAt, mostTag, Obli
 use Rattle.tesl.specs.Remainder.{Remainder, leadOf, stops, remainder, sameObligation, sameCountdown, sameSets, sameRemainder, distinctCount, owes, counts, overfull, isClear}
 use Rattle.tesl.specs.Answer.{Answer, exhausted, remainders, tooMany, over, verdict, answerWithin, mostLive}
 use Rattle.tesl.specs.Machine.{accepts, listAfter, reply, machine, Reader, session, opened}
-use Rattle.theory.specs.Said.{sameLeft}
 use Rattle.theory.specs.SameLines.{SameClocksAndLines, SameSessions}
 use Rattle.records.proofs.sort.Forms.{further-lines}
 use Rattle.tesl.proofs.Tests.{or-l, or-r, or-e}
@@ -28,7 +27,9 @@ use Rattle.theory.proofs.Lists.{bool-ext, any-append, any-filter, any-m
 use Rattle.theory.proofs.Sets.{Equivalence, distinct-length}
 use Rattle.theory.proofs.Respect.{owed-equivalence, count-equivalence}
 use Rattle.theory.proofs.Held.{judged-alike}
-use Rattle.theory.proofs.Said.{fittings, kept, remainders-kept}
+use Rattle.theory.proofs.SameLeft.{sameLeft}
+use Rattle.theory.proofs.Listed.{fittings}
+use Rattle.theory.proofs.Kept.{kept, remainders-kept}
 
 -- ---- lists that no test of their elements tells apart
 

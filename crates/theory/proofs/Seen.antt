@@ -1,80 +1,29 @@
--- Runs without unseen ticks: there is one filling, the answer is broken exactly when TESL's formulas fail for it, and else it is holding with live 1, clear exactly when nothing is owed.
--- And in a fitting run no precedes line has B ahead of A. Assumes nothing.
+-- Runs without unseen ticks: there is one filling, the answer is broken exactly when TESL's formulas fail for it, and else it is holding with live 1, clear exactly when nothing is owed. Assumes nothing.
 use mathlib.Core.Bool.{Bool, true, false, cond, _&&_, _||_}
 use mathlib.Core.List.{List, [], _∷_, _++_, map}
 use mathlib.Core.Logic.{_↔_, _≢_, Iff·trans}
 use mathlib.Core.Path.{_≡_, refl, sym, ap, _∙_, subst}
-use Prim.Native.Nat.{ℕ, zero, suc, _≤_}
-use native.Mathlib.Nat.{le-refl}
+use Prim.Native.Nat.{ℕ}
 use native.Mathlib.Omega.{arith}
 use lib.Dec.{T, eqb, eqb→eq}
 use lib.IntN.{ℤ}
 use lib.ListN.{length}
-use lib.Seq.{take-length}
-use Rattle.records.specs.declared.line.Line.{Line}
-use Rattle.records.specs.declared.line.Line.the-variants.{Sporadic, Relation, Implies, Excludes, Delayed, Weakly, Strictly, Kills, Counted}
 use Rattle.records.specs.declared.instant.Tick.{Tick}
 use Rattle.records.specs.declared.instant.Tick.the-variants.{Idle, Ticks, Unseen}
 use Rattle.records.specs.Sheet.{SheetValue}
-use Rattle.records.specs.Types.{All}
 use Rattle.tesl.specs.Lists.{all, any, filter, distinct, flatMap}
 use Rattle.tesl.specs.Run.{Instant, ticksOf, tagsOf, Filled, fillTicks, fillings, runFillings}
-use Rattle.tesl.specs.Fits.{ticksIn, mostTag, Obligation, unmet, Countdown, countdowns, fits}
+use Rattle.tesl.specs.Fits.{mostTag, Obligation, unmet, Countdown, countdowns, fits}
 use Rattle.tesl.specs.Remainder.{remainder, sameRemainder, sameObligation, sameCountdown, distinctCount, owes, counts, isClear}
 use Rattle.tesl.specs.Answer.{Standing, clear, owed, exhausted, broken, holding, remainders, over, standing, judged, verdict, answerWithin}
-use Rattle.tesl.specs.Formula.{ticksBelow, Holds, NoneFalls, EachHolds}
+use Rattle.tesl.specs.Formula.{NoneFalls, EachHolds}
 use Rattle.theory.specs.Unmet.{NoneOwed}
 use Rattle.theory.specs.Limits.{OnScale}
 use Rattle.theory.specs.Seen.{isSeen, Seen, ticked, seenRun, SeenJudged}
 use Rattle.tesl.proofs.Tests.{and-l, and-r, or-l, or-e, T→≡}
-use Rattle.tesl.proofs.FormulaOwed.{ticks-below}
-use Rattle.tesl.proofs.FormulaParts.{Part, EachPart, fits-by-line}
-use Rattle.tesl.proofs.FormulaLines.{weakly-law, strictly-law}
 use Rattle.tesl.proofs.Formula.{fits-holds}
 use Rattle.theory.proofs.Scale.{filled-scale}
 use Rattle.theory.proofs.Unmet.{none-owed}
-
--- ---- precedence: the subtraction of a remainder's leads cuts nothing
-
-abbrev pub NotAhead : List Filled → Line → Type 0
-NotAhead run (Weakly A B) = ticksIn B run ≤ ticksIn A run
-NotAhead run (Strictly A B) = ticksIn B run ≤ ticksIn A run
-NotAhead run (Sporadic A B t) = Unit {0}
-NotAhead run (Relation A B p q) = Unit {0}
-NotAhead run (Implies A B) = Unit {0}
-NotAhead run (Excludes A B) = Unit {0}
-NotAhead run (Delayed A B D d) = Unit {0}
-NotAhead run (Kills A B) = Unit {0}
-NotAhead run (Counted A B D n) = Unit {0}
-
--- K's ticks in a run of n instants
-all-ticks : (run : List Filled) (K n : ℕ) → length run ≡ n → ticksIn K run ≡ ticksBelow run K n
-all-ticks run K n e = ap (ticksIn K) (sym (take-length run)) ∙ ticks-below run K (length run) (le-refl (length run)) ∙ ap (ticksBelow run K) e
-
-weakly-ordered : (run : List Filled) (A B n : ℕ) → length run ≡ n → Holds (Weakly A B) run → ticksIn B run ≤ ticksIn A run
-weakly-ordered run A B zero e h = omega (arith, all-ticks run A zero e, all-ticks run B zero e)
-weakly-ordered run A B (suc n) e h = omega (arith, all-ticks run A (suc n) e, all-ticks run B (suc n) e, h n (omega arith))
-
-strictly-weakly : (run : List Filled) (A B : ℕ) → Holds (Strictly A B) run → Holds (Weakly A B) run
-strictly-weakly run A B h n b = omega (arith, h n b)
-
-line-ordered : (most : ℤ) (l : Line) (run : List Filled) → Part most l run → NotAhead run l
-line-ordered most (Weakly A B) run h = weakly-ordered run A B (length run) refl (weakly-law most run A B .0 h)
-line-ordered most (Strictly A B) run h = weakly-ordered run A B (length run) refl (strictly-weakly run A B (strictly-law most run A B .0 h))
-line-ordered most (Sporadic A B t) run h = tt
-line-ordered most (Relation A B p q) run h = tt
-line-ordered most (Implies A B) run h = tt
-line-ordered most (Excludes A B) run h = tt
-line-ordered most (Delayed A B D d) run h = tt
-line-ordered most (Kills A B) run h = tt
-line-ordered most (Counted A B D n) run h = tt
-
-pub never-ahead : (s : SheetValue) (run : List Filled) → T (fits s run) → All (NotAhead run) (s .lines)
-never-ahead s run t = each (s .lines) (fits-by-line s run .0 t .1)
-  where
-    each : (ls : List Line) → EachPart mostTag ls run → All (NotAhead run) ls
-    each [] h = tt
-    each (l ∷ ls) h = (line-ordered mostTag l run (h .0), each ls (h .1))
 
 -- ---- a run without unseen ticks, and its one filling
 

@@ -5,11 +5,11 @@
 pub mod Sets
 -- a run of opening and calls, and what each answers
 pub mod Session
--- unmet obligations in document 01's words
+-- what a remainder is made of, in document 01's words: unmet obligations, countdowns, leads, stopped clocks
 pub mod Unmet
 -- runs without unseen ticks (demand 2)
 pub mod Seen
--- the answer in document 01's words (demand 3)
+-- what fits, what is left and the answer in document 01's words (demand 3)
 pub mod Said
 -- the same sheet in another order
 pub mod SameLines

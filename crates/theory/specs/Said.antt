@@ -1,23 +1,21 @@
 -- What is answered for a run, in document 01's words and with quantifiers: what fills a run, which fillings fit, what they leave, and the first answer that applies.
--- Nothing here is taken from the executable definitions of a run's fillings and of `answer`; `sameLeft` alone compares executable remainders. Assumes nothing.
+-- Nothing here is taken from the executable definitions of a run's fillings, of remainders and of `answer`. Assumes nothing.
 use mathlib.Core.Bool.{Bool, true, false}
 use mathlib.Core.List.{List, [], _∷_, _++_, List·Memᴰ}
 use mathlib.Core.Logic.{_↔_, _≢_, _⊎_}
 use mathlib.Core.Path.{_≡_}
-use Prim.Native.Nat.{ℕ, suc}
-use lib.Dec.{T}
+use Prim.Native.Nat.{ℕ, suc, _<_}
 use lib.ListN.{length}
 use Rattle.records.specs.declared.instant.Tick.{Tick}
 use Rattle.records.specs.declared.instant.Tick.the-variants.{Idle, Ticks, Unseen}
 use Rattle.records.specs.Sheet.{SheetValue}
 use Rattle.records.specs.Types.{All}
 use Rattle.tesl.specs.Run.{Instant, ticksOf, tagsOf, Filled}
-use Rattle.tesl.specs.Fits.{mostTag}
-use Rattle.tesl.specs.Remainder.{remainder, sameObligation, sameCountdown, sameRemainder}
+use Rattle.tesl.specs.Fits.{mostTag, Obligation, Countdown}
 use Rattle.tesl.specs.Answer.{Standing, clear, Answer, exhausted, broken, holding}
 use Rattle.tesl.specs.Formula.{NoneFalls, EachHolds}
-use Rattle.theory.specs.Sets.{apart}
-use Rattle.theory.specs.Unmet.{Unmet, Counting, NoneOwed}
+use Rattle.theory.specs.Sets.{NoTwo}
+use Rattle.theory.specs.Unmet.{Unmet, Counting, Lead, Stopped, NoneOwed}
 
 -- ---- a filling gives each unseen tick of a run the value idle or tick
 
@@ -52,37 +50,40 @@ pub record Fitting (s : SheetValue) (run : List Instant) (f : List Filled) : Typ
 
 -- ---- remainders
 
--- two filled runs leave the same remainder: obligations and countdowns as sets, leads and stopped clocks
-abbrev pub sameLeft : SheetValue → List Filled → List Filled → Bool
-sameLeft s f g = sameRemainder (remainder s f) (remainder s g)
+-- two filled runs leave the same remainder: the same unmet obligations, countdowns, leads of precedes lines and stopped clocks; of two that fit, what `sameRemainder` tests: `same-left`, proofs/SameLeft.antt
+pub record SameLeft (s : SheetValue) (f g : List Filled) : Type 0 where
+  pub unmet : (o : Obligation) → Unmet mostTag (s .lines) f o ↔ Unmet mostTag (s .lines) g o
+  pub counting : (c : Countdown) → Counting (s .lines) f c ↔ Counting (s .lines) g c
+  pub leads : (A B n : ℕ) → Lead (s .lines) f A B n ↔ Lead (s .lines) g A B n
+  pub stopped : (k : ℕ) → k < s .clocks → Stopped (s .lines) f k ↔ Stopped (s .lines) g k
 
 -- n distinct remainders: n fitting fillings, no two of which leave the same
 pub record Leaves (s : SheetValue) (run : List Instant) (n : ℕ) : Type 0 where
   pub these : List (List Filled)
   pub number : length these ≡ n
   pub each-fits : All (Fitting s run) these
-  pub no-two : T (apart (sameLeft s) these)
+  pub no-two : NoTwo (SameLeft s) these
 
 -- n is the number of distinct remainders: each fitting filling leaves the same as one of n such
 pub record Live (s : SheetValue) (run : List Instant) (n : ℕ) : Type 0 where
   pub leaves : Leaves s run n
-  pub no-other : (f : List Filled) → Fitting s run f → (g : List Filled) × List·Memᴰ g (leaves .these) × T (sameLeft s f g)
+  pub no-other : (f : List Filled) → Fitting s run f → (g : List Filled) × List·Memᴰ g (leaves .these) × SameLeft s f g
 
--- one remainder with n of a kind, here those of a filled run that `Of` tells, no two the same
-pub record Having {A : Type 0} (same : A → A → Bool) (Of : List Filled → A → Type 0) (s : SheetValue) (run : List Instant) (n : ℕ) : Type 0 where
+-- one remainder with n of a kind, here those of a filled run that `Of` tells, no two equal
+pub record Having {A : Type 0} (Of : List Filled → A → Type 0) (s : SheetValue) (run : List Instant) (n : ℕ) : Type 0 where
   pub filling : List Filled
   pub fits : Fitting s run filling
   pub these : List A
   pub number : length these ≡ n
   pub each : All (Of filling) these
-  pub no-two : T (apart same these)
+  pub no-two : NoTwo _≡_ these
 
 -- n obligations: a fitting filling and n of its unmet obligations; and n countdowns
 abbrev pub Owing : SheetValue → List Instant → ℕ → Type 0
-Owing s run n = Having sameObligation (Unmet mostTag (s .lines)) s run n
+Owing s run n = Having (Unmet mostTag (s .lines)) s run n
 
 abbrev pub CountingDown : SheetValue → List Instant → ℕ → Type 0
-CountingDown s run n = Having sameCountdown (Counting (s .lines)) s run n
+CountingDown s run n = Having (Counting (s .lines)) s run n
 
 -- ---- the answer, the first that applies
 

@@ -3,6 +3,7 @@ use mathlib.Core.Bool.{Bool, true, not, _&&_}
 use mathlib.Core.List.{List, [], _∷_}
 use mathlib.Core.Path.{_≡_}
 use lib.Dec.{T}
+use Rattle.records.specs.Types.{All}
 use Rattle.tesl.specs.Lists.{any}
 
 module _ {A : Type 0} (same : A → A → Bool) where
@@ -22,3 +23,9 @@ module _ {A : Type 0} (same : A → A → Bool) where
 pub record EachOnce {A : Type 0} (same : A → A → Bool) (xs ys : List A) : Type 0 where
   pub each-once : T (apart same xs)
   pub these : SameSet same xs ys
+
+module _ {A : Type 0} where
+  -- R is of no two: of none and a later one
+  abbrev pub NoTwo : (A → A → Type 0) → List A → Type 0
+  NoTwo R [] = Unit {0}
+  NoTwo R (x ∷ xs) = All (λ (y : A). R x y → ⊥) xs × NoTwo R xs

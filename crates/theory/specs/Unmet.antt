@@ -1,13 +1,14 @@
--- Unmet obligations, and countdowns, in the documents' words and with quantifiers over the numbers of instants.
--- Nothing here is taken from the executable definitions `unmet` and `countdowns`. Assumes nothing.
+-- What a remainder is made of, in the documents' words and with quantifiers over the numbers of instants: unmet obligations, countdowns, leads and stopped clocks.
+-- Nothing here is taken from the executable definitions `unmet`, `countdowns` and `remainder`. Assumes nothing.
 use mathlib.Core.List.{List, List·Memᴰ}
+use mathlib.Core.Logic.{_⊎_}
 use mathlib.Core.Path.{_≡_}
 use Prim.Native.Nat.{ℕ, suc, _+_, _-_, _<_}
 use lib.IntN.{ℤ, pos, _+ℤ_}
 use lib.ListN.{length}
 use lib.Signed.{_≤ℤ_}
 use Rattle.records.specs.declared.line.Line.{Line}
-use Rattle.records.specs.declared.line.Line.the-variants.{Sporadic, Delayed, Counted}
+use Rattle.records.specs.declared.line.Line.the-variants.{Sporadic, Delayed, Weakly, Strictly, Kills, Counted}
 use Rattle.tesl.specs.Run.{Filled}
 use Rattle.tesl.specs.Fits.{Obligation, Countdown}
 use Rattle.tesl.specs.Formula.{Ticking, tag, ticksBelow}
@@ -42,6 +43,19 @@ pub data Counting (ls : List Line) (run : List Filled) (c : Countdown) : Type 0 
       → (m : ℕ) → ticksBelow run B (length run) ≡ ticksBelow run B (suc i) + m → m < n
       → c ≡ record { clock = D; on = B; wanted = n - m }
       → Counting ls run c
+
+-- a line of the sheet by which A precedes B, weakly or strictly
+abbrev pub Precedes : List Line → ℕ → ℕ → Type 0
+Precedes ls A B = List·Memᴰ (Weakly A B) ls ⊎ List·Memᴰ (Strictly A B) ls
+
+-- the lead of such a line in a filled run: A's ticks minus B's are n
+pub record Lead (ls : List Line) (run : List Filled) (A B n : ℕ) : Type 0 where
+  pub line : Precedes ls A B
+  pub ticks : ticksBelow run A (length run) ≡ ticksBelow run B (length run) + n
+
+-- some kills line has stopped clock k: it is the line's B, and the line's A has ticked, here at instant i
+abbrev pub Stopped : List Line → List Filled → ℕ → Type 0
+Stopped ls run k = (A : ℕ) × List·Memᴰ (Kills A k) ls × (i : ℕ) × (i < length run) × Ticking run A i
 
 -- none is owed, neither by a due nor by count
 pub record NoneOwed (most : ℤ) (ls : List Line) (run : List Filled) : Type 0 where
