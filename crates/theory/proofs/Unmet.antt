@@ -167,7 +167,7 @@ countdowns-listed ls run c = (of-list, listed)
         let y : Countdown = record { clock = k .2; on = k .1; wanted = k .3 } in
         let later = drop (suc i) run in
         let r = left-is later y (ltb (ticksIn (k .1) later) (k .3)) (ltb→lt (ticksIn (k .1) later) (k .3)) (subst (λ (z : Countdown). List·Memᴰ c (leftOf later z)) (k .6) n) in
-        counted (k .0) (k .1) (k .2) (k .3) (subst (λ (z : Line). List·Memᴰ z ls) (k .4) h) i b (k .5) (ticksIn (k .1) later) (ticks-after run (k .1) i b) (r .0) (r .1)
+        counted (k .0) (k .1) (k .2) (k .3) (subst (λ (z : Line). List·Memᴰ z ls) (k .4) h) i b (k .5) (ticksIn (k .1) later) (ticks-after run (k .1) i b) (omega (arith, r .0)) (r .1)
 
     of-list : List·Memᴰ c (countdowns ls run) → Counting ls run c
     of-list m =
@@ -198,7 +198,7 @@ pub none-owed : (most : ℤ) (ls : List Line) (run : List Filled) → ((unmet mo
 none-owed most ls run = (
   λ e. record {
     unmet = λ o u. List·Memᴰ·not-nil (subst (List·Memᴰ o) (e .0) (unmet-listed most ls run o .1 u));
-    counting = λ c u. List·Memᴰ·not-nil (subst (List·Memᴰ c) (e .1) (countdowns-listed ls run c .1 u));
+    counting = λ c u. absurd (List·Memᴰ·not-nil (subst (List·Memᴰ c) (e .1) (countdowns-listed ls run c .1 u)));
   },
   λ n. (nothing (unmet most ls run) (λ o m. n .unmet o (unmet-listed most ls run o .0 m)), nothing (countdowns ls run) (λ c m. n .counting c (countdowns-listed ls run c .0 m))),
 )
