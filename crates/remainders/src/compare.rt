@@ -2,7 +2,6 @@
 use crate::rows::COUNTDOWNS;
 use crate::rows::LEADS;
 use crate::rows::OBLIGATIONS;
-use crate::rows::PARTS;
 use crate::rows::SIZE;
 use crate::rows::STOPPED;
 use crate::rows::obligation_at;
@@ -88,7 +87,7 @@ fn larger_set(rows: &[u32; SIZE], x: usize) -> usize
     OBLIGATIONS
 }
 
-// Row first + n is one of the n rows from `first` on; the comparison stops at the first equal one. The larger set's count tells most rows apart, so it is asked first.
+// Row first + n is one of the n rows from `first` on; the comparison stops at the first equal one. The larger set's count tells most rows apart, so it is asked first; obligation by obligation comes last.
 pub fn is_duplicate(
     rows: &[u32; SIZE],
     first: usize,
@@ -106,8 +105,7 @@ pub fn is_duplicate(
     let x = first + n;
     let larger = larger_set(rows, x);
     let count = row_count(rows, x, larger);
-    let smaller = COUNTDOWNS - larger;
-    let fewer = row_count(rows, x, smaller);
+    let owed = row_count(rows, x, OBLIGATIONS);
     let mut k = 0;
     'held: while k < n {
         let i = first + k;
@@ -121,18 +119,19 @@ pub fn is_duplicate(
         if !same_stopped(rows, i, x, clocks) {
             continue;
         }
-        if row_count(rows, i, smaller) != fewer {
+        if row_count(rows, i, OBLIGATIONS) != owed {
             continue;
         }
-        if count == 0 {
-            return true;
+        if !same_set(rows, i, x, COUNTDOWNS) {
+            continue;
         }
-        let mut part = 0;
-        while part < PARTS {
-            if !same_set(rows, i, x, part) {
+        let mut j = 0;
+        while j < owed {
+            let obligation = obligation_at(rows, i, OBLIGATIONS, j);
+            if !row_owes(rows, x, OBLIGATIONS, obligation) {
                 continue 'held;
             }
-            part += 1;
+            j += 1;
         }
         return true;
     }

@@ -1,7 +1,8 @@
 -- `is_duplicate` meets its contract: no row so far is row x, or the loop stops at the first that is. Assumes nothing.
-use mathlib.Core.Bool.{Bool, true, false, not}
-use mathlib.Core.Path.{_≡_, refl, sym, ap, _∙_}
-use Prim.Native.Nat.{ℕ, _+_, _-_, _≤_}
+use mathlib.Core.Bool.{Bool, true, false, not, _&&_}
+use mathlib.Core.List.{List}
+use mathlib.Core.Path.{_≡_, refl, sym, ap, ap₂, _∙_}
+use Prim.Native.Nat.{ℕ, _+_, _-_, _<_, _≤_}
 use native.Mathlib.Omega.{arith}
 use borrow.Author.Needs.{needs}
 use borrow.Author.Tests.{not-true, not-false}
@@ -11,22 +12,25 @@ use Rattle.work.specs.View.{usedPart}
 use Rattle.work.specs.Work.{sameCounted}
 use Rattle.work.specs.Parts.{Leading}
 use Rattle.work.proofs.Below.{below-next, below-miss}
-use Rattle.remainders.specs.Rows.{parts, rowOf, rowsOf}
-use Rattle.remainders.proofs.compare.Laws.{setSame, sameRow, noneSame, empty-sets, other-set, other-count, other-leads, other-stops, equal, is-one}
+use Rattle.remainders.specs.declared.obligation.Obligation as code
+use Rattle.remainders.specs.View.{sameStored}
+use Rattle.remainders.specs.Rows.{height, parts, rowCount, rowSet, rowOf, rowsOf}
+use Rattle.remainders.proofs.compare.Laws.{setSame, hasAt, set-misses, set-equal, sameRow, noneSame, other-set, other-count, other-leads, other-stops, equal, is-one}
 use Rattle.remainders.proofs.compare.is_duplicate.Statement.{statement}
 use Rattle.remainders.proofs.compare.is_duplicate.Tie as tie
 
+-- row x has each obligation of row i so far
 abbrev Inv-loop : tie.InvT-loop
-Inv-loop rows first n clocks leaders precede x larger count smaller fewer k i part₀ part = (part ≤ parts) × (below part (setSame rows x i) ≡ true)
+Inv-loop rows first n clocks leaders precede x larger count owed k i j₀ j = (j ≤ owed) × (below j (hasAt rows x i 0) ≡ true)
 
 abbrev μ-loop : tie.MeasureT-loop
-μ-loop rows first n clocks leaders precede x larger count smaller fewer k i part₀ part = parts - part
+μ-loop rows first n clocks leaders precede x larger count owed k i j₀ j = owed - j
 
 abbrev Inv-held : tie.InvT-held
-Inv-held rows first n clocks leaders precede x larger count smaller fewer k₀ k = (k ≤ n) × (noneSame clocks leaders precede rows x first k ≡ true)
+Inv-held rows first n clocks leaders precede x larger count owed k₀ k = (k ≤ n) × (noneSame clocks leaders precede rows x first k ≡ true)
 
 abbrev μ-held : tie.MeasureT-held
-μ-held rows first n clocks leaders precede x larger count smaller fewer k₀ k = n - k
+μ-held rows first n clocks leaders precede x larger count owed k₀ k = n - k
 
 -- the k-th row is row x
 abbrev same : tie.Start Inv-loop μ-loop Inv-held μ-held → ℕ → Bool
@@ -52,8 +56,11 @@ stopped e = e .before .before
 abbrev turn : tie.Else4 Inv-loop μ-loop Inv-held μ-held → tie.In-held Inv-loop μ-loop Inv-held μ-held
 turn e = first-count (leads (stopped e))
 
-abbrev second-count : tie.Else5 Inv-loop μ-loop Inv-held μ-held → tie.Else4 Inv-loop μ-loop Inv-held μ-held
-second-count e = e .before .before
+abbrev owed-count : tie.Else5 Inv-loop μ-loop Inv-held μ-held → tie.Else4 Inv-loop μ-loop Inv-held μ-held
+owed-count e = e .before .before
+
+abbrev countdowns : tie.Else6 Inv-loop μ-loop Inv-held μ-held → tie.Else5 Inv-loop μ-loop Inv-held μ-held
+countdowns e = e .before .before
 
 unequal : (at : tie.In-held Inv-loop μ-loop Inv-held μ-held)
     → let s = start (counts at) in
@@ -65,24 +72,6 @@ unequal at q = (omega arith, below-next (λ j. not (same (start (counts at)) j))
 found : (s : tie.Start Inv-loop μ-loop Inv-held μ-held) (v : SheetValue) → v .clocks ≡ s .args .clocks → Leading v (s .args .leaders) (s .args .precede)
     → any (sameCounted (usedPart v (rowOf (s .args .rows .now) (s .args .first + s .args .n)))) (rowsOf v (s .args .rows .now) (s .args .first) (s .args .n)) ≡ not (below (s .args .n) (λ j. not (same s j)))
 found s v e h = let a = s .args in is-one (a .clocks) (a .leaders) (a .precede) (a .rows .now) (a .first + a .n) (s .pre .0) v e h (a .first) (a .n)
-
--- this turn's row is row x, of equal leads and stopped clocks
-module _ (f : tie.Else4 Inv-loop μ-loop Inv-held μ-held) where
-  abbrev at : tie.In-held Inv-loop μ-loop Inv-held μ-held
-  at = turn f
-
-  abbrev s : tie.Start Inv-loop μ-loop Inv-held μ-held
-  s = start (counts at)
-
-  abbrev k : ℕ
-  k = at .before .held .k
-
-  it-is : below parts (setSame (s .args .rows .now) (s .args .first + s .args .n) (s .args .first + k)) ≡ true → (v : SheetValue) → v .clocks ≡ s .args .clocks → Leading v (s .args .leaders) (s .args .precede)
-      → true ≡ any (sameCounted (usedPart v (rowOf (s .args .rows .now) (s .args .first + s .args .n)))) (rowsOf v (s .args .rows .now) (s .args .first) (s .args .n))
-  it-is q v e h =
-      let l = stopped f in
-      let x : same s k ≡ true = equal _ _ _ _ _ _ q (l .before .same-leads .ensures) (l .if3 .left) (f .before .same-stopped .ensures) (f .if4 .left) in
-      sym (found s v e h ∙ ap not (below-miss (λ j. not (same s j)) (s .args .n) k (omega arith) (ap not x)))
 
 -- ---- no row before it
 
@@ -110,60 +99,107 @@ held-again-4 : tie.Need-held-again-4 Inv-loop μ-loop Inv-held μ-held
 held-again-4 c =
     let q = c .before in
     let at = turn (q .before) in
-    let x = counts at in
-    unequal at (other-count _ _ _ _ _ _ (1 - x .before .before .larger-set .result) (omega arith) (λ e. c .if5 .taken (q .row-count4 .ensures ∙ sym (x .row-count2 .ensures ∙ e))))
-
--- ---- nothing in either set
-
-returns-2 : tie.Need-returns-2 Inv-loop μ-loop Inv-held μ-held
-returns-2 c v e h =
-    let d = c .before in
-    let f = second-count d in
-    let x = counts (turn f) in
-    let larger = x .before .before .larger-set in
-    let m = leads (stopped f) in
-    let a = start x .args in
-    it-is f (empty-sets (a .rows .now) (a .first + a .n) (a .first + turn f .before .held .k) (larger .result) (larger .ensures .inside) (sym (x .before .row-count .ensures) ∙ c .if6 .taken) (larger .ensures .least) (sym (m .before .row-count3 .ensures) ∙ m .if2 .left ∙ x .before .row-count .ensures) (sym (d .before .row-count4 .ensures) ∙ d .if5 .left ∙ x .row-count2 .ensures)) v e h
-
--- ---- set by set
+    unequal at (other-count _ _ _ _ _ _ 0 (omega arith) (λ e. omega (arith, q .row-count4 .ensures, counts at .row-count2 .ensures)))
 
 same-set-requires : tie.Need-same-set-requires Inv-loop μ-loop Inv-held μ-held
 same-set-requires c κs =
-    let lo = c .before in
-    let at = turn (second-count (lo .before .before)) in
+    let at = turn (owed-count c) in
     let s = start (counts at) in
     let few = s .pre .1 .1 .1 in
-    let part = lo .loop .part in
     record {
       one = omega arith;
       other = omega arith;
       inside = omega arith;
-      few-one = few (at .before .held .k) (omega arith) part (omega arith);
-      few-other = few (s .args .n) (omega arith) part (omega arith);
+      few-one = few (at .before .held .k) (omega arith) 1 (omega arith);
+      few-other = few (s .args .n) (omega arith) 1 (omega arith);
     }
 
 held-again-5 : tie.Need-held-again-5 Inv-loop μ-loop Inv-held μ-held
 held-again-5 c =
-    let t = c .before in
-    let lo = t .before .before in
-    unequal (turn (second-count (lo .before .before))) (other-set _ _ _ _ _ _ (lo .loop .part) (omega arith) (sym (t .same-set .ensures) ∙ not-true _ (c .if7 .taken)))
+    let q = c .before in
+    unequal (turn (owed-count (q .before))) (other-set _ _ _ _ _ _ 1 (omega arith) (sym (q .same-set .ensures) ∙ not-true _ (c .if6 .taken)))
+
+-- ---- obligation by obligation
+module _ (f : tie.Else6 Inv-loop μ-loop Inv-held μ-held) where
+  abbrev at : tie.In-held Inv-loop μ-loop Inv-held μ-held
+  at = turn (owed-count (countdowns f))
+
+  abbrev s : tie.Start Inv-loop μ-loop Inv-held μ-held
+  s = start (counts at)
+
+  abbrev rows : List ℕ
+  rows = s .args .rows .now
+
+  abbrev k : ℕ
+  k = at .before .held .k
+
+  abbrev x : ℕ
+  x = s .args .first + s .args .n
+
+  abbrev i : ℕ
+  i = s .args .first + k
+
+  inside : x < height
+  inside = s .pre .1 .1 .0
+
+  -- row x owes at most eight, and row i as many
+  few : rowCount rows x 0 ≤ 8
+  few = s .pre .1 .1 .1 (s .args .n) (omega arith) 0 (omega arith)
+
+  of-x : counts at .row-count2 .result ≡ rowCount rows x 0
+  of-x = counts at .row-count2 .ensures
+
+  of-i : counts at .row-count2 .result ≡ rowCount rows i 0
+  of-i = let q = countdowns f in sym (q .if5 .left) ∙ q .before .row-count4 .ensures
+
+  -- one that row x does not have
+  missing : (j : ℕ) → j < rowCount rows i 0 → hasAt rows x i 0 j ≡ false → same s k ≡ false
+  missing j l q = other-set _ _ _ _ _ _ 0 (omega arith) (sym (set-misses rows x i 0 j l q))
+
+  -- each is there: this turn's row is row x
+  it-is : below (rowCount rows i 0) (hasAt rows x i 0) ≡ true → (v : SheetValue) → v .clocks ≡ s .args .clocks → Leading v (s .args .leaders) (s .args .precede)
+      → true ≡ any (sameCounted (usedPart v (rowOf rows x))) (rowsOf v rows (s .args .first) (s .args .n))
+  it-is q v e h =
+      let sets : below parts (setSame rows x i) ≡ true = ap₂ _&&_ (sym (set-equal rows x i 0 (sym of-x ∙ of-i) q)) (sym (f .before .same-set .ensures) ∙ not-false _ (f .if6 .left)) in
+      let t = owed-count (countdowns f) in
+      let l = stopped t in
+      let y : same s k ≡ true = equal _ _ _ _ _ _ sets (l .before .same-leads .ensures) (l .if3 .left) (t .before .same-stopped .ensures) (t .if4 .left) in
+      sym (found s v e h ∙ ap not (below-miss (λ j. not (same s j)) (s .args .n) k (omega arith) (ap not y)))
+
+-- the test of a turn
+tested : (c : tie.After-row-owes Inv-loop μ-loop Inv-held μ-held) → let lo = c .before .before .before in let f = lo .before in hasAt (rows f) (x f) (i f) 0 (lo .loop .j) ≡ c .row-owes .result
+tested c =
+    let f = c .before .before .before .before in
+    sym (c .row-owes .ensures ∙ ap (λ (o : code.Obligation). any (sameStored o) (rowSet (rows f) (x f) 0)) (c .before .obligation-at .ensures))
+
+obligation-at-requires : tie.Need-obligation-at-requires Inv-loop μ-loop Inv-held μ-held
+obligation-at-requires c κs =
+    let f = c .before .before in
+    (omega (arith, inside f), (omega arith, omega (arith, few f, of-x f)))
+
+row-owes-requires : tie.Need-row-owes-requires Inv-loop μ-loop Inv-held μ-held
+row-owes-requires c κs = let f = c .before .before .before in (inside f, (omega arith, few f))
+
+held-again-6 : tie.Need-held-again-6 Inv-loop μ-loop Inv-held μ-held
+held-again-6 c =
+    let lo = c .before .before .before .before in
+    let f = lo .before in
+    unequal (at f) (missing f (lo .loop .j) (omega (arith, of-i f)) (tested (c .before) ∙ not-true _ (c .if7 .taken)))
 
 loop-again : tie.Need-loop-again Inv-loop μ-loop Inv-held μ-held
 loop-again c =
-    let t = c .before in
-    let lo = t .before .before in
-    (omega arith, below-next _ (lo .loop .part) (lo .loop .inv .1) (sym (t .same-set .ensures) ∙ not-false _ (c .if7 .left)))
+    let lo = c .before .before .before .before in
+    (omega arith, below-next _ (lo .loop .j) (lo .loop .inv .1) (tested (c .before) ∙ not-false _ (c .if7 .left)))
+
+returns-2 : tie.Need-returns-2 Inv-loop μ-loop Inv-held μ-held
+returns-2 c v e h =
+    let lo = c .before in
+    let f = lo .before in
+    let z : rowCount (rows f) (i f) 0 ≡ lo .loop .j = omega (arith, of-i f) in
+    it-is f (ap (λ (m : ℕ). below m (hasAt (rows f) (x f) (i f) 0)) z ∙ lo .loop .inv .1) v e h
 
 returns-3 : tie.Need-returns-3 Inv-loop μ-loop Inv-held μ-held
 returns-3 c v e h =
-    let lo = c .before in
-    let f = second-count (lo .before .before) in
-    let a = start (counts (turn f)) .args in
-    let z : parts ≡ lo .loop .part = omega arith in
-    it-is f (ap (λ (m : ℕ). below m (setSame (a .rows .now) (a .first + a .n) (a .first + turn f .before .held .k))) z ∙ lo .loop .inv .1) v e h
-
-returns-4 : tie.Need-returns-4 Inv-loop μ-loop Inv-held μ-held
-returns-4 c v e h =
     let s = start (c .before .before) in
     let z : s .args .n ≡ c .before .held .k = omega arith in
     sym (found s v e h ∙ ap (λ (m : ℕ). not (below m (λ j. not (same s j)))) z ∙ ap not (c .before .held .inv .1))
@@ -171,6 +207,7 @@ returns-4 c v e h =
 pub is-duplicate-spec : {M : Type 1} → statement M
 is-duplicate-spec =
     tie.close (tie.spec Inv-loop μ-loop Inv-held μ-held
-    returns (λ c. search needs) (λ c κs. search needs) (λ c κs. search needs) (λ c. search needs) (λ c κs. search needs) (λ c. (omega arith, refl)) (λ c. search needs) (λ c. search needs)
+    returns (λ c. search needs) (λ c κs. search needs) (λ c κs. search needs) (λ c κs. search needs) (λ c. (omega arith, refl)) (λ c. search needs) (λ c. search needs)
     (λ c κs. search needs) (λ c. search needs) held-again (λ c κs. search needs) (λ c. search needs) held-again-2 (λ c κs. search needs) (λ c. search needs) held-again-3
-    (λ c κs. search needs) (λ c. search needs) held-again-4 returns-2 (λ c. (omega arith, refl)) same-set-requires (λ c. search needs) held-again-5 (λ c. search needs) (λ c. search needs) loop-again returns-3 returns-4)
+    (λ c κs. search needs) (λ c. search needs) held-again-4 same-set-requires (λ c. search needs) held-again-5 (λ c. (omega arith, refl))
+    obligation-at-requires row-owes-requires (λ c. search needs) held-again-6 (λ c. search needs) (λ c. search needs) loop-again returns-2 returns-3)
