@@ -16,32 +16,49 @@ Inv-loop lines₀ s clocks n relations₀ rules₀ delays₀ counted₀ leaders�
 abbrev μ-loop : tie.MeasureT-loop
 μ-loop lines₀ s clocks n relations₀ rules₀ delays₀ counted₀ leaders₀ precede₀ named₀ i₀ lines relations rules delays counted leaders precede named i = n - i
 
--- the turn, and the beginning, from where the last part was stored
-abbrev turn : tie.After-put-part4 Inv-loop μ-loop → tie.In-loop Inv-loop μ-loop
-turn c = c .before .before .before .before .before .before .before .before .before .before .before .before .before .before .before .before
+-- the places of a turn, from the last back: each part stored, the row, the line's words
+abbrev counted : tie.After-flag-line Inv-loop μ-loop → tie.After-put-part4 Inv-loop μ-loop
+counted c = c .before .before .before
 
-abbrev start : tie.After-put-part4 Inv-loop μ-loop → tie.Start Inv-loop μ-loop
-start c = turn c .before .before .before
+abbrev delays : tie.After-put-part4 Inv-loop μ-loop → tie.After-put-part3 Inv-loop μ-loop
+delays c = c .before .before .before
+
+abbrev rules : tie.After-put-part3 Inv-loop μ-loop → tie.After-put-part2 Inv-loop μ-loop
+rules c = c .before .before .before
+
+abbrev relations : tie.After-put-part2 Inv-loop μ-loop → tie.After-put-part Inv-loop μ-loop
+relations c = c .before .before .before
+
+abbrev row : tie.After-put-part Inv-loop μ-loop → tie.After-put-words Inv-loop μ-loop
+row c = c .before .before .before
+
+abbrev words : tie.After-put-words Inv-loop μ-loop → tie.After-words-of-line Inv-loop μ-loop
+words c = c .before .before
+
+-- the turn's beginning, from where the last part was stored, and the function's
+abbrev turn : tie.After-put-part4 Inv-loop μ-loop → tie.In-loop Inv-loop μ-loop
+turn c = words (row (relations (rules (delays c)))) .before .before
+
+abbrev start : tie.In-loop Inv-loop μ-loop → tie.Start Inv-loop μ-loop
+start t = t .before .before .before
 
 loop-holds : tie.Need-loop-holds Inv-loop μ-loop
 loop-holds c = let s = c .before in (omega arith, sorted-none (s .args .t1) (c .clocks-of .result) (s .args .lines .now) (s .pre .size))
 
 loop-again : tie.Need-loop-again Inv-loop μ-loop
 loop-again c =
-    let counted = c .before .before .before in
-    let delays = counted .before .before .before in
-    let rules = delays .before .before .before in
-    let relations = rules .before .before .before in
-    let row = relations .before .before .before in
-    let words = row .before .before in
-    let at = words .before .before .before in
-    let s = at .before .before in
-    let m = at .loop in
-    let more = sorted-more (m .inv .1) (omega (arith, s .pre .few-lines)) (words .words-of-line .ensures .line)
-    (row .put-words .ensures) (relations .put-part .ensures) (rules .put-part2 .ensures) (delays .put-part3 .ensures) (counted .put-part4 .ensures)
-    (relations .before .is-relation .ensures) (rules .before .is-rule .ensures) (delays .before .is-delay .ensures) (counted .before .is-counted .ensures)
+    let n = counted c in
+    let d = delays n in
+    let r = rules d in
+    let e = relations r in
+    let t = turn n in
+    let s = start t in
+    let m = t .before .loop in
+    let more = sorted-more (m .inv .1) (omega (arith, s .pre .few-lines)) (words (row e) .words-of-line .ensures .line)
+    (row e .put-words .ensures) (e .put-part .ensures) (r .put-part2 .ensures) (d .put-part3 .ensures) (n .put-part4 .ensures)
+    (e .before .is-relation .ensures) (r .before .is-rule .ensures) (d .before .is-delay .ensures) (n .before .is-counted .ensures)
     (c .before .before .precedes .ensures) (c .before .leaders-with .ensures) (c .flag-line .ensures) in
-    (omega (arith, turn counted .loop-test .taken), sorted-next (s .args .t1) (m .i) more)
+    (omega (arith, t .loop-test .taken), sorted-next (s .args .t1) (m .i) more)
 
 returns : tie.Need-returns Inv-loop μ-loop
 returns c =
@@ -56,8 +73,8 @@ plan-of-spec =
     (λ c κs. search needs) loop-holds (λ c. search needs) (λ c. search needs)
     (λ c κs. search needs) (λ c κs. search needs) (λ c κs. search needs) (λ c κs. search needs) (λ c κs. search needs) (λ c κs. search needs)
     (λ c κs. search needs) (λ c κs. search needs) (λ c κs. search needs) (λ c κs. search needs) (λ c κs. search needs)
-    (λ c. let h = start (c .before) .pre .few-lines in search needs)
-    (λ c κs. let h = start (c .before) .pre .few-lines in search needs)
+    (λ c. let h = start (turn (c .before)) .pre .few-lines in search needs)
+    (λ c κs. let h = start (turn (c .before)) .pre .few-lines in search needs)
     (λ c κs. search needs)
-    (λ c. let last = c .before .before .before in record { fits = omega (arith, turn last .loop-test .taken, start last .pre .few-lines) })
-    (λ c. omega (arith, turn (c .before .before .before) .loop-test .taken)) loop-again returns)
+    (λ c. let t = turn (counted c) in record { fits = omega (arith, t .loop-test .taken, start t .pre .few-lines) })
+    (λ c. omega (arith, turn (counted c) .loop-test .taken)) loop-again returns)
