@@ -15,6 +15,10 @@ use Rattle.records.specs.Record.{Piece, whole, torn, recordBytes}
 abbrev pub isLine : ℕ → Bool
 isLine kind = leb 16 kind && leb kind 24
 
+-- what stands for the line of any other kind; no contract speaks of it
+abbrev pub noLine : Line
+noLine = Sporadic 0 0 (pos 0)
+
 -- kind 16 is sporadic
 abbrev pub isSporadic : ℕ → Bool
 isSporadic kind = eqb kind 16
@@ -72,8 +76,9 @@ lineOf kind b =
     (cond (eqb kind 20) (Delayed (at b 0) (at b 1) (at b 2) (wordAt b 3))
     (cond (eqb kind 21) (Weakly (at b 0) (at b 1))
     (cond (eqb kind 22) (Strictly (at b 0) (at b 1))
+    (cond (eqb kind 23) (Kills (at b 0) (at b 1))
     (cond (eqb kind 24) (Counted (at b 0) (at b 1) (at b 2) (at b 3))
-    (Kills (at b 0) (at b 1)))))))))
+    noLine))))))))
 
 -- a line's kind and its body
 abbrev pub kindOf : Line → ℕ

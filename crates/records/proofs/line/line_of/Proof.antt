@@ -1,9 +1,12 @@
 -- `line_of` meets its contract: a body of its kind's length has each field. Assumes nothing.
-use mathlib.Core.Path.{_∙_, ap}
+use mathlib.Core.Path.{_≡_, _∙_, ap}
+use Prim.Native.Nat.{_≤_}
 use native.Mathlib.Omega.{arith}
-use borrow.Author.Tests.{ne-eqb}
+use lib.Dec.{leb}
+use borrow.Author.Tests.{leb-true}
 use Rattle.records.specs.Word.{tagOf}
 use Rattle.records.specs.Line.{lengthOf, lineOf}
+use Rattle.records.proofs.Lists.{both}
 use Rattle.records.proofs.line.Table.{two-clocks}
 use Rattle.records.proofs.word.Laws.{back}
 use borrow.Author.Needs.{needs}
@@ -79,11 +82,16 @@ returns-8 : tie.Need-returns-8
 unfolding lineOf
 returns-8 c = rw (c .before .before .match .keys8)
 
+-- 23 alone is left of the kinds of a line
 returns-9 : tie.Need-returns-9
 unfolding lineOf
 returns-9 c =
-    let m = c .match .rest in
-    simp (ne-eqb _ _ (m .0 .0 .0 .0 .0 .0 .0 .1), ne-eqb _ _ (m .0 .0 .0 .0 .0 .0 .1), ne-eqb _ _ (m .0 .0 .0 .0 .0 .1), ne-eqb _ _ (m .0 .0 .0 .0 .1), ne-eqb _ _ (m .0 .0 .0 .1), ne-eqb _ _ (m .0 .0 .1), ne-eqb _ _ (m .0 .1), ne-eqb _ _ (m .1))
+    let start = c .before .before .before .before in
+    let k = start .args .kind in
+    let l = both (leb 16 k) (start .pre .0) in
+    let from-20 : 20 ≤ k = omega (arith, leb-true 16 k (l .0), c .match .rest .0 .0 .0 .0) in
+    let e : k ≡ 23 = omega (arith, leb-true k 24 (l .1), c .match .rest .0 .0 .0 .1, c .match .rest .0 .0 .1, c .match .rest .0 .1, c .match .rest .1) in
+    rw e
 
 pub line-of-spec : {M : Type 1} → statement M
 line-of-spec =
