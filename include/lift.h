@@ -1,14 +1,11 @@
 /*
  * The lift-run monitor: the calls of the static library `gateway`.
  *
- * Sheets, logs, instants and refusal numbers are document 01's; with document
- * 02 the lines of a sheet stand in rising order (17), in which the program
- * sort writes them, kind 24 is a delay counted in ticks, whose count is not 0
- * (18), a delay that would be due past the greatest tag, 32,767, owes
- * nothing, and an instant may have its number (kind 33), which is one above
- * the instants held (19). There are two ways to use it: live, instant by
- * instant, with a state that the caller lends, and over a whole log. Every
- * call takes every input.
+ * docs/FORMAT.md has the bytes of sheets, logs and instants, and the refusal
+ * numbers, 1 to 19, with their conditions in the order in which they are
+ * checked. There are two ways to use the library: live, instant by instant,
+ * with a state that the caller lends, and over a whole log. Every call takes
+ * every input.
  *
  * The library keeps nothing between calls, takes no heap and writes nowhere
  * but into the state or the buffer that it is lent. Of stack, lift_observe
@@ -113,10 +110,9 @@ uint64_t lift_open(const uint8_t *sheet, size_t sheet_len, lift_state *state);
  * 19 until they are handed over. A plain record (kind 32) has no number and
  * never gets 19: it is taken for the next instant.
  *
- * 11: the words are no monitor within its limits. The first word is another,
- * or the kind of a line, the side in use or the case of the answer is no such
- * value, or the limits of a monitor in documents 01 and 02 fail. Open the
- * sheet again and hand over the log from its start.
+ * 11: the words are no monitor within its limits: they are of another version
+ * of the format, or damaged. Take an older stored state, or open the sheet
+ * again and hand over the log from its start.
  */
 uint64_t lift_observe(lift_state *state,
                       const uint8_t *record, size_t record_len);

@@ -90,8 +90,10 @@ static void print_answer(unsigned long number, const uint8_t *entry)
     case LIFT_BROKEN:
         printf("%lu broken 0 -\n", number);
         break;
-    default:
+    case LIFT_EXHAUSTED:
         printf("%lu exhausted 0 -\n", number);
+        break;
+    default: /* LIFT_NONE: no answer was written here */
         break;
     }
 }

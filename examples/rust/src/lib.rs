@@ -47,6 +47,14 @@ pub const SHORT_BUFFER: u8 = 10;
 /// The refusal number of a state that is no monitor within its limits.
 pub const NO_MONITOR: u8 = 11;
 
+/// The refusal number of a numbered instant that is not the next.
+pub const NOT_NEXT: u8 = 19;
+
+/// The answers' codes; 0, after a refusal, is none of them.
+const EXHAUSTED: u8 = 1;
+const BROKEN: u8 = 2;
+const HOLDING: u8 = 3;
+
 /// Words of a state, and bytes.
 pub const STATE: usize = 4608;
 pub const STATE_BYTES: usize = 4 * STATE;
@@ -65,8 +73,8 @@ pub struct Taken<T> {
     pub count: u32,
 }
 
-/// A refusal: its number in document 01 or 02, and the instants taken before
-/// it; with `SHORT_BUFFER` the instants to make room for.
+/// A refusal: its number (docs/FORMAT.md), and the instants taken before it;
+/// with `SHORT_BUFFER` the instants to make room for.
 #[derive(Clone, Copy, Debug, PartialEq, Eq)]
 pub struct Refused {
     pub number: u8,
@@ -88,15 +96,22 @@ fn unpack<T>(result: u64, value: impl FnOnce([u8; ENTRY]) -> T) -> Result<T> {
     }
 }
 
-fn answer(entry: [u8; ENTRY]) -> Answer {
+/// The answer of three bytes; none where the first is 0, or no answer's code.
+fn answer(entry: [u8; ENTRY]) -> Option<Answer> {
     match entry {
-        [1, ..] => Answer::Exhausted,
-        [2, ..] => Answer::Broken,
-        [_, live, clear] => Answer::Holding {
+        [EXHAUSTED, ..] => Some(Answer::Exhausted),
+        [BROKEN, ..] => Some(Answer::Broken),
+        [HOLDING, live, clear] => Some(Answer::Holding {
             live,
             clear: clear == 1,
-        },
+        }),
+        _ => None,
     }
+}
+
+/// What a call that answers gave: a result without a refusal has an answer.
+fn answered(result: u64) -> Result<Answer> {
+    unpack(result, |entry| answer(entry).expect("an answer's code"))
 }
 
 /// A monitor, called instant by instant. Its words are all there is of it.
@@ -115,19 +130,19 @@ impl State {
     /// as it was.
     pub fn open(&mut self, sheet: &[u8]) -> Result<Answer> {
         let result = unsafe { raw::lift_open(sheet.as_ptr(), sheet.len(), &mut self.0) };
-        unpack(result, answer)
+        answered(result)
     }
 
     /// Takes an instant's record. Refused, the state stays as it was.
     pub fn observe(&mut self, record: &[u8]) -> Result<Answer> {
         let result = unsafe { raw::lift_observe(&mut self.0, record.as_ptr(), record.len()) };
-        unpack(result, answer)
+        answered(result)
     }
 
     /// The last answer: what to show after a restart.
     pub fn last(&self) -> Result<Answer> {
         let result = unsafe { raw::lift_last(&self.0) };
-        unpack(result, answer)
+        answered(result)
     }
 
     /// How many of the live remainders owe this clock a tick, by an obligation
@@ -161,7 +176,7 @@ impl Default for State {
 /// The last answer of a whole log; for an empty log that of opening.
 pub fn judge(sheet: &[u8], log: &[u8]) -> Result<Answer> {
     let result = unsafe { raw::lift_judge(sheet.as_ptr(), sheet.len(), log.as_ptr(), log.len()) };
-    unpack(result, answer)
+    answered(result)
 }
 
 /// As `judge`, with the answer of every instant taken at the front of `out`,
@@ -177,14 +192,14 @@ pub fn watch(sheet: &[u8], log: &[u8], out: &mut [u8]) -> Result<Answer> {
             out.len(),
         )
     };
-    unpack(result, answer)
+    answered(result)
 }
 
-/// The first `count` answers that `watch` wrote.
+/// The first `count` answers that `watch` wrote; they end where none was.
 pub fn answers(out: &[u8], count: u32) -> impl Iterator<Item = Answer> + '_ {
     out.chunks_exact(ENTRY)
         .take(count as usize)
-        .map(|e| answer([e[0], e[1], e[2]]))
+        .map_while(|e| answer([e[0], e[1], e[2]]))
 }
 
 /// How many of the live remainders owe this clock a tick after a whole log, by
