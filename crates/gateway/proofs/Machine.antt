@@ -11,14 +11,14 @@ use Rattle.records.specs.Sheet.{SheetValue, readSheet}
 use Rattle.records.specs.Types.{All}
 use Rattle.tesl.specs.Answer.{Answer, answer}
 use Rattle.tesl.specs.Machine.{machine, session, concluded, callsOf, judgeLog}
-use Rattle.logs.specs.Entry.{liveCode, answersTaken}
+use Rattle.logs.specs.Entry.{liveCode, beforeRefusal}
 use Rattle.logs.specs.Log.{entries, Watched, watchLog}
 use Rattle.logs.proofs.log.Answers.{live-small, answers-small, answers-few, concluded-count}
 use Rattle.gateway.specs.Result.{unlessRefused}
 use Rattle.gateway.specs.Inner.{Packable}
 
 concluded-live : (o : Outcome Answer) (n : ℕ) (replies : List (Outcome Answer)) → unlessRefused liveCode o ≤ 32
-    → All (λ (a : Answer). liveCode a ≤ 32) (answersTaken replies) → unlessRefused liveCode (concluded o n replies .outcome) ≤ 32
+    → All (λ (a : Answer). liveCode a ≤ 32) (beforeRefusal replies) → unlessRefused liveCode (concluded o n replies .outcome) ≤ 32
 concluded-live o n [] h all = h
 concluded-live o n (taken a ∷ replies) h all = concluded-live (taken a) (suc n) replies (all .0) (all .1)
 concluded-live o n (refused m ∷ replies) h all = omega arith

@@ -8,7 +8,7 @@ use Rattle.records.specs.Sheet.{SheetValue}
 use Rattle.records.specs.Store.{puts}
 use Rattle.tesl.specs.Run.{Instant}
 use Rattle.tesl.specs.Answer.{Answer, exhausted, broken, holding, clear, owed}
-use Rattle.tesl.specs.Machine.{machine, callsOf}
+use Rattle.tesl.specs.Machine.{machine, acceptsEach, callsOf}
 
 abbrev pub answerCode : Answer → ℕ
 answerCode exhausted = 1
@@ -32,15 +32,18 @@ clearCode (holding live owed) = 0
 abbrev pub entry : Answer → List ℕ
 entry a = answerCode a ∷ liveCode a ∷ clearCode a ∷ []
 
--- the answers before the first refusal
-abbrev pub answersTaken : List (Outcome Answer) → List Answer
-answersTaken [] = []
-answersTaken (taken a ∷ replies) = a ∷ answersTaken replies
-answersTaken (refused n ∷ replies) = []
+-- what was taken before the first refusal
+abbrev pub beforeRefusal : {A : Type 0} → List (Outcome A) → List A
+beforeRefusal [] = []
+beforeRefusal (taken x ∷ outcomes) = x ∷ beforeRefusal outcomes
+beforeRefusal (refused n ∷ outcomes) = []
 
--- the machine's answers to a log, from a run on
+-- of a log, from a run on: the machine's answers, and the instants that it takes
 abbrev pub answersFrom : SheetValue → List Instant → List ℕ → List Answer
-answersFrom s run log = answersTaken (machine s run (callsOf log))
+answersFrom s run log = beforeRefusal (machine s run (callsOf log))
+
+abbrev pub instantsFrom : SheetValue → List Instant → List ℕ → List Instant
+instantsFrom s run log = beforeRefusal (acceptsEach s run (callsOf log))
 
 -- ---- inner promises
 

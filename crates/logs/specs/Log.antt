@@ -8,29 +8,31 @@ use lib.ListN.{length, drop}
 use Rattle.records.specs.Outcome.{taken, refused}
 use Rattle.records.specs.Sheet.{SheetValue, readSheet}
 use Rattle.tesl.specs.Lists.{flatMap}
-use Rattle.tesl.specs.Answer.{Answer}
-use Rattle.tesl.specs.Machine.{listAfterCalls, session, LogResult, callsOf, judgeLog}
+use Rattle.tesl.specs.Machine.{session, LogResult, callsOf, judgeLog}
 use Rattle.logs.specs.declared.log.Judged.{Judged}
 use Rattle.logs.specs.declared.log.LastMonitor.{LastMonitor}
 use Rattle.judge.specs.Answer.{replyOf}
-use Rattle.logs.specs.Entry.{answersTaken, entry}
+use Rattle.judge.specs.Monitor.{KeepsNothing, noMonitor}
 use Rattle.judge.specs.Promises.{Follows}
+use Rattle.logs.specs.Entry.{beforeRefusal, instantsFrom, entry}
 
 abbrev pub judgedOf : Judged → LogResult
 judgedOf r = record { outcome = replyOf (r .reply); instants = r .instants }
 
 -- ---- with the monitor after the log
 
--- what the log is judged to; after an answer the monitor follows the machine's list
+-- what the log is judged to; a refused sheet yields no monitor; else it is the monitor after the instants taken, those before the first refusal, and keeps nothing in unused places
 pub record FollowsLog (sheet log : List ℕ) (r : LastMonitor) : Type 0 where
   pub judged : record { outcome = replyOf (r .reply); instants = r .instants } ≡ judgeLog sheet log
-  pub follows : (s : SheetValue) → readSheet sheet ≡ taken s → (a : Answer) → replyOf (r .reply) ≡ taken a → Follows s (listAfterCalls s [] (callsOf log)) (r .monitor)
+  pub refuses : (n : ℕ) → readSheet sheet ≡ refused n → r .monitor ≡ noMonitor
+  pub follows : (s : SheetValue) → readSheet sheet ≡ taken s → Follows s (instantsFrom s [] log) (r .monitor)
+  pub unused : (s : SheetValue) → readSheet sheet ≡ taken s → KeepsNothing (r .monitor)
 
 -- ---- with every answer
 
 -- the bytes of the answers to the instants taken
 unfoldable pub entries : List ℕ → List ℕ → List ℕ
-entries sheet log = flatMap entry (answersTaken (session readSheet sheet (callsOf log) .replies))
+entries sheet log = flatMap entry (beforeRefusal (session readSheet sheet (callsOf log) .replies))
 
 -- the result, and the whole buffer afterwards
 pub record Watched : Type 0 where

@@ -1,17 +1,16 @@
 -- What the inner functions over a log's records promise.
 use mathlib.Core.Bool.{Bool}
-use mathlib.Core.List.{List, []}
+use mathlib.Core.List.{List, [], _++_}
 use mathlib.Core.Path.{_≡_}
 use Prim.Native.Nat.{ℕ, _*_, _≤_}
+use lib.IntN.{pos}
 use lib.ListN.{length}
 use Rattle.records.specs.declared.sheet.Sheet.{Sheet}
-use Rattle.records.specs.Outcome.{taken}
 use Rattle.records.specs.Sheet.{SheetValue}
 use Rattle.records.specs.Store.{puts}
 use Rattle.tesl.specs.Lists.{flatMap}
 use Rattle.tesl.specs.Run.{Instant}
-use Rattle.tesl.specs.Answer.{Answer}
-use Rattle.tesl.specs.Machine.{machine, listAfterCalls, LogResult, concluded, callsOf, judgeLog}
+use Rattle.tesl.specs.Machine.{machine, LogResult, concluded, callsOf, judgeLog}
 use Rattle.judge.specs.declared.answer.Reply.{Reply}
 use Rattle.judge.specs.declared.progress.Progress.{Progress}
 use Rattle.lines.specs.declared.plan.Plan.{Plan}
@@ -20,7 +19,8 @@ use Rattle.judge.specs.declared.monitor.CallResult.{CallResult}
 use Rattle.logs.specs.declared.log.LastMonitor.{LastMonitor}
 use Rattle.logs.specs.declared.log.LastRows.{LastRows}
 use Rattle.judge.specs.Answer.{replyOf}
-use Rattle.logs.specs.Entry.{entry, answersFrom}
+use Rattle.logs.specs.Entry.{entry, answersFrom, instantsFrom}
+use Rattle.remainders.specs.Unused.{BlankFrom}
 use Rattle.judge.specs.Promises.{Follows}
 use Rattle.step.specs.Fill.{Working}
 use Rattle.judge.specs.Progress.{rowsMonitor, given, Ready}
@@ -32,20 +32,21 @@ judgedRows r = record { outcome = replyOf (r .reply); instants = r .instants }
 
 -- ---- after an opening, for every run that its monitor follows
 
--- what the machine's replies come to; where none is refused m follows the machine's list; and the answers' bytes stand at the buffer's front, where all have room
+-- what the machine's replies come to; m follows the instants taken before the first refusal; and the answers' bytes stand at the buffer's front, where all have room
 pub record FollowsRecords (opened : CallResult) (log : List ℕ) (r : LogResult) (m : Monitor) (before after : List ℕ) : Type 0 where
   pub concludes : (s : SheetValue) (run : List Instant) → Follows s run (opened .monitor) → r ≡ concluded (replyOf (opened .reply)) 0 (machine s run (callsOf log))
-  pub follows : (s : SheetValue) (run : List Instant) → Follows s run (opened .monitor) → (a : Answer) → r .outcome ≡ taken a → Follows s (listAfterCalls s run (callsOf log)) m
+  pub follows : (s : SheetValue) (run : List Instant) → Follows s run (opened .monitor) → Follows s (run ++ instantsFrom s run log) m
   pub buffer : (s : SheetValue) (run : List Instant) → Follows s run (opened .monitor) → 3 * length (answersFrom s run log) ≤ length before
       → after ≡ puts before 0 (flatMap entry (answersFrom s run log))
 
--- by a monitor in rows, whatever the sheet; room to work in and a monitor as ready are left
+-- by a monitor in rows, whatever the sheet; room to work in and a monitor as ready are left, and last tags of clocks from C on that were 0 still are
 pub record ObservedRecords (log : List ℕ) (opening : Reply) (k : Progress) (p : Plan) (lines : List ℕ) (r : LastRows) (a b : List ℕ) (list : List Bool) (before after : List ℕ)
     : Type 0 where
   pub room : Working b (r .progress .from) (r .progress .count) p list
   pub size : length after ≡ length before
   pub follows : (s : Sheet) → Ready s k p lines a → FollowsRecords (given opening (rowsMonitor s k a)) log (judgedRows r) (rowsMonitor s (r .progress) b) before after
   pub ready : (s : Sheet) → Ready s k p lines a → Ready s (r .progress) p lines b
+  pub tags : (s : Sheet) → Ready s k p lines a → BlankFrom (s .clocks) (pos 0) (k .tags) → BlankFrom (s .clocks) (pos 0) (r .progress .tags)
 
 -- ---- with the opening
 

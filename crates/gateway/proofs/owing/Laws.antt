@@ -21,6 +21,7 @@ use Rattle.judge.specs.Limits.{monitorWithin}
 use Rattle.judge.specs.Monitor.{heldBy}
 use Rattle.judge.specs.Promises.{Follows}
 use Rattle.logs.specs.Log.{FollowsLog}
+use Rattle.logs.proofs.log.Opening.{follows-whole}
 use Rattle.logs.specs.declared.log.LastMonitor.{LastMonitor}
 use Rattle.panel.specs.declared.Panel.{Panel}
 use Rattle.panel.specs.declared.Panel.the-variants as shown
@@ -108,4 +109,4 @@ module _ (sheet log : List ℕ) (last : LastMonitor) (h : FollowsLog sheet log l
       by-reply : (r : Outcome Answer) → replyOf (last .reply) ≡ r
           → packed (numberOf r) 0 owing 0 (last .instants) ≡ packed (numberOf r) 0 (unlessRefused (λ a. owingOf clock log (readSheet sheet)) r) 0 (last .instants)
       by-reply (refused n) k = rw (o .none n k)
-      by-reply (taken a) k = let s = answered-sheet k in rw (s .1, o .owing a k (s .0) (listAfterCalls (s .0) [] (callsOf log)) (h .follows (s .0) (s .1) a k))
+      by-reply (taken a) k = let s = answered-sheet k in rw (s .1, o .owing a k (s .0) (listAfterCalls (s .0) [] (callsOf log)) (follows-whole h (s .1) k))

@@ -4,14 +4,13 @@ use mathlib.Core.List.{List, [], _∷_, _++_}
 use mathlib.Core.Path.{_≡_, refl, sym, ap, _∙_, subst}
 use Prim.Native.Nat.{ℕ, _+_, _*_, _≤_}
 use native.Mathlib.Omega.{arith}
+use lib.IntN.{pos}
 use lib.ListN.{length, length-append}
 use Rattle.records.specs.declared.sheet.Sheet.{Sheet}
-use Rattle.records.specs.Outcome.{taken}
 use Rattle.records.specs.Record.{TheRecord}
 use Rattle.records.specs.Sheet.{SheetValue}
 use Rattle.records.specs.Store.{puts}
 use Rattle.records.specs.Types.{All}
-use Rattle.records.proofs.Lists.{refused-taken}
 use Rattle.records.proofs.Store.{puts-both}
 use Rattle.tesl.specs.Lists.{flatMap}
 use Rattle.tesl.specs.Run.{Instant}
@@ -26,12 +25,13 @@ use Rattle.judge.specs.declared.monitor.Monitor.{Monitor}
 use Rattle.judge.specs.declared.monitor.CallResult.{CallResult}
 use Rattle.judge.specs.Answer.{answerOf, replyOf}
 use Rattle.logs.specs.Entry.{liveCode, entry, answersFrom, PutEntry}
+use Rattle.remainders.specs.Unused.{BlankFrom}
 use Rattle.judge.specs.Promises.{Follows, Called}
 use Rattle.step.specs.Fill.{Working}
 use Rattle.judge.specs.Progress.{rowsMonitor, given, Ready}
 use Rattle.logs.specs.Records.{FollowsRecords}
 use Rattle.logs.proofs.log.Answers.{answers-small, length-entries, entries-snoc, entry-fits}
-use Rattle.logs.proofs.log.Turn.{Watching, watching-start, watching-more, more-answers, ended, ended-follows, ended-answers, stopped, stopped-answers}
+use Rattle.logs.proofs.log.Turn.{Watching, watching-start, watching-more, more-answers, ended, ended-follows, ended-answers, stopped, stopped-follows, stopped-answers}
 
 -- ---- a turn
 
@@ -57,7 +57,7 @@ module _ {log before after : List ℕ} {m₀ m : Monitor} {r₀ last : Reply} {n
   pub written-end : length log ≤ at → FollowsRecords (given r₀ m₀) log (record { outcome = replyOf last; instants = n }) m before after
   written-end h = record {
     concludes = ended (w .watching) h;
-    follows = λ s run f a e. ended-follows (w .watching) h s run f;
+    follows = ended-follows (w .watching) h;
     buffer = λ s run f. whole s run f (ended-answers (w .watching) h s run f);
   }
 
@@ -65,7 +65,7 @@ module _ {log before after : List ℕ} {m₀ m : Monitor} {r₀ last : Reply} {n
     pub written-refused : {k : ℕ} → g .reply ≡ reply.Refused k → FollowsRecords (given r₀ m₀) log (record { outcome = replyOf (g .reply); instants = n }) (g .monitor) before after
     written-refused e = record {
       concludes = stopped (w .watching) h o (ap replyOf e);
-      follows = λ s run f a q. refused-taken (sym (ap replyOf e) ∙ q);
+      follows = stopped-follows (w .watching) h o (ap replyOf e);
       buffer = λ s run f. whole s run f (stopped-answers (w .watching) h o (ap replyOf e) s run f);
     }
 
@@ -99,3 +99,4 @@ pub record Turns (log before : List ℕ) (k₀ : Progress) (rows₀ : List ℕ) 
   pub room : Working rows (k .from) (k .count) p list
   pub writing : (s : Sheet) → Ready s k₀ p lines rows₀ → Writing log before (rowsMonitor s k₀ rows₀) r₀ after (rowsMonitor s k rows) last n at end
   pub ready : (s : Sheet) → Ready s k₀ p lines rows₀ → Ready s k p lines rows
+  pub tags : (s : Sheet) → Ready s k₀ p lines rows₀ → BlankFrom (s .clocks) (pos 0) (k₀ .tags) → BlankFrom (s .clocks) (pos 0) (k .tags)

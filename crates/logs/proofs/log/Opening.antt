@@ -4,6 +4,7 @@ use mathlib.Core.List.{List, [], _++_}
 use mathlib.Core.Path.{_≡_, refl, sym, ap, _∙_, subst}
 use Prim.Native.Nat.{ℕ, _+_, _*_, _≤_, _<_}
 use native.Mathlib.Omega.{arith}
+use lib.IntN.{pos}
 use lib.ListN.{length, drop}
 use borrow.Author.Tests.{lt-ltb, le-ltb}
 use Rattle.records.specs.declared.order.Order.the-variants.{Rising}
@@ -16,23 +17,26 @@ use Rattle.records.proofs.sheet.Writing.{refused-done}
 use Rattle.records.proofs.Lists.{refused-taken}
 use Rattle.records.proofs.Store.{puts-front}
 use Rattle.tesl.specs.Lists.{flatMap}
-use Rattle.tesl.specs.Answer.{answer}
-use Rattle.tesl.specs.Machine.{machine, session, LogResult, callsOf, judgeLog}
+use Rattle.tesl.specs.Answer.{Answer, answer}
+use Rattle.tesl.specs.Machine.{machine, listAfterCalls, session, LogResult, concluded, callsOf, judgeLog}
 use Rattle.judge.specs.declared.answer.Answer as code
 use Rattle.judge.specs.declared.answer.Reply.the-variants as reply
 use Rattle.logs.specs.declared.log.LastMonitor.{LastMonitor}
 use Rattle.logs.specs.declared.log.LastRows.{LastRows}
 use Rattle.judge.specs.declared.monitor.Monitor.{Monitor}
+use Rattle.judge.specs.declared.monitor.CallResult.{CallResult}
 use Rattle.lines.specs.declared.plan.Plan.{Plan}
 use Rattle.judge.specs.Answer.{replyOf}
 use Rattle.logs.specs.Entry.{entry, answersFrom}
+use Rattle.judge.specs.Monitor.{KeepsNothing, blankMonitor, refusal}
 use Rattle.judge.specs.Promises.{Follows}
 use Rattle.judge.specs.Progress.{firstProgress, ReadBack}
-use Rattle.logs.specs.Log.{entries, watchedAs, watchLog}
+use Rattle.logs.specs.Log.{FollowsLog, entries, watchedAs, watchLog}
 use Rattle.logs.specs.Records.{ObservedRecords, ObservedLog, Counted, CountedLog}
-use Rattle.judge.proofs.progress.Laws.{follows-back}
-use Rattle.logs.proofs.log.Answers.{concluded-count, length-entries}
-use Rattle.judge.proofs.monitor.Opened.{OpenedRows, read-answer}
+use Rattle.remainders.proofs.rows.Placing.{blank-at}
+use Rattle.judge.proofs.progress.Laws.{follows-back, nothing-back}
+use Rattle.logs.proofs.log.Answers.{concluded-count, instants-all, length-entries}
+use Rattle.judge.proofs.monitor.Opened.{OpenedRows, read-answer, opened-refused}
 
 -- ---- what was read
 
@@ -56,11 +60,16 @@ module _ (sheet log : List ℕ) {n : ℕ} (e : readSheet sheet ≡ refused n) wh
 -- ---- the log observed
 
 module _ (sheet log : List ℕ) (x : SheetRead) (e : x ≡ sheetRead (readSheet sheet)) where
-  pub log-refused : {n : ℕ} → x .answer ≡ told.Refused n → (m : Monitor) (out : List ℕ) → ObservedLog sheet log (record { reply = reply.Refused n; instants = 0; monitor = m }) out out
-  log-refused {n} a m out =
+  pub log-refused : {n : ℕ} → x .answer ≡ told.Refused n → {m : Monitor} → m ≡ blankMonitor (x .sheet) → (out : List ℕ) → ObservedLog sheet log (record { reply = reply.Refused n; instants = 0; monitor = m }) out out
+  log-refused {n} a {m} q out =
       let f = read-answer Rising 24 sheet x e a in
       record {
-        followed = record { judged = judged-refused sheet log f; follows = λ s g. refused-taken (sym f ∙ g) };
+        followed = record {
+          judged = judged-refused sheet log f;
+          refuses = λ k g. ap (λ (r : CallResult). r .monitor) (opened-refused Rising 24 sheet x e a (refusal n m) (ap (refusal n) q) .refuses k g);
+          follows = λ s g. refused-taken (sym f ∙ g);
+          unused = λ s g. refused-taken (sym f ∙ g);
+        };
         size = refl;
         buffer = λ h. rw (no-entries sheet log f);
       }
@@ -71,12 +80,15 @@ module _ (sheet log : List ℕ) (x : SheetRead) (e : x ≡ sheetRead (readSheet 
     unfolding judgeLog session
     log-observed {m} back =
         let k = w .follows (x .sheet) (o .ready) in
+        let left = w .ready (x .sheet) (o .ready) in
         record {
           followed = record {
             judged = k .concludes (o .value) [] (o .follows) ∙ rw (o .read, o .said);
-            follows = λ s g a q.
+            refuses = λ n g. refused-taken (sym g ∙ o .read);
+            follows = λ s g.
                 let z : o .value ≡ s = cc in
-                subst (Follows s _) (sym (back .same)) (follows-back (w .ready (x .sheet) (o .ready)) (back .found) (rw z at (k .follows (o .value) [] (o .follows) a q)));
+                subst (Follows s _) (sym (back .same)) (follows-back left (back .found) (rw z at (k .follows (o .value) [] (o .follows))));
+            unused = λ s g. subst KeepsNothing (sym (back .same)) (nothing-back left (back .found) (w .tags (x .sheet) (o .ready) (λ j l. blank-at (pos 0) 8 j)));
           };
           size = w .size;
           buffer = λ h. k .buffer (o .value) [] (o .follows) (omega (arith, size-of sheet log (o .read))) ∙ rw (entries-of sheet log (o .read));
@@ -99,6 +111,14 @@ module _ (sheet log : List ℕ) (x : SheetRead) (e : x ≡ sheetRead (readSheet 
           let same : s .clocks ≡ x .sheet .clocks = ap (λ (z : SheetRead). z .sheet .clocks) (ap sheetRead (sym h) ∙ sym e) in
           let count = c .same s same in
           record { most = c .most; entries-size = omega (arith, size-of sheet log h); judged = rw h (omega (arith, concluded-count (taken (answer s [])) 0 (machine s [] (callsOf log)), count)) }
+
+-- ---- after an answer the monitor follows the machine's list, whole
+module _ {sheet log : List ℕ} {r : LastMonitor} (l : FollowsLog sheet log r) {s : SheetValue} (e : readSheet sheet ≡ taken s) where
+  pub follows-whole : {a : Answer} → replyOf (r .reply) ≡ taken a → Follows s (listAfterCalls s [] (callsOf log)) (r .monitor)
+  unfolding judgeLog session
+  follows-whole {a} q =
+      let k : replyOf (r .reply) ≡ concluded (taken (answer s [])) 0 (machine s [] (callsOf log)) .outcome = ap (λ (j : LogResult). j .outcome) (l .judged) ∙ rw e in
+      rw (← instants-all s [] (callsOf log) (taken (answer s [])) 0 (sym k ∙ q)) (l .follows s e)
 
 -- ---- every answer in a buffer
 

@@ -11,25 +11,25 @@ use Rattle.records.proofs.Lists.{map-append}
 use Rattle.records.proofs.record.Cut.{no-pieces}
 use Rattle.tesl.specs.Run.{Instant}
 use Rattle.tesl.specs.Answer.{Answer}
-use Rattle.tesl.specs.Machine.{accepts, listAfter, machine, listAfterCalls, concluded, callsOf}
-use Rattle.theory.proofs.Log.{next-replies, next-held}
+use Rattle.tesl.specs.Machine.{accepts, listAfter, machine, acceptsEach, concluded, callsOf}
+use Rattle.theory.proofs.Log.{next-replies, next-accepts}
 use Rattle.judge.specs.declared.monitor.Monitor.{Monitor}
 use Rattle.judge.specs.declared.monitor.CallResult.{CallResult}
 use Rattle.judge.specs.declared.answer.Reply.{Reply}
 use Rattle.judge.specs.Answer.{replyOf}
-use Rattle.logs.specs.Entry.{answersTaken, answersFrom}
+use Rattle.logs.specs.Entry.{beforeRefusal, answersFrom, instantsFrom}
 use Rattle.judge.specs.Promises.{Follows, Called}
 use Rattle.judge.proofs.Demands.{called-follows}
-use Rattle.logs.proofs.log.Answers.{lastSaid, last-snoc, concluded-said, answers-said}
+use Rattle.logs.proofs.log.Answers.{lastSaid, last-snoc, instants-more, instants-refused, concluded-said, answers-said}
 
 -- ---- the answers said so far
 
--- from a run on: those said, and the replies to the records from a place on
+-- from a run on: those said, and the replies to the records from a place on; the instants taken, and those taken from that place on
 pub record Left (log : List ℕ) (m : Monitor) (said : List Answer) (at : ℕ) (s : SheetValue) (run₀ : List Instant) : Type 0 where
   pub run : List Instant
   pub follows : Follows s run m
   pub replies : machine s run₀ (callsOf log) ≡ map taken said ++ machine s run (callsOf (drop at log))
-  pub lists : listAfterCalls s run₀ (callsOf log) ≡ listAfterCalls s run (callsOf (drop at log))
+  pub instants : run₀ ++ instantsFrom s run₀ log ≡ run ++ instantsFrom s run (drop at log)
 
 -- for every run that the first monitor followed; each instant taken had a record
 pub record Going (log : List ℕ) (m₀ m : Monitor) (said : List Answer) (at : ℕ) : Type 0 where
@@ -38,18 +38,22 @@ pub record Going (log : List ℕ) (m₀ m : Monitor) (said : List Answer) (at : 
   pub same : (s : SheetValue) (run : List Instant) → Follows s run m₀ → Left log m said at s run
 
 pub going-start : (log : List ℕ) (m : Monitor) → Going log m m [] 0
-going-start log m = record { few = omega arith; ends = omega arith; same = λ s run f. record { run = run; follows = f; replies = refl; lists = refl } }
+going-start log m = record { few = omega arith; ends = omega arith; same = λ s run f. record { run = run; follows = f; replies = refl; instants = refl } }
 
 module _ {log : List ℕ} {m₀ m : Monitor} {said : List Answer} {at : ℕ} (w : Going log m₀ m said at) where
-  -- at the end the machine has said no more
+  -- at the end the machine has said no more, and taken no more
   pub going-end : length log ≤ at → (s : SheetValue) (run : List Instant) (f : Follows s run m₀)
-      → (machine s run (callsOf log) ≡ map taken said ++ []) × (listAfterCalls s run (callsOf log) ≡ w .same s run f .run)
-  unfolding machine listAfterCalls
+      → (machine s run (callsOf log) ≡ map taken said ++ []) × (run ++ instantsFrom s run log ≡ w .same s run f .run)
+  unfolding machine acceptsEach
   going-end h s run f =
       let l = w .same s run f in
-      (l .replies ∙ rw (drop-of-length-le log {i = at} h, no-pieces), l .lists ∙ rw (drop-of-length-le log {i = at} h, no-pieces))
+      (l .replies ∙ rw (drop-of-length-le log {i = at} h, no-pieces), l .instants ∙ rw (drop-of-length-le log {i = at} h, no-pieces) (append-nil (l .run)))
 
   module _ {p : List ℕ} (h : TheRecord log at p) {g : CallResult} (o : Called m p g) where
+    -- what the machine takes the records behind this one for
+    abbrev later : SheetValue → List Instant → List (Outcome Instant)
+    later s run = acceptsEach s (listAfter run (accepts s run p)) (callsOf (drop (at + length p) log))
+
     -- the call follows the machine
     pub turn : (s : SheetValue) (run : List Instant) → Follows s run m₀ → (rest : List (Outcome Answer)) × (machine s run (callsOf log) ≡ map taken said ++ (replyOf (g .reply) ∷ rest))
     turn s run f =
@@ -69,7 +73,7 @@ module _ {log : List ℕ} {m₀ m : Monitor} {said : List Answer} {at : ℕ} (w 
             run = listAfter (l .run) (accepts s (l .run) p);
             follows = k .follows;
             replies = l .replies ∙ rw (next-replies h s (l .run), ← k .same, e, map-append, append-assoc);
-            lists = l .lists ∙ next-held h s (l .run);
+            instants = l .instants ∙ rw (next-accepts h s (l .run)) (instants-more s (l .run) (accepts s (l .run) p) (sym (k .same) ∙ e) (later s (l .run)));
           };
     }
 
@@ -97,7 +101,7 @@ module _ {log : List ℕ} {m₀ m : Monitor} {r₀ last : Reply} {n at : ℕ} {s
     pub ended : (s : SheetValue) (run : List Instant) → Follows s run m₀ → record { outcome = replyOf last; instants = n } ≡ concluded (replyOf r₀) 0 (machine s run (callsOf log))
     ended s run f = concludes last [] s run (going-end (w .going) h s run f .0) (rw (w .last-said))
 
-    pub ended-follows : (s : SheetValue) (run : List Instant) → Follows s run m₀ → Follows s (listAfterCalls s run (callsOf log)) m
+    pub ended-follows : (s : SheetValue) (run : List Instant) → Follows s run m₀ → Follows s (run ++ instantsFrom s run log) m
     ended-follows s run f = rw (going-end (w .going) h s run f .1) (w .going .same s run f .follows)
 
     pub ended-answers : (s : SheetValue) (run : List Instant) → Follows s run m₀ → answersFrom s run log ≡ said
@@ -107,6 +111,13 @@ module _ {log : List ℕ} {m₀ m : Monitor} {r₀ last : Reply} {n at : ℕ} {s
     module _ {k : ℕ} (e : replyOf (g .reply) ≡ refused k) where
       pub stopped : (s : SheetValue) (run : List Instant) → Follows s run m₀ → record { outcome = replyOf (g .reply); instants = n } ≡ concluded (replyOf r₀) 0 (machine s run (callsOf log))
       stopped s run f = let t = turn (w .going) h o s run f in concludes (g .reply) _ s run (t .1) (rw e)
+
+      pub stopped-follows : (s : SheetValue) (run : List Instant) → Follows s run m₀ → Follows s (run ++ instantsFrom s run log) (g .monitor)
+      stopped-follows s run f =
+          let l = w .going .same s run f in
+          let c = called-follows s (l .run) m p g (l .follows) o in
+          let last : l .run ++ instantsFrom s (l .run) (drop at log) ≡ listAfter (l .run) (accepts s (l .run) p) = rw (next-accepts h s (l .run)) (instants-refused s (l .run) (accepts s (l .run) p) (sym (c .same) ∙ e) (later (w .going) h o s (l .run))) in
+          rw (l .instants, last) (c .follows)
 
       pub stopped-answers : (s : SheetValue) (run : List Instant) → Follows s run m₀ → answersFrom s run log ≡ said
       stopped-answers s run f = let t = turn (w .going) h o s run f in rw (t .1, answers-said, e) (append-nil said)
@@ -120,4 +131,4 @@ module _ {log : List ℕ} {m₀ m : Monitor} {r₀ last : Reply} {n at : ℕ} {s
       }
 
       pub more-answers : (s : SheetValue) (run : List Instant) → Follows s run m₀ → (later : List Answer) × (answersFrom s run log ≡ said ++ (a ∷ later))
-      more-answers s run f = let t = turn (w .going) h o s run f in (answersTaken (t .0), rw (t .1, answers-said, e))
+      more-answers s run f = let t = turn (w .going) h o s run f in (beforeRefusal (t .0), rw (t .1, answers-said, e))

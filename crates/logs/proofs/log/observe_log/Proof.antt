@@ -26,7 +26,7 @@ returns : tie.Need-returns
 returns c =
     let a = c .before .before in
     let r = a .before .before .before in
-    log-refused _ _ (r .read-sheet .result) (r .read-sheet .ensures) (a .answer .given .1) (c .blank-monitor .result) _
+    log-refused _ _ (r .read-sheet .result) (r .read-sheet .ensures) (a .answer .given .1) (c .blank-monitor .ensures) _
 
 -- ---- the places: what was read, its plan, the rows begun
 abbrev read : tie.After-enum-told → tie.After-read-sheet

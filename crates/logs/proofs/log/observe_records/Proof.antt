@@ -1,11 +1,14 @@
 -- `observe_records` meets its contract. The invariant: what was said, and what the machine replies from here on, are its replies to the log, and the bytes of it stand in the buffer. Assumes nothing.
-use mathlib.Core.Path.{refl, _∙_}
+use mathlib.Core.Path.{refl, sym, _∙_, subst}
 use Prim.Native.Nat.{_-_}
 use native.Mathlib.Omega.{arith}
+use lib.IntN.{pos}
 use lib.ListN.{length}
 use borrow.Author.Needs.{needs}
 use Rattle.records.specs.Record.{TheRecord}
 use Rattle.records.proofs.record.Span.{the-record}
+use Rattle.remainders.specs.Unused.{BlankFrom}
+use Rattle.judge.specs.declared.progress.Progress.{Progress}
 use Rattle.logs.proofs.log.Laws.{Turns, writing-start, writing-more, written-end, written-refused}
 use Rattle.logs.proofs.log.observe_records.Statement.{statement}
 use Rattle.logs.proofs.log.observe_records.Tie as tie
@@ -19,7 +22,7 @@ abbrev μ-loop : tie.MeasureT-loop
 loop-holds : tie.Need-loop-holds Inv-loop μ-loop
 loop-holds c =
     let s = c .before .before in
-    record { few = omega arith; ends = omega arith; most = omega arith; size = refl; room = s .pre; writing = λ v ready. writing-start _ _ _ _; ready = λ v ready. ready }
+    record { few = omega arith; ends = omega arith; most = omega arith; size = refl; room = s .pre; writing = λ v ready. writing-start _ _ _ _; ready = λ v ready. ready; tags = λ v ready blank. blank }
 
 -- ---- the record at this place of the log
 module _ (c : tie.After-record-bytes Inv-loop μ-loop) where
@@ -43,6 +46,7 @@ returns c =
       size = w .size;
       follows = λ v ready. written-refused (w .writing v ready) (w .size) (here r) (o .observe-rows .ensures .called v (w .ready v ready)) (c .enum-told .given .1);
       ready = λ v ready. o .observe-rows .ensures .ready v (w .ready v ready);
+      tags = λ v ready blank. subst (λ (k : Progress). BlankFrom (v .clocks) (pos 0) (k .tags)) (sym (o .observe-rows .ensures .refused _ (c .enum-told .given .1) .0)) (w .tags v ready blank);
     }
 
 -- ---- an answer
@@ -70,12 +74,13 @@ loop-again c =
       room = o .observe-rows .ensures .room;
       writing = λ v ready. writing-more (w .writing v ready) (w .size) h (o .observe-rows .ensures .called v (w .ready v ready)) (p .before .before .before .said .given .1) (p .put-entry .ensures);
       ready = λ v ready. o .observe-rows .ensures .ready v (w .ready v ready);
+      tags = λ v ready blank. o .observe-rows .ensures .tags v (w .ready v ready) _ (p .before .before .before .said .given .1);
     }
 
 returns-2 : tie.Need-returns-2 Inv-loop μ-loop
 returns-2 c =
     let w = c .before .loop .inv in
-    record { room = w .room; size = w .size; follows = λ v ready. written-end (w .writing v ready) (w .size) (c .loop-test .left); ready = w .ready }
+    record { room = w .room; size = w .size; follows = λ v ready. written-end (w .writing v ready) (w .size) (c .loop-test .left); ready = w .ready; tags = w .tags }
 
 pub observe-records-spec : {M : Type 1} → statement M
 observe-records-spec =
