@@ -28,7 +28,7 @@ use Rattle.judge.specs.Limits.{monitorWithin}
 use Rattle.judge.specs.Monitor.{Accepts}
 use Rattle.lines.specs.Plan.{Planned}
 use Rattle.judge.specs.Stored.{FromRows}
-use Rattle.remainders.specs.Rows.{headRows, sides, rowCount, rowSet, rowLeads, rowStopped, RowsStay}
+use Rattle.remainders.specs.Rows.{headRows, sides, rowCount, rowSet, rowLeads, rowStopped, FlagsKept, RowsStay}
 use Rattle.judge.specs.Promises.{Called}
 use Rattle.step.specs.Fill.{Working, workedRows}
 
@@ -81,6 +81,7 @@ pub record Ready (s : Sheet) (k : Progress) (p : Plan) (lines rows : List ℕ) :
 pub record Moved (k next : Progress) (a b : List ℕ) : Type 0 where
   pub to : next .from ≡ sides - k .from
   pub stays : RowsStay (sides - k .from) (workedRows (k .count) (next .count)) a b
+  pub flags : FlagsKept a b
 
 -- rows to work in after an instant that was read, and, whatever the sheet, what is answered to it with room for so many remainders
 pub record Works (room : ℕ) (k : Progress) (p : Plan) (i : Instant) (lines : List ℕ) (t : InstantResult) (a b : List ℕ) (list : List Bool) : Type 0 where

@@ -2,3 +2,4 @@ pub mod Laws
 pub mod Storing
 pub mod Placing
 pub mod Reading
+pub mod Flags

@@ -15,7 +15,7 @@ use Rattle.work.specs.View.{usedPart}
 use Rattle.theory.specs.Adding.{addedTo, allAddedTo}
 use Rattle.work.specs.Carried.{either}
 use Rattle.remainders.specs.declared.obligation.Obligation as code
-use Rattle.remainders.specs.Word.{flagOf}
+use Rattle.remainders.specs.Word.{flagOf, flagWord}
 use Rattle.remainders.specs.View.{obligationOf, countdownOf, sameStored, blankObligation}
 use Rattle.remainders.specs.Unused.{BlankFrom}
 
@@ -134,6 +134,14 @@ pub record NothingInParts (rows : List ℕ) (i : ℕ) : Type 0 where
   -- places past a set's count
   pub places : (part j : ℕ) → part < parts → rowCount rows i part ≤ j → j < 8 → word rows i (partWords * part + 1 + j) ≡ 0
 
+-- behind the head each stopped clock's word is the one that its flag is stored as
+pub record FlagsStored (rows : List ℕ) : Type 0 where
+  pub flag : (h k : ℕ) → headRows ≤ h → h < height → k < 8 → word rows h (stoppedPart + k) ≡ flagWord (rowStop rows h k)
+
+-- and in b if in a
+abbrev pub FlagsKept : List ℕ → List ℕ → Type 0
+FlagsKept a b = FlagsStored a → FlagsStored b
+
 -- x, if there is one
 abbrev pub provided : {A : Type 0} → Bool → A → Option A
 provided there x = cond there (some x) none
@@ -223,3 +231,4 @@ pub record LeadsOn (leaders : ℕ) (gains losses : List ℕ) (i to : ℕ) (a b :
 pub record StoppedOn (stops : List Bool) (i to : ℕ) (a b : List ℕ) : Type 0 where
   pub stays : Stays to stoppedPart partsEnd a b
   pub stopped : rowStopped b to ≡ either (rowStopped a i) stops
+  pub flags : (k : ℕ) → k < 8 → word b to (stoppedPart + k) ≡ flagWord (rowStop b to k)

@@ -1,7 +1,7 @@
 // Words of 32 bits: what is stored in one and read back. Every word reads as something.
 ghost use mathlib.Core.Path.{_≡_};
 ghost use Prim.Native.Nat.{_/_, _%_, _≤_};
-ghost use Rattle.remainders.specs.Word.{flagOf};
+ghost use Rattle.remainders.specs.Word.{flagOf, flagWord};
 
 // How many values a byte has, and half a word.
 const BYTE: u32 = 256;
@@ -67,7 +67,7 @@ pub fn flag_in(w: u32) -> bool
 }
 
 pub fn flag_word(b: bool) -> u32
-    ensures { λ r. ⌜ flagOf r ≡ b ⌝ }
+    ensures { λ r. ⌜ r ≡ flagWord b ⌝ }
 {
     if b { 1 } else { 0 }
 }

@@ -18,7 +18,7 @@ use Rattle.lines.specs.declared.plan.Plan.{Plan}
 use Rattle.remainders.specs.declared.held.Status.{Status}
 use Rattle.remainders.specs.declared.held.Status.the-variants.{Exhausted, Live}
 use Rattle.lines.specs.Plan.{PlanFits, Planned}
-use Rattle.remainders.specs.Rows.{sides, secondSide, headRows, words, rowsOf, FewOwed, RowsStay}
+use Rattle.remainders.specs.Rows.{sides, secondSide, headRows, words, rowsOf, FewOwed, FlagsKept, RowsStay}
 use Rattle.step.specs.Filling.{GatheredFor}
 
 -- rows of a side: 32, and one to build the next in
@@ -65,6 +65,7 @@ pub record Applied (p : Plan) (f : Filling) (from to n found room : ℕ) (r : St
   pub more : found < builtRows r
   pub stays : RowsStay to (builtRows r) a b
   pub small : FewOwedIn r b to
+  pub flags : FlagsKept a b
   pub applied : (v : SheetValue) → GatheredFor v p f → T (all smallLeads (rowsOf v a from n)) → foundIn v r b to ≡ byFilling room v (f .tags) (rowsOf v a from n) (some (rowsOf v a to found)) (f .ticks)
 
 -- ---- all fillings of an instant, and the instant; what is found goes to the other side
@@ -87,4 +88,5 @@ pub record ApplyingAll (rows : List ℕ) (from n room : ℕ) (p : Plan) (m : ℕ
 pub record AppliedAll (lines : List ℕ) (p : Plan) (x : Conditions) (fillings : List (List Bool)) (from n : ℕ) (r : Status) (a b : List ℕ) : Type 0 where
   pub stays : RowsStay (sides - from) (builtRows r) a b
   pub small : FewOwedIn r b (sides - from)
+  pub flags : FlagsKept a b
   pub applied : (v : SheetValue) → Planned v p lines → T (all smallLeads (rowsOf v a from n)) → foundIn v r b (sides - from) ≡ takenBy (byFilling (x .room) v (x .tags) (rowsOf v a from n)) fillings (some [])

@@ -20,7 +20,7 @@ use Rattle.lines.specs.declared.plan.Plan.{Plan}
 use Rattle.remainders.specs.declared.held.Status.{Status}
 use Rattle.remainders.specs.View.{liveCount}
 use Rattle.lines.specs.Plan.{PlanFits, Planned}
-use Rattle.remainders.specs.Rows.{sides, words, RowsStay}
+use Rattle.remainders.specs.Rows.{sides, words, FlagsKept, RowsStay}
 use Rattle.step.specs.Apply.{Side, FewOwedIn, foundIn, builtRows}
 
 -- room for the fillings left, after the first n
@@ -55,6 +55,7 @@ workedRows count r = cond (eqb (liveCount count) 0) 0 (builtRows r)
 pub record Worked (lines : List ℕ) (p : Plan) (before : Before) (instant : Instant) (from : ℕ) (count : Status) (r : Status) (a b : List ℕ) (list : List Bool) : Type 0 where
   pub stays : RowsStay (sides - from) (workedRows count r) a b
   pub small : FewOwedIn r b (sides - from)
+  pub flags : FlagsKept a b
   pub lists : length list ≡ listSize
   pub works : (v : SheetValue) → Planned v p lines → T (all smallLeads (heldList (foundIn v count a from)))
       → foundIn v r b (sides - from) ≡ worked (before .room) v (tagsBefore (before .first) (before .tags)) (seenOf (v .clocks) (instant .ticks)) (instant .tags) (foundIn v count a from)

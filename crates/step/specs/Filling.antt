@@ -25,7 +25,7 @@ use Rattle.step.specs.declared.filling.Filling.{Filling}
 use Rattle.lines.specs.declared.plan.Plan.{Plan}
 use Rattle.remainders.specs.View.{countdownOf, firstOf}
 use Rattle.lines.specs.Plan.{PlanFits, Planned}
-use Rattle.remainders.specs.Rows.{width, rowOf, FewInRow, Between, Stays}
+use Rattle.remainders.specs.Rows.{width, rowOf, FewInRow, FlagsKept, Between, Stays}
 
 -- the instant, and what its delay lines and its counted lines begin
 abbrev pub filledInstant : Filling → Filled
@@ -73,4 +73,5 @@ pub record Advancing (rows : List ℕ) (i to : ℕ) (p : Plan) (f : Filling) : T
 pub record AdvancedRow (p : Plan) (f : Filling) (i to : ℕ) (r : Next) (a b : List ℕ) : Type 0 where
   pub stays : Stays to 0 width a b
   pub few : r ≡ Onto → FewInRow b to
+  pub flags : FlagsKept a b
   pub row : (v : SheetValue) → GatheredFor v p f → T (smallLeads (usedPart v (rowOf a i))) → nextOf v r b to ≡ advanced v (filledInstant f) (begunIn f) (usedPart v (rowOf a i))

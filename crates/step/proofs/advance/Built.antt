@@ -11,14 +11,15 @@ use Rattle.work.proofs.Listing.{listed-same}
 use Rattle.remainders.specs.declared.obligation.Obligation as code
 use Rattle.remainders.specs.Word.{flagOf}
 use Rattle.remainders.specs.View.{obligationOf, countdownOf}
-use Rattle.remainders.specs.Rows.{parts, leadsPart, stoppedPart, width, word, rowCount, rowSet, rowOwed, rowCountdowns, rowLead, rowStopped, FewInRow, Stays, PartStays, BegunRow, LeadsOn, StoppedOn}
+use Rattle.remainders.specs.Rows.{parts, leadsPart, stoppedPart, width, word, rowCount, rowSet, rowOwed, rowCountdowns, rowLead, rowStopped, FewInRow, FlagsKept, Stays, PartStays, BegunRow, LeadsOn, StoppedOn}
 use Rattle.step.specs.Left.{LeftRow}
+use Rattle.remainders.proofs.rows.Flags.{flags-stay, flags-on}
 use Rattle.remainders.proofs.rows.Laws.{stays-wide, stays-on, part-stays, count-same, set-same, set-words, few-words}
 
--- a part of row `to` was stored: the whole row is what changes, another part stays
+-- a part of row `to` was stored: the words before the leads are what changes, another part stays
 module _ {to : ℕ} (part : ℕ) {a b : List ℕ} (s : PartStays to part a b) (inside : part < parts) where
-  pub row-stays : Stays to 0 width a b
-  row-stays = stays-wide s 0 width (omega arith) (omega arith)
+  pub row-stays : Stays to 0 leadsPart a b
+  row-stays = stays-wide s 0 leadsPart (omega arith) (omega arith)
 
   pub other-count : (q : ℕ) → q < parts → (q ≡ part → ⊥) → rowCount b to q ≡ rowCount a to q
   other-count q h apart = count-same {h = to} {part = q} {a = a} {b = b} (part-stays s to q h (λ p x y e l m. apart (omega arith)))
@@ -27,19 +28,19 @@ module _ {to : ℕ} (part : ℕ) {a b : List ℕ} (s : PartStays to part a b) (i
   other-set q h apart few = set-same {h = to} {part = q} {a = a} {b = b} (part-stays s to q h (λ p x y e l m. apart (omega arith))) few
 
 -- so does another row
-pub set-stays : {i to : ℕ} {a b : List ℕ} → (i ≡ to → ⊥) → Stays to 0 width a b → (q : ℕ) → q < parts → rowCount a i q ≤ 8 → rowSet b i q ≡ rowSet a i q
+pub set-stays : {i to : ℕ} {a b : List ℕ} → (i ≡ to → ⊥) → Stays to 0 leadsPart a b → (q : ℕ) → q < parts → rowCount a i q ≤ 8 → rowSet b i q ≡ rowSet a i q
 set-stays {i} {to} {a} {b} apart s q h few = set-same {h = i} {part = q} {a = a} {b = b} (part-stays s i q h (λ p x y e l m. apart e)) few
 
-pub count-stays : {i to : ℕ} {a b : List ℕ} → (i ≡ to → ⊥) → Stays to 0 width a b → (q : ℕ) → q < parts → rowCount b i q ≡ rowCount a i q
+pub count-stays : {i to : ℕ} {a b : List ℕ} → (i ≡ to → ⊥) → Stays to 0 leadsPart a b → (q : ℕ) → q < parts → rowCount b i q ≡ rowCount a i q
 count-stays {i} {to} {a} {b} apart s q h = count-same {h = i} {part = q} {a = a} {b = b} (part-stays s i q h (λ p x y e l m. apart e))
 
 -- the sets of row `to` in turn: those left in it, then those begun
 module _ {i to : ℕ} (apart : i ≡ to → ⊥) {f : Filled} {k : Bool} {a b : List ℕ} (owed : LeftRow f 0 i to k a b) where
-  pub late-stays : Stays to 0 width a b
+  pub late-stays : Stays to 0 leadsPart a b
   late-stays = row-stays 0 (owed .stays) (omega arith)
 
   module _ {k₂ : Bool} {c : List ℕ} (counting : LeftRow f 1 i to k₂ b c) where
-    pub missed-stays : Stays to 0 width a c
+    pub missed-stays : Stays to 0 leadsPart a c
     missed-stays = stays-on late-stays (row-stays 1 (counting .stays) (omega arith))
 
     -- the countdowns of row i are read after its obligations
@@ -54,7 +55,7 @@ module _ {i to : ℕ} (apart : i ≡ to → ⊥) {f : Filled} {k : Bool} {a b : 
       left-kept = ap (map obligationOf) (other-set 1 (counting .stays) (omega arith) 0 (omega arith) (λ e. omega arith) (owed .few t))
 
     module _ (t₂ : k₂ ≡ true) {os : List code.Obligation} {o : Bool} {d : List ℕ} (begun : BegunRow to 0 os o c d) where
-      pub over-stays : Stays to 0 width a d
+      pub over-stays : Stays to 0 leadsPart a d
       over-stays = stays-on missed-stays (row-stays 0 (begun .stays) (omega arith))
 
       pub begun-count : rowCount d to 1 ≤ 8
@@ -64,7 +65,7 @@ module _ {i to : ℕ} (apart : i ≡ to → ⊥) {f : Filled} {k : Bool} {a b : 
       begun-kept = ap (map countdownOf) (other-set 0 (begun .stays) (omega arith) 1 (omega arith) (λ e. omega arith) (counting .few t₂))
 
       module _ {cs : List code.Obligation} {o₂ : Bool} {e : List ℕ} (counted : BegunRow to 1 cs o₂ d e) where
-        pub full-stays : Stays to 0 width a e
+        pub full-stays : Stays to 0 leadsPart a e
         full-stays = stays-on over-stays (row-stays 1 (counted .stays) (omega arith))
 
         pub counted-kept : rowOwed e to ≡ rowOwed d to
@@ -77,7 +78,10 @@ module _ {i to : ℕ} (apart : i ≡ to → ⊥) {f : Filled} {k : Bool} {a b : 
 
         module _ {leaders : ℕ} {gains losses : List ℕ} {g : List ℕ} (led : LeadsOn leaders gains losses i to e g) {stops : List Bool} {last : List ℕ} (stopped : StoppedOn stops i to g last) where
           pub built-stays : Stays to 0 width a last
-          built-stays = stays-on full-stays (stays-on (stays-wide (led .stays) 0 width (omega arith) (omega arith)) (stays-wide (stopped .stays) 0 width (omega arith) (omega arith)))
+          built-stays = stays-on (stays-wide full-stays 0 width (omega arith) (omega arith)) (stays-on (stays-wide (led .stays) 0 width (omega arith) (omega arith)) (stays-wide (stopped .stays) 0 width (omega arith) (omega arith)))
+
+          pub built-flags : FlagsKept a last
+          built-flags s = flags-on stopped (flags-stay (led .stays) (omega arith) (flags-stay full-stays (omega arith) s))
 
           same : (q : ℕ) → q < leadsPart → word last to q ≡ word e to q
           same q h = stopped .stays .same to q (omega arith) (λ e x y. omega arith) ∙ led .stays .same to q (omega arith) (λ e x y. omega arith)

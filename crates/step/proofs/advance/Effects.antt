@@ -12,6 +12,8 @@ use Rattle.records.proofs.Lists.{listed-cons, listed-end, length-listed}
 use Rattle.theory.specs.Step.{overlap}
 use Rattle.work.specs.Carried.{either}
 use Rattle.work.proofs.Listing.{listed-at}
+use Rattle.remainders.specs.Word.{flagOf, flagWord}
+use Rattle.remainders.proofs.rows.Flags.{flag-back, flag-stored}
 
 -- ---- a clock in both, from place k on
 module _ (xs : List Bool) (f : ℕ → Bool) (n k : ℕ) {whole : Bool} (w : whole ≡ overlap (drop k xs) (listedFrom f k (n - k))) where
@@ -63,3 +65,7 @@ either-yes b e s = rw (e, s)
 
 pub either-no : {a b c : Bool} → a ≡ false → c ≡ b → c ≡ (a || b)
 either-no e s = rw (e, s)
+
+-- stored, and read back
+pub either-stored : {w : ℕ} {b c : Bool} → b ≡ c → w ≡ flagWord b → (flagOf w ≡ c) × (w ≡ flagWord (flagOf w))
+either-stored {b = b} e s = (flag-back b s ∙ e, flag-stored b s)

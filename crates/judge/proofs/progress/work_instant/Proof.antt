@@ -26,7 +26,7 @@ returns c =
     let r = w .work-rows .ensures in
     record {
       working = record { size = r .stays .size ∙ p .size; side = other-side (p .side); small = r .small; plan = p .plan; lists = r .lists };
-      moved = record { to = refl; stays = r .stays };
+      moved = record { to = refl; stays = r .stays; flags = r .flags };
       answered = λ n f. answered-refused f;
       accepts = λ s ready.
           let m = rowsMonitor s k a in

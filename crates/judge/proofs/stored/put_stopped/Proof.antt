@@ -8,6 +8,7 @@ use lib.ListN.{getD}
 use borrow.Author.Needs.{needs}
 use Rattle.remainders.specs.Word.{flagOf}
 use Rattle.remainders.specs.Rows.{stoppedPart, partsEnd}
+use Rattle.remainders.proofs.rows.Flags.{flag-back}
 use Rattle.remainders.proofs.rows.Storing.{Storing, storing-start, storing-more}
 use Rattle.remainders.proofs.rows.Placing.{listed-is}
 use Rattle.judge.proofs.stored.put_stopped.Statement.{statement}
@@ -26,7 +27,7 @@ loop-again : tie.Need-loop-again Inv-loop μ-loop
 loop-again c =
     let at = c .before .before .before .before in
     let s = at .before .pre in
-    (omega arith, rw (c .put-word .ensures) (storing-more _ _ _ _ _ (at .loop .inv .1) (s .size) (s .row) (omega arith) (omega arith) _ (c .before .flag-word .ensures)))
+    (omega arith, rw (c .put-word .ensures) (storing-more _ _ _ _ _ (at .loop .inv .1) (s .size) (s .row) (omega arith) (omega arith) _ (flag-back _ (c .before .flag-word .ensures))))
 
 returns : tie.Need-returns Inv-loop μ-loop
 returns c =

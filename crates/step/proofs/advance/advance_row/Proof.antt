@@ -7,10 +7,11 @@ use lib.ListN.{length}
 use borrow.Author.Needs.{needs}
 use borrow.Author.Tests.{not-false}
 use Rattle.step.specs.declared.advance.Next.the-variants.{Fails, Over, Onto}
-use Rattle.remainders.specs.Rows.{words}
-use Rattle.remainders.proofs.rows.Laws.{stays-all}
+use Rattle.remainders.specs.Rows.{words, width}
+use Rattle.remainders.proofs.rows.Flags.{flags-stay}
+use Rattle.remainders.proofs.rows.Laws.{stays-all, stays-wide}
 use Rattle.step.proofs.advance.Row.{row-short, row-barred, row-late, row-missed, row-over, row-full, row-onto}
-use Rattle.step.proofs.advance.Built.{count-stays, late-stays, missed-stays, read-after, left-count, left-kept, over-stays, begun-count, begun-kept, full-stays, counted-kept, built-stays, built-few, built-owed, built-countdowns, built-leads, built-stopped}
+use Rattle.step.proofs.advance.Built.{count-stays, late-stays, missed-stays, read-after, left-count, left-kept, over-stays, begun-count, begun-kept, full-stays, counted-kept, built-stays, built-flags, built-few, built-owed, built-countdowns, built-leads, built-stopped}
 use Rattle.step.proofs.advance.advance_row.Statement.{statement}
 use Rattle.step.proofs.advance.advance_row.Tie as tie
 
@@ -53,6 +54,7 @@ returns c =
     let s = start h in
     record {
       stays = stays-all _ _ _ _;
+      flags = λ f. f;
       few = λ t. absurd (not-failed t);
       row = λ v asked small. row-short asked (s .args .rows .now) (s .args .i) (h .leads-hold .ensures) (c .if1 .taken);
     }
@@ -65,6 +67,7 @@ returns-2 c =
     let s = start h in
     record {
       stays = stays-all _ _ _ _;
+      flags = λ f. f;
       few = λ t. absurd (not-failed t);
       row = λ v asked small. row-barred asked (s .args .rows .now) (s .args .i) (h .leads-hold .ensures) (e .if1 .left) (b .is-barred .ensures) (c .if2 .taken);
     }
@@ -83,7 +86,8 @@ returns-3 c =
     let h = e .before in
     let s = start h in
     record {
-      stays = late-stays (s .pre .between .apart) (k .put-left .ensures);
+      stays = stays-wide (late-stays (s .pre .between .apart) (k .put-left .ensures)) 0 width (omega arith) (omega arith);
+      flags = flags-stay (late-stays (s .pre .between .apart) (k .put-left .ensures)) (omega arith);
       few = λ t. absurd (not-failed t);
       row = λ v asked small. row-late asked (s .args .rows .now) (s .args .i) (h .leads-hold .ensures) (e .if1 .left) (b .is-barred .ensures) (l .if2 .left) (k .put-left .ensures) (c .if3 .taken);
     }
@@ -119,7 +123,8 @@ returns-4 c =
     let ks = k .put-left .ensures in
     let ms = m .put-left2 .ensures in
     record {
-      stays = missed-stays (apart m) ks ms;
+      stays = stays-wide (missed-stays (apart m) ks ms) 0 width (omega arith) (omega arith);
+      flags = flags-stay (missed-stays (apart m) ks ms) (omega arith);
       few = λ t. absurd (not-failed t);
       row = λ v asked small. row-missed asked (s .args .rows .now) (s .args .i) (h .leads-hold .ensures) (e .if1 .left) (b .is-barred .ensures) (l .if2 .left) ks (late m .if3 .left) ms (read-after (apart m) ks ms (s .pre .few 1 (omega arith))) (left-kept (apart m) ks ms (kept m)) (c .if4 .taken);
     }
@@ -151,7 +156,8 @@ returns-5 c =
     let ns = n .begin-part .ensures in
     let t₂ = not-false _ (d .if4 .left) in
     record {
-      stays = over-stays (apart m) ks ms t₂ ns;
+      stays = stays-wide (over-stays (apart m) ks ms t₂ ns) 0 width (omega arith) (omega arith);
+      flags = flags-stay (over-stays (apart m) ks ms t₂ ns) (omega arith);
       few = λ t. absurd (not-over t);
       row = λ v asked small. row-over asked (s .args .rows .now) (s .args .i) (h .leads-hold .ensures) (e .if1 .left) (b .is-barred .ensures) (l .if2 .left) ks (late m .if3 .left) ms (read-after (apart m) ks ms (s .pre .few 1 (omega arith))) (left-kept (apart m) ks ms (kept m)) (d .if4 .left) ns (begun-kept (apart m) ks ms t₂ ns) (c .if5 .taken);
     }
@@ -183,7 +189,8 @@ returns-6 c =
     let qs = q .begin-part2 .ensures in
     let t₂ = not-false _ (d .if4 .left) in
     record {
-      stays = full-stays (apart m) ks ms t₂ ns qs;
+      stays = stays-wide (full-stays (apart m) ks ms t₂ ns qs) 0 width (omega arith) (omega arith);
+      flags = flags-stay (full-stays (apart m) ks ms t₂ ns qs) (omega arith);
       few = λ t. absurd (not-over t);
       row = λ v asked small. row-full asked (s .args .rows .now) (s .args .i) (h .leads-hold .ensures) (e .if1 .left) (b .is-barred .ensures) (l .if2 .left) ks (late m .if3 .left) ms (read-after (apart m) ks ms (s .pre .few 1 (omega arith))) (left-kept (apart m) ks ms (kept m)) (d .if4 .left) ns (begun-kept (apart m) ks ms t₂ ns) (o .if5 .left) qs (counted-kept (apart m) ks ms t₂ ns qs) (c .if6 .taken);
     }
@@ -233,6 +240,7 @@ returns-7 c =
     let t₂ = not-false _ (d .if4 .left) in
     record {
       stays = built-stays x ks ms t₂ ns qs gs cs;
+      flags = built-flags x ks ms t₂ ns qs gs cs;
       few = λ t. built-few x ks ms t₂ ns qs gs cs;
       row = λ v asked small. row-onto asked (s .args .rows .now) (s .args .i) (h .leads-hold .ensures) (e .if1 .left) (b .is-barred .ensures) (l .if2 .left) ks (late m .if3 .left) ms (read-after x ks ms (s .pre .few 1 (omega arith))) (left-kept x ks ms (kept m)) (d .if4 .left) ns (begun-kept x ks ms t₂ ns) (o .if5 .left) qs (counted-kept x ks ms t₂ ns qs) (r .if6 .left) small (c .stopped-on .last .0) (built-owed x ks ms t₂ ns qs gs cs) (built-countdowns x ks ms t₂ ns qs gs cs) (built-leads x ks ms t₂ ns qs gs cs (s .pre .plan .leaders)) (built-stopped x ks ms t₂ ns qs gs cs);
     }

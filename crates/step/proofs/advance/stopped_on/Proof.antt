@@ -7,15 +7,15 @@ use Prim.Native.Nat.{ℕ, _-_, _≤_}
 use native.Mathlib.Omega.{arith}
 use lib.ListN.{getD}
 use borrow.Author.Needs.{needs}
-use Rattle.remainders.specs.Word.{flagOf}
+use Rattle.remainders.specs.Word.{flagOf, flagWord}
 use Rattle.remainders.specs.Rows.{stoppedPart, partsEnd, rowStop}
 use Rattle.remainders.proofs.rows.Storing.{Storing, storing-start, storing-more}
-use Rattle.step.proofs.advance.Effects.{either-listed, either-yes, either-no}
+use Rattle.step.proofs.advance.Effects.{either-listed, either-yes, either-no, either-stored}
 use Rattle.step.proofs.advance.stopped_on.Statement.{statement}
 use Rattle.step.proofs.advance.stopped_on.Tie as tie
 
 abbrev Either : List ℕ → List Bool → ℕ → ℕ → ℕ → Type 0
-Either rows stops i k w = flagOf w ≡ (rowStop rows i k || getD stops k false)
+Either rows stops i k w = (flagOf w ≡ (rowStop rows i k || getD stops k false)) × (w ≡ flagWord (flagOf w))
 
 abbrev Inv-loop : tie.InvT-loop
 Inv-loop was i to stops k₀ rows k = (k ≤ 8) × Storing (Either was stops i) to stoppedPart partsEnd was rows k
@@ -36,10 +36,10 @@ loop-again c =
     let at = k .before .before .before .before in
     let s = at .before .pre in
     let e = ⊎-elim (λ w. either-yes _ (sym (read k) ∙ w .0 .taken) (w .1)) (λ w. either-no (sym (read k) ∙ w .0 .left) (w .1)) (j .if1 .came) in
-    (omega arith, rw (c .put-word .ensures) (storing-more _ _ _ _ _ (at .loop .inv .1) (s .size) (s .into) (omega arith) (omega arith) _ (c .before .flag-word .ensures ∙ e)))
+    (omega arith, rw (c .put-word .ensures) (storing-more _ _ _ _ _ (at .loop .inv .1) (s .size) (s .into) (omega arith) (omega arith) _ (either-stored e (c .before .flag-word .ensures))))
 
 returns : tie.Need-returns Inv-loop μ-loop
-returns c = let w = c .before .loop .inv .1 in record { stays = w .stays; stopped = either-listed _ _ 8 _ (λ k h. w .places k (omega arith)) }
+returns c = let w = c .before .loop .inv .1 in record { stays = w .stays; stopped = either-listed _ _ 8 _ (λ k h. w .places k (omega arith) .0); flags = λ k h. w .places k (omega arith) .1 }
 
 pub stopped-on-spec : {M : Type 1} → statement M
 stopped-on-spec =

@@ -22,7 +22,7 @@ use Rattle.step.specs.declared.advance.Next.{Next}
 use Rattle.step.specs.declared.advance.Next.the-variants.{Onto}
 use Rattle.step.specs.declared.filling.Filling.{Filling}
 use Rattle.lines.specs.declared.plan.Plan.{Plan}
-use Rattle.remainders.specs.Rows.{rowOf, rowsOf, FewOwed, RowsStay}
+use Rattle.remainders.specs.Rows.{rowOf, rowsOf, FewOwed, FlagsKept, RowsStay}
 use Rattle.step.specs.Filling.{filledInstant, begunIn, nextOf, GatheredFor}
 use Rattle.remainders.proofs.rows.Laws.{rows-stay-all, rows-stay-one, rows-stay-wide, rows-stay-on}
 use Rattle.remainders.proofs.rows.Laws.{few-words}
@@ -40,6 +40,7 @@ record Found (p : Plan) (f : Filling) (from to n found room : ℕ) (was rows : L
   more : found ≤ live
   stays : RowsStay to (live + 1) was rows
   small : FewOwed rows to live
+  flags : FlagsKept was rows
   applied : (v : SheetValue) → GatheredFor v p f → T (all smallLeads (rowsOf v was from n)) → byFilling room v (f .tags) (rowsOf v was from n) (some (rowsOf v was to found)) (f .ticks) ≡ allAdvanced room v (filledInstant f) (begunIn f) (rest v was from n k) (some (rowsOf v rows to live))
 
 abbrev Inv-loop : tie.InvT-loop
@@ -60,6 +61,7 @@ loop-holds c =
       more = omega arith;
       stays = rows-stay-all _ _ _;
       small = s .pre .smallFound;
+      flags = λ f. f;
       applied = λ v asked small. applied-start (s .args .room) v _ _ (asked .begins) _ (s .args .n) _;
     }
 
@@ -92,6 +94,9 @@ module _ (c : tie.After-advance-row Inv-loop μ-loop) where
   stays : RowsStay (start at .args .to) (at .loop .live + 1) (start at .args .rows .now) last
   stays = rows-stay-on (at .loop .inv .stays) (rows-stay-one (c .advance-row .ensures .stays) (start at .args .to) (at .loop .live + 1) (omega arith) (omega arith))
 
+  flags : FlagsKept (start at .args .rows .now) last
+  flags f = c .advance-row .ensures .flags (at .loop .inv .flags f)
+
   found : (v : SheetValue) → rowsOf v last (start at .args .to) (at .loop .live) ≡ rowsOf v (at .loop .rows) (start at .args .to) (at .loop .live)
   found v = listed-same (at .loop .live) (λ j l. ap (usedPart v) (row-stays (c .advance-row .ensures .stays) (start at .args .to + j) (at .loop .inv .small j l) (λ e. omega arith)))
 
@@ -119,6 +124,7 @@ loop-again c =
       more = w .more;
       stays = stays t;
       small = small t;
+      flags = flags t;
       applied = λ v asked leads. applied-fails _ _ _ _ (w .applied v asked leads) (next t v) (found t v) (became t (c .enum-told .given .1) v asked leads);
     }
 
@@ -130,6 +136,7 @@ returns c =
       more = omega (arith, w .more, w .fewer);
       stays = rows-stay-wide (stays t) 33 (omega (arith, w .fewer));
       small = tt;
+      flags = flags t;
       applied = λ v asked leads. applied-over _ _ _ _ (w .applied v asked leads) (next t v) (found t v) (became t (c .enum-told2 .given .1) v asked leads);
     }
 
@@ -162,6 +169,7 @@ loop-again-2 c =
       more = w .more;
       stays = stays t;
       small = small t;
+      flags = flags t;
       applied = λ v asked leads. applied-there _ _ _ _ (w .applied v asked leads) (next t v) (found t v) (became t (onto (c .before .before .before)) v asked leads) (m .ensures v (sym (asked .as-many)) (asked .leading)) (c .if1 .taken);
     }
 
@@ -175,6 +183,7 @@ returns-2 c =
       more = omega (arith, w .more, w .fewer);
       stays = rows-stay-wide (stays t) 33 (omega (arith, w .fewer));
       small = tt;
+      flags = flags t;
       applied = λ v asked leads. applied-full _ _ _ _ (w .applied v asked leads) (next t v) (found t v) (became t (onto (e .before .before .before)) v asked leads) (m .ensures v (sym (asked .as-many)) (asked .leading)) (e .if1 .left) (omega (arith, length-listed (λ j. usedPart v (rowOf (last t) (start (at t) .args .to + j))) (at t .loop .live)));
     }
 
@@ -191,6 +200,7 @@ loop-again-3 c =
       more = omega (arith, w .more);
       stays = rows-stay-wide (stays t) (live + 1 + 1) (omega arith);
       small = more (e .before .before .before);
+      flags = flags t;
       applied = λ v asked leads. rw (listed-snoc (λ j. usedPart v (rowOf (last t) (start (at t) .args .to + j))) live) (applied-more _ _ _ _ (w .applied v asked leads) (next t v) (found t v) (became t (onto (e .before .before .before)) v asked leads) (m .ensures v (sym (asked .as-many)) (asked .leading)) (e .if1 .left) (omega (arith, length-listed (λ j. usedPart v (rowOf (last t) (start (at t) .args .to + j))) live)));
     }
 
@@ -202,6 +212,7 @@ returns-3 c =
       more = omega (arith, w .more);
       stays = w .stays;
       small = (w .fewer, w .small);
+      flags = w .flags;
       applied = λ v asked leads. sym (w .applied v asked leads ∙ applied-end _ _ _ _ (listed-end _ (start at .args .n) (at .loop .k) (omega arith)));
     }
 

@@ -19,7 +19,7 @@ use Rattle.work.proofs.Listing.{listed-same}
 use Rattle.lines.specs.declared.plan.Plan.{Plan}
 use Rattle.remainders.specs.declared.held.Status.{Status}
 use Rattle.lines.specs.Plan.{Planned}
-use Rattle.remainders.specs.Rows.{rowsOf, FewOwed, RowsStay}
+use Rattle.remainders.specs.Rows.{rowsOf, FewOwed, FlagsKept, RowsStay}
 use Rattle.step.specs.Apply.{foundIn, FewOwedIn, builtRows}
 use Rattle.remainders.proofs.rows.Laws.{rows-stay-all, rows-stay-wide, rows-stay-on}
 use Rattle.step.proofs.apply.Laws.{held-few, held-row}
@@ -32,6 +32,7 @@ record Taken (room : ℕ) (lines : List ℕ) (p : Plan) (tags : List ℤ) (m : �
   fewer : live ≤ 32
   stays : RowsStay (45 - from) (live + 1) was rows
   small : FewOwed rows (45 - from) live
+  flags : FlagsKept was rows
   taken : (v : SheetValue) → Planned v p lines → T (all smallLeads (rowsOf v was from n))
       → takenBy (byFilling room v tags (rowsOf v was from n)) (fillingsIn list m) (some []) ≡ takenFrom room v tags (rowsOf v was from n) list m i (some (rowsOf v rows (45 - from) live))
 
@@ -53,6 +54,7 @@ loop-holds c =
       fewer = omega arith;
       stays = rows-stay-all _ _ _;
       small = λ k h. absurd (omega arith);
+      flags = λ f. f;
       taken = λ v planned leads. taken-start (a .conditions .room) v (a .conditions .tags) (rowsOf v (a .rows .now) (a .from) (a .n)) (a .list .now) (a .m);
     }
 
@@ -78,6 +80,9 @@ module _ (c : tie.After-apply-filling Inv-loop μ-loop) where
       let s = c .apply-filling .ensures in
       subst (λ (x : Status). RowsStay (45 - start at .args .from) (builtRows x) (start at .args .rows .now) last) e (rows-stay-on (rows-stay-wide (at .loop .inv .stays) (builtRows (c .apply-filling .result)) (omega (arith, s .more))) (s .stays))
 
+  flags : FlagsKept (start at .args .rows .now) last
+  flags f = c .apply-filling .ensures .flags (at .loop .inv .flags f)
+
   applied : (v : SheetValue) → Planned v (start at .args .plan) (start at .args .lines .now) → T (all smallLeads (rowsOf v (start at .args .rows .now) (start at .args .from) (start at .args .n)))
       → foundIn v (c .apply-filling .result) last (45 - start at .args .from) ≡ byFilling (start at .args .conditions .room) v (start at .args .conditions .tags) (rowsOf v (start at .args .rows .now) (start at .args .from) (start at .args .n)) (some (rowsOf v (at .loop .rows) (45 - start at .args .from) (at .loop .live))) (g .before .flags-at .result)
   applied v planned leads =
@@ -100,6 +105,7 @@ returns c =
     record {
       stays = stays t (c .enum-told .given .1);
       small = tt;
+      flags = flags t;
       applied = λ v planned leads. taken-over (start (at t) .args .conditions .room) v (start (at t) .args .conditions .tags) _ (start (at t) .args .list .now) (start (at t) .args .m) (at t .loop .i) _ (w .taken v planned leads) (omega arith) (g t .before .flags-at .ensures) (ap (λ (r : Status). foundIn v r (last t) (45 - start (at t) .args .from)) (sym (c .enum-told .given .1)) ∙ applied t v planned leads);
     }
 
@@ -114,6 +120,7 @@ loop-again c =
       fewer = s .0;
       stays = stays t (k .1);
       small = s .1;
+      flags = flags t;
       taken = λ v planned leads. taken-more (start (at t) .args .conditions .room) v (start (at t) .args .conditions .tags) _ (start (at t) .args .list .now) (start (at t) .args .m) (at t .loop .i) _ (w .taken v planned leads) (omega arith) (g t .before .flags-at .ensures) (ap (λ (r : Status). foundIn v r (last t) (45 - start (at t) .args .from)) (sym (k .1)) ∙ applied t v planned leads);
     }
 
@@ -121,7 +128,7 @@ returns-2 : tie.Need-returns-2 Inv-loop μ-loop
 returns-2 c =
     let at = c .before in
     let w = at .loop .inv in
-    record { stays = w .stays; small = (w .fewer, w .small); applied = λ v planned leads. taken-end (start at .args .conditions .room) v (start at .args .conditions .tags) _ (start at .args .list .now) (start at .args .m) (at .loop .i) _ (w .taken v planned leads) (omega arith) }
+    record { stays = w .stays; small = (w .fewer, w .small); flags = w .flags; applied = λ v planned leads. taken-end (start at .args .conditions .room) v (start at .args .conditions .tags) _ (start at .args .list .now) (start at .args .m) (at .loop .i) _ (w .taken v planned leads) (omega arith) }
 
 pub apply-all-spec : {M : Type 1} → statement M
 apply-all-spec =

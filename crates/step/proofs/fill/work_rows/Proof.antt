@@ -60,6 +60,7 @@ returns c =
     record {
       stays = rows-stay-all _ _ _;
       small = (omega arith, λ j l. absurd (omega arith));
+      flags = λ f. f;
       lists = s .pre .0 .lists;
       works = λ v planned leads. work-broken (a .before .room) v _ _ _ (a .count) (a .rows .now) (a .from) (counted k) (c .if1 .taken) (a .rows .now) (45 - a .from);
     }
@@ -77,6 +78,7 @@ returns-2 c =
     record {
       stays = rows-stay-all _ _ _;
       small = (omega arith, λ j l. absurd (omega arith));
+      flags = λ f. f;
       lists = s .pre .0 .lists;
       works = λ v planned leads. work-no (a .before .room) v _ _ _ (a .count) (a .rows .now) (a .from) (counted k) (e .if1 .left) (planned .as-many) (planned .relations) (t .tags-fit .ensures) (not-true _ (c .if2 .taken)) (a .rows .now) (45 - a .from);
     }
@@ -105,7 +107,7 @@ returns-3 : tie.Need-returns-3
 returns-3 c =
     let s = c .before .before in
     let a = s .args in
-    record { stays = rows-stay-all _ _ _; small = tt; lists = s .pre .0 .lists; works = λ v planned leads. work-exhausted (a .before .room) v _ _ _ (a .count) (a .rows .now) (a .from) (c .enum-told .given .1) }
+    record { stays = rows-stay-all _ _ _; small = tt; flags = λ f. f; lists = s .pre .0 .lists; works = λ v planned leads. work-exhausted (a .before .room) v _ _ _ (a .count) (a .rows .now) (a .from) (c .enum-told .given .1) }
 
 returns-4 : tie.Need-returns-4
 returns-4 c =
@@ -120,6 +122,7 @@ returns-4 c =
     record {
       stays = worked-stays (counted k) (e .if1 .left) (c .apply-all .result) (r .stays);
       small = r .small;
+      flags = r .flags;
       lists = l .fill .ensures .size;
       works = λ v planned long. work-yes (a .before .room) v _ _ _ (a .count) (a .rows .now) (a .from) (counted k) (e .if1 .left) (planned .as-many) (planned .relations) (t .tags-fit .ensures) (not-false _ (x .if2 .left))
           (f .flag-rows .ensures ∙ ap (flagged (rowsClocks (a .rows .now) (a .from) (n k))) (planned .named)) (planned .rules) (a .list .now) (l .fill .ensures .listed) (r .applied v planned (leads k v long));
