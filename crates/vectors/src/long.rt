@@ -1,9 +1,10 @@
 // A record whose length is 65,535, after the clocks record of a sheet of one clock.
-use crate::instants::read_case as instant_case;
-use crate::places::record_case;
-use crate::sheets::read_case as sheet_case;
+use crate::instant_row::read_case;
+use crate::place_row::record_case;
+use crate::sheet_row::shown;
 use crate::tape::front;
 use crate::text::heading;
+use records::sheet::read_sheet;
 
 // The record stands at byte 5; the bytes end with it.
 fn cases(bytes: &[u8]) {
@@ -11,13 +12,14 @@ fn cases(bytes: &[u8]) {
     if end < 6 {
         return;
     }
-    let short = end - 1;
+    let less = end - 1;
+    let short = front(bytes, less);
     record_case(b"whole", bytes, 5);
-    record_case(b"a byte short", front(bytes, short), 5);
-    sheet_case(b"as a line", bytes);
-    sheet_case(b"as a line, a byte short", front(bytes, short));
-    instant_case(b"as an instant", &bytes[5..], 1);
-    instant_case(b"as an instant, a byte short", &bytes[5..short], 1);
+    record_case(b"a byte short", short, 5);
+    shown(b"as a line", read_sheet(bytes), bytes);
+    shown(b"as a line, a byte short", read_sheet(short), short);
+    read_case(b'i', b"as an instant", &bytes[5..], 1);
+    read_case(b'i', b"as an instant, a byte short", &bytes[5..less], 1);
 }
 
 pub fn all() {

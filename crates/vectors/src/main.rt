@@ -1,15 +1,20 @@
 // Document 01's listing and edge vectors, read and written by `records`: a row per case, its name and what came out.
+mod cell_row;
 mod counting;
+mod fields;
+mod instant_row;
 mod instant_values;
 mod instants;
 mod long;
 mod numbered;
-mod order_table;
+mod place_row;
 mod places;
 mod room;
+mod rows;
 mod sheet_lines;
 mod sheet_order;
 mod sheet_refusals;
+mod sheet_row;
 mod sheet_tables;
 mod sheet_values;
 mod sheets;
@@ -20,6 +25,7 @@ mod text;
 mod unordered;
 mod value_order;
 mod values;
+mod write_row;
 
 fn main() {
     tags::all();
@@ -28,7 +34,6 @@ fn main() {
     sheet_refusals::all();
     sheet_tables::all();
     sheet_order::all();
-    order_table::all();
     unordered::all();
     sheet_values::all();
     value_order::all();

@@ -1,84 +1,134 @@
-// Sheet values, put together.
+// Sheet values and instant values, put together from bytes.
+use crate::tape::behind;
+use crate::tape::byte_at;
+use crate::text::wide;
+use records::form::Form;
+use records::instant::Instant;
+use records::instant::Tick;
+use records::instant::TickSlot;
 use records::line::Line;
 use records::line::Slot;
 use records::sheet::Sheet;
 use records::word::tag_of;
-ghost use Prim.Native.Nat.{_<_};
 
-// A sheet whose line places all hold one line; the first `count` are its lines.
-pub fn sheet_of(clocks: u8, count: usize, line: Line) -> Sheet {
-    let lines = [Slot { line }; 16];
+// Where the lines of a sheet value begin, and the clocks of an instant value.
+const LINES: usize = 2;
+
+const CLOCKS: usize = 4;
+
+// The number of the bytes at a place and behind it, the low one first.
+fn word_at(bytes: &[u8], at: usize) -> u16 {
+    let rest = behind(bytes, at);
+    (byte_at(rest, 0) as u16) + (byte_at(rest, 1) as u16) * 256
+}
+
+// How many bytes the body of a line of a kind has.
+pub fn body_length(kind: u8) -> usize {
+    match kind {
+        16 => 4,
+        17 => 6,
+        20 => 5,
+        24 => 4,
+        _ => 2,
+    }
+}
+
+// The line of a kind and a body.
+fn line_of(line: &[u8]) -> Line {
+    let a = byte_at(line, 1);
+    let b = byte_at(line, 2);
+    let d = byte_at(line, 3);
+    let word = word_at(line, 3);
+    match byte_at(line, 0) {
+        16 => Line::Sporadic {
+            a,
+            b,
+            t: tag_of(word),
+        },
+        17 => Line::Relation {
+            a,
+            b,
+            p: tag_of(word),
+            q: tag_of(word_at(line, 5)),
+        },
+        18 => Line::Implies { a, b },
+        19 => Line::Excludes { a, b },
+        20 => Line::Delayed {
+            a,
+            b,
+            d,
+            by: word_at(line, 4),
+        },
+        21 => Line::Weakly { a, b },
+        22 => Line::Strictly { a, b },
+        23 => Line::Kills { a, b },
+        _ => Line::Counted {
+            a,
+            b,
+            d,
+            n: byte_at(line, 4),
+        },
+    }
+}
+
+// Where the line behind the one at a place begins; behind the last it is the first again.
+fn next_line(bytes: &[u8], at: usize) -> usize {
+    if bytes.len() <= at {
+        return LINES;
+    }
+    let next = std::num::wrapping_add_usize(at + 1, body_length(bytes[at]));
+    if bytes.len() <= next {
+        return LINES;
+    }
+    next
+}
+
+// A sheet value: its clock count, its line count, and the lines at its places, each by its kind and its body.
+pub fn sheet_of(bytes: &[u8]) -> Sheet {
+    let line = line_of(behind(bytes, LINES));
+    let mut lines = [Slot { line }; 16];
+    let mut at = LINES;
+    let mut i = 0;
+    while i < 16 {
+        let line = line_of(behind(bytes, at));
+        lines[i] = Slot { line };
+        at = next_line(bytes, at);
+        i += 1;
+    }
     Sheet {
-        clocks,
-        count,
+        clocks: byte_at(bytes, 0),
+        count: wide(byte_at(bytes, 1)),
         lines,
     }
 }
 
-// A sheet with another line at a place.
-pub fn with_line(s: Sheet, at: usize, line: Line) -> Sheet
-    requires { ⌜ at < 16 ⌝ }
-{
-    let mut next = s;
-    next.lines[at] = Slot { line };
-    next
-}
-
-// A sheet of two clocks and two lines.
-pub fn two_lines(first: Line, second: Line) -> Sheet {
-    with_line(sheet_of(2, 2, first), 1, second)
-}
-
-// A sheet of two clocks and three lines.
-pub fn three_lines(first: Line, second: Line, third: Line) -> Sheet {
-    with_line(with_line(sheet_of(2, 3, first), 1, second), 2, third)
-}
-
-pub fn sporadic(a: u8, b: u8, t: i16) -> Line {
-    Line::Sporadic { a, b, t }
-}
-
-pub fn relation(a: u8, b: u8, p: i16, q: i16) -> Line {
-    Line::Relation { a, b, p, q }
-}
-
-pub fn delayed(a: u8, b: u8, d: u8, by: u16) -> Line {
-    Line::Delayed { a, b, d, by }
-}
-
-pub fn counts(a: u8, b: u8, d: u8, n: u8) -> Line {
-    Line::Counted { a, b, d, n }
-}
-
-pub fn implies(a: u8, b: u8) -> Line {
-    Line::Implies { a, b }
-}
-
-// The line at a place below 16, implies or sporadic, each above the one before it; of a sporadic line the high byte of t rises.
-fn rising_at(i: usize, is_sporadic: bool) -> Line {
-    if is_sporadic {
-        return sporadic(0, 1, tag_of((i % 16 * 256) as u16));
+fn tick_of(x: u8) -> Tick {
+    match x {
+        0 => Tick::Idle,
+        1 => Tick::Ticks,
+        _ => Tick::Unseen,
     }
-    implies((i / 8 % 8) as u8, (i % 8) as u8)
 }
 
-// A sheet of eight clocks whose line places hold lines in rising order; the first `count` are its lines.
-fn rising_lines(count: usize, is_sporadic: bool) -> Sheet {
-    let mut s = sheet_of(8, count, implies(0, 0));
+fn form_of(kind: u8, number: u16) -> Form {
+    match kind {
+        32 => Form::Plain,
+        _ => Form::Numbered(number),
+    }
+}
+
+// An instant value behind the clock count that it is written with: its kind, its number, and the tick and the tag of each clock.
+pub fn instant_of(bytes: &[u8]) -> Instant {
+    let form = form_of(byte_at(bytes, 1), word_at(bytes, 2));
+    let mut ticks = [TickSlot { tick: Tick::Idle }; 8];
+    let mut tags = [0i16; 8];
     let mut i = 0;
-    while i < 16 {
-        s = with_line(s, i, rising_at(i, is_sporadic));
+    while i < 8 {
+        let cell = behind(bytes, CLOCKS + 3 * i);
+        let tick = tick_of(byte_at(cell, 0));
+        ticks[i] = TickSlot { tick };
+        tags[i] = tag_of(word_at(cell, 1));
         i += 1;
     }
-    s
-}
-
-// Implies lines.
-pub fn rising(count: usize) -> Sheet {
-    rising_lines(count, false)
-}
-
-// Sporadic lines.
-pub fn rising_sporadic(count: usize) -> Sheet {
-    rising_lines(count, true)
+    Instant { form, ticks, tags }
 }

@@ -1,8 +1,8 @@
--- `vectors::instants::clocks_of` is safe and ends: each turn leaves one clock less. Assumes nothing.
+-- `vectors::instant_row::clocks_of` is safe and ends: each turn leaves one clock less. Assumes nothing.
 use borrow.Author.Needs.{needs}
 use Prim.Native.Nat.{_-_}
-use Rattle.vectors.proofs.instants.clocks_of.Statement.{statement}
-use Rattle.vectors.proofs.instants.clocks_of.Tie as tie
+use Rattle.vectors.proofs.instant_row.clocks_of.Statement.{statement}
+use Rattle.vectors.proofs.instant_row.clocks_of.Tie as tie
 
 abbrev Inv-loop : tie.InvT-loop
 Inv-loop v clocks i₀ i = Unit
