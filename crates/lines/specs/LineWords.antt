@@ -2,12 +2,13 @@
 use mathlib.Core.Bool.{cond}
 use mathlib.Core.List.{List}
 use mathlib.Core.Path.{_≡_}
-use Prim.Native.Nat.{ℕ, _+_, _%_, _≤_}
+use Prim.Native.Nat.{ℕ, _+_, _≤_}
 use lib.Dec.{eqb}
 use lib.ListN.{getD}
 use Rattle.records.specs.declared.line.Line.{Line}
 use Rattle.records.specs.declared.line.Line.the-variants.{Sporadic, Relation, Implies, Excludes, Delayed, Weakly, Strictly, Kills, Counted}
 use Rattle.records.specs.Word.{tagOf, rawOf}
+use Rattle.remainders.specs.Word.{byteIn, numberIn}
 use Rattle.lines.specs.declared.line_words.LineWords.{LineWords}
 
 -- six words; those from place i on
@@ -27,11 +28,11 @@ lineBy kind a b d x y =
     (cond (eqb kind 20) (Delayed a b d x)
     (cond (eqb kind 21) (Weakly a b)
     (cond (eqb kind 22) (Strictly a b)
-    (cond (eqb kind 24) (Counted a b d (x % 256)) (Kills a b))))))))
+    (cond (eqb kind 24) (Counted a b d (byteIn x)) (Kills a b))))))))
 
 -- of a clock and of a count the last byte counts, of a kind and another number the last two
 abbrev pub lineOfWords : LineWords → Line
-lineOfWords w = lineBy (w .kind % 65536) (w .a % 256) (w .b % 256) (w .d % 256) (w .x % 65536) (w .y % 65536)
+lineOfWords w = lineBy (numberIn (w .kind)) (byteIn (w .a)) (byteIn (w .b)) (byteIn (w .d)) (numberIn (w .x)) (numberIn (w .y))
 
 -- a line's words; those it does without are 0
 abbrev pub wordsOf : Line → LineWords

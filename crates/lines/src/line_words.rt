@@ -5,8 +5,8 @@ use records::word::raw_of;
 use records::word::tag_of;
 use remainders::word::byte_in;
 use remainders::word::number_in;
-ghost use Prim.Native.Nat.{_%_};
 ghost use mathlib.Core.Path.{_≡_};
+ghost use Rattle.remainders.specs.Word.{byteIn};
 ghost use Rattle.lines.specs.LineWords.{lineBy, lineOfWords, wordsBy, WordsOf};
 
 // Words that a line does without are 0.
@@ -26,9 +26,9 @@ pub struct LineWords {
 
 // Of the number of a counted line the last byte counts.
 fn count_of(x: u16) -> u8
-    ensures { λ r. ⌜ r ≡ x % 256 ⌝ }
+    ensures { λ r. ⌜ r ≡ byteIn x ⌝ }
 {
-    (x % 256) as u8
+    byte_in(x as u32)
 }
 
 // The line of a kind, with its clocks A, B and D and two numbers; an unknown kind is kills.

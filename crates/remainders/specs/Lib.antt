@@ -1,5 +1,5 @@
 -- What the contracts of the functions on remainders cite.
--- what a word is read as: `dueOf`, `flagOf`
+-- what a word is read as: `byteIn`, `numberIn`, `dueOf`, `flagOf`
 pub mod Word
 -- the code's structs as tesl's values
 pub mod View

@@ -3,7 +3,7 @@ use mathlib.Core.Bool.{Bool, cond}
 use mathlib.Core.List.{List, [], _∷_, map}
 use mathlib.Core.Option.{Option, none, some}
 use mathlib.Core.Path.{_≡_}
-use Prim.Native.Nat.{ℕ, _+_, _*_, _/_, _%_, _-_, _≤_, _<_}
+use Prim.Native.Nat.{ℕ, _+_, _*_, _-_, _≤_, _<_}
 use lib.Dec.{eqb}
 use lib.ListN.{length, getD, take}
 use Rattle.records.specs.Lists.{listed}
@@ -15,7 +15,7 @@ use Rattle.work.specs.View.{usedPart}
 use Rattle.theory.specs.Adding.{addedTo, allAddedTo}
 use Rattle.work.specs.Carried.{either}
 use Rattle.remainders.specs.declared.obligation.Obligation as code
-use Rattle.remainders.specs.Word.{flagOf, flagWord}
+use Rattle.remainders.specs.Word.{halfValues, byteIn, nextByteIn, upperIn, flagOf, flagWord}
 use Rattle.remainders.specs.View.{obligationOf, countdownOf, sameStored, blankObligation}
 use Rattle.remainders.specs.Unused.{BlankFrom}
 
@@ -68,7 +68,7 @@ rowCount rows i part = word rows i (partWords * part)
 
 -- what a word is read as: the clock, the on-clock and the number in its upper half
 abbrev pub storedIn : ℕ → code.Obligation
-storedIn w = record { clock = w % 256; on = w / 256 % 256; number = w / 65536 }
+storedIn w = record { clock = byteIn w; on = nextByteIn w; number = upperIn w }
 
 abbrev pub rowObligation : List ℕ → ℕ → ℕ → ℕ → code.Obligation
 rowObligation rows i part j = storedIn (word rows i (partWords * part + 1 + j))
@@ -225,7 +225,7 @@ pub record BegunRow (i part : ℕ) (os : List code.Obligation) (r : Bool) (a b :
 -- leads with what precedes lines gain and without what they lose, where they are small
 pub record LeadsOn (leaders : ℕ) (gains losses : List ℕ) (i to : ℕ) (a b : List ℕ) : Type 0 where
   pub stays : Stays to leadsPart stoppedPart a b
-  pub leads : (k : ℕ) → k < leaders → rowLead a i k < 65536 → rowLead b to k ≡ rowLead a i k + getD gains k 0 - getD losses k 0
+  pub leads : (k : ℕ) → k < leaders → rowLead a i k < halfValues → rowLead b to k ≡ rowLead a i k + getD gains k 0 - getD losses k 0
 
 -- the stopped clocks of row i, with more
 pub record StoppedOn (stops : List Bool) (i to : ℕ) (a b : List ℕ) : Type 0 where

@@ -1,6 +1,6 @@
 -- A line's words are read as the line, where its fields are within their types. Assumes nothing.
 use mathlib.Core.Path.{_≡_, ap, _∙_}
-use Prim.Native.Nat.{ℕ, _%_, _≤_}
+use Prim.Native.Nat.{ℕ, _≤_}
 use native.Mathlib.Omega.{arith}
 use lib.IntN.{ℤ, pos, negsuc}
 use Rattle.records.specs.declared.line.Line.{Line}
@@ -8,16 +8,17 @@ use Rattle.records.specs.declared.line.Line.the-variants.{Sporadic, Relation, I
 use Rattle.records.specs.Types.{IsByte, IsWord, IsTag, IsLineValue}
 use Rattle.records.specs.Word.{unsigned, tagOf, rawOf}
 use Rattle.records.proofs.word.Inverse.{tag-raw}
+use Rattle.remainders.specs.Word.{byteIn, numberIn}
 use Rattle.lines.specs.declared.line_words.LineWords.{LineWords}
 use Rattle.lines.specs.LineWords.{lineBy, lineOfWords, wordsOf, WordsOf}
 
-clock-back : {c : ℕ} → IsByte c → c % 256 ≡ c
+clock-back : {c : ℕ} → IsByte c → byteIn c ≡ c
 clock-back h = omega arith
 
-count-back : {n : ℕ} → IsByte n → n % 65536 % 256 ≡ n
+count-back : {n : ℕ} → IsByte n → byteIn (numberIn n) ≡ n
 count-back h = omega arith
 
-number-back : {n : ℕ} → IsWord n → n % 65536 ≡ n
+number-back : {n : ℕ} → IsWord n → numberIn n ≡ n
 number-back h = omega arith
 
 raw-range : (t : ℤ) → IsTag t → IsWord (rawOf t)
@@ -25,7 +26,7 @@ unfolding unsigned
 raw-range (pos n) h = omega arith
 raw-range (negsuc n) h = omega arith
 
-tag-back : (t : ℤ) → IsTag t → tagOf (rawOf t % 65536) ≡ t
+tag-back : (t : ℤ) → IsTag t → tagOf (numberIn (rawOf t)) ≡ t
 tag-back t h = ap tagOf (number-back (raw-range t h)) ∙ tag-raw h
 
 back : (l : Line) → IsLineValue l → lineOfWords (wordsOf l) ≡ l

@@ -2,11 +2,12 @@
 use mathlib.Core.Bool.{Bool, true, false, not}
 use mathlib.Core.List.{List}
 use mathlib.Core.Path.{_≡_, sym, _∙_}
-use Prim.Native.Nat.{ℕ, _+_, _*_, _%_}
+use Prim.Native.Nat.{ℕ, _+_, _*_}
 use borrow.Author.Tests.{not-true, not-false}
 use Rattle.records.specs.declared.line.Line.{Line}
 use Rattle.work.specs.Questions.{ticksHold}
 use Rattle.work.specs.Rules.{isSettled, forbids}
+use Rattle.remainders.specs.Word.{byteIn, numberIn}
 use Rattle.lines.specs.declared.rules.Rule.{Rule}
 use Rattle.lines.specs.LineWords.{lineBy, wordsAt}
 use Rattle.lines.specs.Plan.{lineWidth, planLine, rulesFrom, RuleWords}
@@ -20,11 +21,11 @@ abbrev pub ruleLine : {lines : List ℕ} {j : ℕ} (r : Rule) → RuleWords line
 ruleLine r w = lineBy (r .kind) (r .a) (r .b) (w .d) (w .x) (w .y)
 
 -- three of its six words
-pub rule-words : (lines : List ℕ) (j : ℕ) (r : Rule) → r .kind ≡ wordsAt lines (lineWidth * j) .kind % 65536 → r .a ≡ wordsAt lines (lineWidth * j) .a % 256
-    → r .b ≡ wordsAt lines (lineWidth * j) .b % 256 → RuleWords lines j r
+pub rule-words : (lines : List ℕ) (j : ℕ) (r : Rule) → r .kind ≡ numberIn (wordsAt lines (lineWidth * j) .kind) → r .a ≡ byteIn (wordsAt lines (lineWidth * j) .a)
+    → r .b ≡ byteIn (wordsAt lines (lineWidth * j) .b) → RuleWords lines j r
 rule-words lines j r e f g =
     let w = wordsAt lines (lineWidth * j) in
-    record { d = w .d % 256; x = w .x % 65536; y = w .y % 65536; line = rw (e, f, g) }
+    record { d = byteIn (w .d); x = numberIn (w .x); y = numberIn (w .y); line = rw (e, f, g) }
 
 -- ---- whether a rule forbids the ticks
 module _ (k : ℕ) (ticks : List Bool) (l : Line) {settled : Bool} (e : settled ≡ isSettled k l) where
