@@ -27,6 +27,7 @@ ghost use Rattle.records.specs.Lists.{listed};
 ghost use Rattle.tesl.specs.Lists.{below};
 ghost use Rattle.theory.specs.Step.{overlap};
 ghost use Rattle.work.specs.View.{filledOf};
+ghost use Rattle.remainders.specs.Word.{halfValues};
 ghost use Rattle.remainders.specs.Rows.{height, parts, rowCount, rowLead, rowStop, Row, Between, AddedRow, BegunRow, LeadsOn, StoppedOn};
 ghost use Rattle.step.specs.Left.{LeftRow};
 ghost use Rattle.step.specs.Filling.{Advancing, AdvancedRow};
@@ -170,11 +171,14 @@ fn begin_part(
     begin_row(rows, i, part, first, n, begun)
 }
 
+// The largest lead.
+const MOST_LEAD: u32 = 65535;
+
 // A lead that would fall below 0 stays 0, and so does one that is no lead.
 fn moved(lead: u32, gain: u16, loss: u16) -> u32
-    ensures { λ r. ⌜ (lead < 65536 → r ≡ lead + gain - loss) ⌝ }
+    ensures { λ r. ⌜ (lead < halfValues → r ≡ lead + gain - loss) ⌝ }
 {
-    if 65535 < lead {
+    if MOST_LEAD < lead {
         return 0;
     }
     let up = lead + (gain as u32);

@@ -9,7 +9,7 @@ use Rattle.tesl.specs.Run.{Filled}
 use Rattle.work.specs.Carried.{either}
 use Rattle.work.proofs.Listing.{listed-same}
 use Rattle.remainders.specs.declared.obligation.Obligation as code
-use Rattle.remainders.specs.Word.{flagOf}
+use Rattle.remainders.specs.Word.{halfValues, flagOf}
 use Rattle.remainders.specs.View.{obligationOf, countdownOf}
 use Rattle.remainders.specs.Rows.{parts, leadsPart, stoppedPart, width, word, rowCount, rowSet, rowOwed, rowCountdowns, rowLead, rowStopped, FewInRow, FlagsKept, Stays, PartStays, BegunRow, LeadsOn, StoppedOn}
 use Rattle.step.specs.Left.{LeftRow}
@@ -98,7 +98,7 @@ module _ {i to : ℕ} (apart : i ≡ to → ⊥) {f : Filled} {k : Bool} {a b : 
           lead : (j : ℕ) → j < leaders → leaders ≤ 16 → rowLead e i j ≡ rowLead a i j
           lead j h l = full-stays .same i (leadsPart + j) (omega arith) (λ e. absurd (apart e))
 
-          pub built-leads : leaders ≤ 16 → (j : ℕ) → j < leaders → rowLead a i j < 65536 → rowLead last to j ≡ rowLead a i j + getD gains j 0 - getD losses j 0
+          pub built-leads : leaders ≤ 16 → (j : ℕ) → j < leaders → rowLead a i j < halfValues → rowLead last to j ≡ rowLead a i j + getD gains j 0 - getD losses j 0
           built-leads l j h s =
               stopped .stays .same to (leadsPart + j) (omega arith) (λ e x y. omega arith) ∙ led .leads j h (rw (lead j h l) s) ∙ rw (lead j h l)
 

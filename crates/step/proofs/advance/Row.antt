@@ -29,6 +29,7 @@ use Rattle.work.proofs.Listing.{listed-at}
 use Rattle.work.proofs.Carried.{sheetLine, small-lead, carried-holds, carried-stopped, carried-leads}
 use Rattle.step.specs.declared.filling.Filling.{Filling}
 use Rattle.lines.specs.declared.plan.Plan.{Plan}
+use Rattle.remainders.specs.Word.{halfValues}
 use Rattle.remainders.specs.Rows.{rowSet, rowOwed, rowCountdowns, rowLead, rowLeads, rowStop, rowStopped, rowOf, provided, BegunRow}
 use Rattle.step.specs.Left.{LeftRow}
 use Rattle.remainders.specs.View.{obligationOf, countdownOf}
@@ -124,7 +125,7 @@ module _ {v : SheetValue} {p : Plan} {f : Filling} (a : GatheredFor v p f) (rows
 
               -- the row goes on to row j, where that is what it owes
               pub row-onto : not o₂ ≡ false → T (smallLeads row) → (rs : List ℕ) → rowOwed rs to ≡ rowOwed last to → rowCountdowns rs to ≡ rowCountdowns last to
-                  → ((k : ℕ) → k < p .leaders → rowLead rows i k < 65536 → rowLead rs to k ≡ rowLead rows i k + getD (f .gains) k 0 - getD (f .losses) k 0) → rowStopped rs to ≡ either (rowStopped rows i) (f .stops)
+                  → ((k : ℕ) → k < p .leaders → rowLead rows i k < halfValues → rowLead rs to k ≡ rowLead rows i k + getD (f .gains) k 0 - getD (f .losses) k 0) → rowStopped rs to ≡ either (rowStopped rows i) (f .stops)
                   → onto (usedPart v (rowOf rs to)) ≡ became
               row-onto q₂ small rs owes counts moves stops = ap onto (same-remainder owes counts on-leads on-stopped) ∙ sym goes
                 where

@@ -5,13 +5,14 @@ use Prim.Native.Nat.{ℕ, _+_, _-_, _≤_, _<_}
 use native.Mathlib.Omega.{arith}
 use lib.ListN.{getD}
 use borrow.Author.Needs.{needs}
+use Rattle.remainders.specs.Word.{halfValues}
 use Rattle.remainders.specs.Rows.{leadsPart, stoppedPart, rowLead}
 use Rattle.remainders.proofs.rows.Storing.{Storing, storing-start, storing-more}
 use Rattle.step.proofs.advance.leads_on.Statement.{statement}
 use Rattle.step.proofs.advance.leads_on.Tie as tie
 
 abbrev Next : List ℕ → List ℕ → List ℕ → ℕ → ℕ → ℕ → Type 0
-Next rows gains losses i k w = rowLead rows i k < 65536 → w ≡ rowLead rows i k + getD gains k 0 - getD losses k 0
+Next rows gains losses i k w = rowLead rows i k < halfValues → w ≡ rowLead rows i k + getD gains k 0 - getD losses k 0
 
 abbrev Inv-loop : tie.InvT-loop
 Inv-loop was i to leaders gains losses k₀ rows k = (k ≤ leaders) × Storing (Next was gains losses i) to leadsPart stoppedPart was rows k
