@@ -15,6 +15,6 @@ pub mod Demands
 -- the struct that a sheet, what is kept beside it, and rows stand for: `rowsMonitor`
 pub mod Progress
 -- ---- for inner contracts and proofs only: nothing public cites these
--- the remainder of no instant; remainders stored in rows and read back
+-- a monitor of no instant; remainders stored in rows and read back
 pub mod Start
 pub mod Stored

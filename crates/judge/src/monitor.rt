@@ -1,11 +1,9 @@
 // The monitor: opened with a sheet, called instant by instant.
 use crate::answer::Reply;
-use crate::answer::say_rows;
 use crate::limits::is_within;
-use crate::progress::first_progress;
 use crate::progress::observe_rows;
 use crate::progress::progress_of;
-use crate::start::begin_rows;
+use crate::start::begin;
 use crate::stored::read_back;
 use crate::stored::store_held;
 use lines::plan::NUMBERS;
@@ -18,7 +16,6 @@ use records::sheet::read_by;
 use remainders::held::Held;
 use remainders::held::Status;
 use remainders::remainder::blank_remainder;
-use remainders::rows::HEAD;
 use remainders::rows::SIZE;
 use step::list::LIST;
 ghost use mathlib.Core.Path.{_≡_};
@@ -71,13 +68,12 @@ fn open_by(bytes: &[u8], order: Order, last: u16) -> CallResult
         Decision::Refused(n) => refuse(n, blank_monitor(sheet)),
         Decision::Done => {
             let mut lines = [0u32; NUMBERS];
-            let plan = plan_of(sheet, &mut lines);
             let mut rows = [0u32; SIZE];
-            begin_rows(&mut rows, sheet);
-            let first = first_progress();
-            let count = first.count;
-            let opening = say_rows(&rows, HEAD, count);
+            let begun = begin(sheet, &mut lines, &mut rows);
+            let first = begun.progress;
+            let plan = begun.plan;
             let monitor = read_back(sheet, first, plan, &rows);
+            let opening = begun.said;
             CallResult {
                 reply: Reply::Answered(opening),
                 monitor,

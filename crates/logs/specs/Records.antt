@@ -11,9 +11,8 @@ use Rattle.records.specs.Store.{puts}
 use Rattle.tesl.specs.Lists.{flatMap}
 use Rattle.tesl.specs.Run.{Instant}
 use Rattle.tesl.specs.Machine.{machine, LogResult, concluded, callsOf, judgeLog}
-use Rattle.judge.specs.declared.answer.Reply.{Reply}
-use Rattle.judge.specs.declared.progress.Progress.{Progress}
-use Rattle.lines.specs.declared.plan.Plan.{Plan}
+use Rattle.judge.specs.declared.answer.Reply.the-variants.{Answered}
+use Rattle.judge.specs.declared.start.Begun.{Begun}
 use Rattle.judge.specs.declared.monitor.Monitor.{Monitor}
 use Rattle.judge.specs.declared.monitor.CallResult.{CallResult}
 use Rattle.logs.specs.declared.log.LastMonitor.{LastMonitor}
@@ -39,14 +38,14 @@ pub record FollowsRecords (opened : CallResult) (log : List ℕ) (r : LogResult)
   pub buffer : (s : SheetValue) (run : List Instant) → Follows s run (opened .monitor) → 3 * length (answersFrom s run log) ≤ length before
       → after ≡ puts before 0 (flatMap entry (answersFrom s run log))
 
--- by a monitor in rows, whatever the sheet; room to work in and a monitor as ready are left, and last tags of clocks from C on that were 0 still are
-pub record ObservedRecords (log : List ℕ) (opening : Reply) (k : Progress) (p : Plan) (lines : List ℕ) (r : LastRows) (a b : List ℕ) (list : List Bool) (before after : List ℕ)
+-- by a monitor begun in rows, whatever the sheet; room to work in and a monitor as ready are left, and last tags of clocks from C on that were 0 still are
+pub record ObservedRecords (log : List ℕ) (g : Begun) (lines : List ℕ) (r : LastRows) (a b : List ℕ) (list : List Bool) (before after : List ℕ)
     : Type 0 where
-  pub room : Working b (r .progress .from) (r .progress .count) p list
+  pub room : Working b (r .progress .from) (r .progress .count) (g .plan) list
   pub size : length after ≡ length before
-  pub follows : (s : Sheet) → Ready s k p lines a → FollowsRecords (given opening (rowsMonitor s k a)) log (judgedRows r) (rowsMonitor s (r .progress) b) before after
-  pub ready : (s : Sheet) → Ready s k p lines a → Ready s (r .progress) p lines b
-  pub tags : (s : Sheet) → Ready s k p lines a → BlankFrom (s .clocks) (pos 0) (k .tags) → BlankFrom (s .clocks) (pos 0) (r .progress .tags)
+  pub follows : (s : Sheet) → Ready s (g .progress) (g .plan) lines a → FollowsRecords (given (Answered (g .said)) (rowsMonitor s (g .progress) a)) log (judgedRows r) (rowsMonitor s (r .progress) b) before after
+  pub ready : (s : Sheet) → Ready s (g .progress) (g .plan) lines a → Ready s (r .progress) (g .plan) lines b
+  pub tags : (s : Sheet) → Ready s (g .progress) (g .plan) lines a → BlankFrom (s .clocks) (pos 0) (g .progress .tags) → BlankFrom (s .clocks) (pos 0) (r .progress .tags)
 
 -- ---- with the opening
 

@@ -3,22 +3,18 @@ use crate::count::count_log;
 use crate::entry::ENTRY_LENGTH;
 use crate::entry::put_entry;
 use judge::answer::Reply;
-use judge::answer::say_rows;
 use judge::monitor::Monitor;
 use judge::monitor::blank_monitor;
 use judge::progress::Progress;
-use judge::progress::first_progress;
 use judge::progress::observe_rows;
-use judge::start::begin_rows;
+use judge::start::Begun;
+use judge::start::begin;
 use judge::stored::read_back;
 use lines::plan::NUMBERS;
-use lines::plan::Plan;
-use lines::plan::plan_of;
 use records::number;
 use records::record::Decision;
 use records::record::record_bytes;
 use records::sheet::read_sheet;
-use remainders::rows::HEAD;
 use remainders::rows::SIZE;
 use step::list::LIST;
 ghost use mathlib.Core.Path.{_≡_};
@@ -47,22 +43,22 @@ struct LastRows {
     progress: Progress,
 }
 
-// Observes the records of a log one by one, up to the first that is refused, with a monitor in rows, where it changes sides at each instant. Each answer goes into the buffer, where there is room.
+// Observes the records of a log one by one, up to the first that is refused, with a monitor begun in rows, where it changes sides at each instant. Each answer goes into the buffer, where there is room.
 fn observe_records(
     log: &[u8],
-    opening: Reply,
-    first: Progress,
-    plan: Plan,
+    begun: Begun,
     lines: &[u32; NUMBERS],
     rows: &mut [u32; SIZE],
     list: &mut [bool; LIST],
     out: &mut [u8],
 ) -> LastRows
-    requires { ⌜ Working (now rows) (first .from) (first .count) plan (now list) ⌝ }
-    ensures { λ r. ⌜ ObservedRecords (now (log .entry)) opening first plan (now (lines .entry)) r (now (rows .entry)) (now (rows .exit)) (now (list .exit)) (now (out .entry)) (now (out .exit)) ⌝ }
+    requires { ⌜ Working (now rows) (begun .progress .from) (begun .progress .count) (begun .plan) (now list) ⌝ }
+    ensures { λ r. ⌜ ObservedRecords (now (log .entry)) begun (now (lines .entry)) r (now (rows .entry)) (now (rows .exit)) (now (list .exit)) (now (out .entry)) (now (out .exit)) ⌝ }
 {
-    let mut progress = first;
-    let mut reply = opening;
+    let plan = begun.plan;
+    let mut progress = begun.progress;
+    let opening = begun.said;
+    let mut reply = Reply::Answered(opening);
     let mut instants = 0;
     let mut end = 0;
     let mut at = 0;
@@ -110,24 +106,11 @@ fn observe_log(sheet: &[u8], log: &[u8], out: &mut [u8]) -> LastMonitor
         },
         Decision::Done => {
             let mut lines = [0u32; NUMBERS];
-            let plan = plan_of(value, &mut lines);
             let mut rows = [0u32; SIZE];
-            begin_rows(&mut rows, value);
-            let first = first_progress();
-            let count = first.count;
-            let said = say_rows(&rows, HEAD, count);
-            let opening = Reply::Answered(said);
+            let begun = begin(value, &mut lines, &mut rows);
             let mut list = [false; LIST];
-            let last = observe_records(
-                log,
-                opening,
-                first,
-                plan,
-                &lines,
-                &mut rows,
-                &mut list,
-                out,
-            );
+            let last = observe_records(log, begun, &lines, &mut rows, &mut list, out);
+            let plan = begun.plan;
             let progress = last.progress;
             let monitor = read_back(value, progress, plan, &rows);
             let reply = last.reply;

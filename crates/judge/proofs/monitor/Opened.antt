@@ -1,13 +1,13 @@
 -- A monitor of no instant: its one remainder is that of no filled instant, so it follows the sheet that was read. Beside a refusal there is none: what stands there has no clock, and is outside its limits. Assumes nothing.
-use mathlib.Core.Bool.{true, false}
+use mathlib.Core.Bool.{Bool, true, false}
 use mathlib.Core.List.{List, [], _∷_, append-nil}
 use mathlib.Core.Option.{Option, some}
 use mathlib.Core.Path.{_≡_, refl, sym, ap, _∙_, subst}
-use Prim.Native.Nat.{ℕ}
+use Prim.Native.Nat.{ℕ, _+_, _*_}
 use native.Mathlib.Omega.{arith}
 use lib.Dec.{T}
 use lib.IntN.{pos}
-use lib.ListN.{length}
+use lib.ListN.{length, getD, replicate, length-replicate}
 use Rattle.records.specs.declared.order.Order.{Order}
 use Rattle.records.specs.declared.order.Order.the-variants.{Any}
 use Rattle.records.specs.declared.record.Decision.the-variants as told
@@ -37,19 +37,22 @@ use Rattle.theory.proofs.Limits.{same-within, start-within}
 use Rattle.theory.proofs.Opened.{read-limits, opening-owes, opening-answer}
 use Rattle.work.specs.View.{heldList}
 use Rattle.work.specs.Owed.{owing, addedAll}
-use Rattle.judge.specs.declared.answer.Answer as code
 use Rattle.judge.specs.declared.answer.Reply.the-variants as reply
 use Rattle.remainders.specs.declared.held.Status.the-variants.{Live}
 use Rattle.lines.specs.declared.plan.Plan.{Plan}
+use Rattle.judge.specs.declared.progress.Progress.{Progress}
+use Rattle.judge.specs.declared.start.Begun.{Begun}
 use Rattle.judge.specs.declared.monitor.Monitor.{Monitor}
 use Rattle.judge.specs.declared.monitor.CallResult.{CallResult}
 use Rattle.remainders.specs.View.{sized}
 use Rattle.judge.specs.Answer.{answerOf, saidBy}
 use Rattle.judge.specs.Limits.{isTaken, sheetWithin, monitorWithin}
 use Rattle.lines.specs.Plan.{numbers, Preparing, PlanOf}
-use Rattle.remainders.specs.Rows.{headRows, rowsOf}
-use Rattle.step.specs.Apply.{foundIn}
-use Rattle.judge.specs.Start.{BegunRows}
+use Rattle.remainders.specs.Rows.{width, words, headRows, rowsOf}
+use Rattle.remainders.specs.Unused.{BlankFrom}
+use Rattle.step.specs.Fill.{Working}
+use Rattle.judge.specs.Stored.{FindingRows}
+use Rattle.judge.specs.Start.{BlankRow, BegunRows, BegunMonitor}
 use Rattle.judge.specs.Monitor.{sheetBy, heldBy, blankMonitor, noMonitor, refusal}
 use Rattle.judge.specs.Progress.{rowsMonitor, firstProgress, given, ReadBack, Ready}
 use Rattle.judge.specs.Promises.{Follows, Opened}
@@ -166,38 +169,57 @@ module _ (order : Order) (last : ℕ) (b : List ℕ) (x : SheetRead) (e : x ≡ 
       by-outcome (refused k) h a g = record { refuses = λ j f. let z : n ≡ j = cc in rw (← z) g; opens = λ s f. refused-taken (sym h ∙ f); unused = λ s f. refused-taken (sym h ∙ f) }
 
   -- ---- begun in rows: what was opened, the answer, and the monitor in rows
-  pub record OpenedRows (p : Plan) (lines rows : List ℕ) (y : code.Answer) : Type 0 where
+  pub record OpenedRows (r : Begun) (lines rows : List ℕ) : Type 0 where
     pub value : SheetValue
     pub read : readBy order last b ≡ taken value
-    pub sheet : sheetValue (x .sheet) ≡ value
-    pub said : answerOf y ≡ answer value []
-    pub follows : Follows value [] (rowsMonitor (x .sheet) firstProgress rows)
-    pub ready : Ready (x .sheet) firstProgress p lines rows
+    pub said : answerOf (r .said) ≡ answer value []
+    pub follows : Follows value [] (rowsMonitor (x .sheet) (r .progress) rows)
+    pub ready : Ready (x .sheet) (r .progress) (r .plan) lines rows
+    pub tags : BlankFrom (x .sheet .clocks) (pos 0) (r .progress .tags)
 
-  module _ {p : Plan} {lines blank rows : List ℕ} (plan : PlanOf (x .sheet) p lines) (begun : BegunRows (sheetValue (x .sheet)) blank rows) where
-    pub opened-rows : IsBytes b → x .answer ≡ told.Done → {y : code.Answer} → ((v : SheetValue) → answerOf y ≡ saidBy (foundIn v (Live 1) rows headRows)) → OpenedRows p lines rows y
-    opened-rows bytes a {y} w = by-outcome (readBy order last b) refl (ap (λ (z : SheetRead). z .answer) (sym e) ∙ a)
-      where
-        by-outcome : (o : Outcome SheetValue) → readBy order last b ≡ o → sheetRead o .answer ≡ told.Done → OpenedRows p lines rows y
-        by-outcome (refused n) h a = refused-done a
-        by-outcome (taken s) h a =
-            let same : sheetValue (x .sheet) ≡ s = ap (λ (z : SheetRead). sheetValue (z .sheet)) (e ∙ ap sheetRead h) ∙ sheetOf-value s in
-            record {
-              value = s;
-              read = h;
-              sheet = same;
-              said = w (sheetValue (x .sheet)) ∙ ap saidBy (sym (held-rows rows headRows (sheetValue (x .sheet)) (Live 1))) ∙ follows-begun order last b bytes s h (x .sheet) same begun .said;
-              follows = follows-begun order last b bytes s h (x .sheet) same begun;
-              ready = ready-begun order last b bytes s h (x .sheet) same begun plan;
-            }
+  pub opened-rows : IsBytes b → x .answer ≡ told.Done → {r : Begun} {lines blank rows : List ℕ} → BegunMonitor (x .sheet) r lines blank rows → OpenedRows r lines rows
+  opened-rows bytes a {r} {lines} {blank} {rows} begun = by-outcome (readBy order last b) refl (ap (λ (z : SheetRead). z .answer) (sym e) ∙ a)
+    where
+      by-outcome : (o : Outcome SheetValue) → readBy order last b ≡ o → sheetRead o .answer ≡ told.Done → OpenedRows r lines rows
+      by-outcome (refused n) h a = refused-done a
+      by-outcome (taken s) h a =
+          let same : sheetValue (x .sheet) ≡ s = ap (λ (z : SheetRead). sheetValue (z .sheet)) (e ∙ ap sheetRead h) ∙ sheetOf-value s in
+          let follows = follows-begun order last b bytes s h (x .sheet) same (begun .rows) in
+          record {
+            value = s;
+            read = h;
+            said = begun .said (sheetValue (x .sheet)) ∙ ap saidBy (sym (held-rows rows headRows (sheetValue (x .sheet)) (Live 1))) ∙ follows .said;
+            follows = subst (λ (k : Progress). Follows s [] (rowsMonitor (x .sheet) k rows)) (sym (begun .progress)) follows;
+            ready = subst (λ (k : Progress). Ready (x .sheet) k (r .plan) lines rows) (sym (begun .progress)) (ready-begun order last b bytes s h (x .sheet) same (begun .rows) (begun .plan));
+            tags = λ j l. ap (λ (k : Progress). getD (k .tags) j (pos 0)) (begun .progress) ∙ blank-at (pos 0) 8 j;
+          }
 
   -- and read back
-  pub opened-done : {p : Plan} {lines rows : List ℕ} {y : code.Answer} → OpenedRows p lines rows y → {m : Monitor} → ReadBack (x .sheet) firstProgress p m rows → Opened (readBy order last) b (given (reply.Answered y) m)
-  opened-done {y = y} o {m} back =
+  pub opened-done : {r : Begun} {lines rows : List ℕ} → OpenedRows r lines rows → {m : Monitor} → ReadBack (x .sheet) (r .progress) (r .plan) m rows → Opened (readBy order last) b (given (reply.Answered (r .said)) m)
+  opened-done {r} o {m} back =
       let f = back .found in
-      subst (λ (n : Monitor). Opened (readBy order last) b (given (reply.Answered y) n)) (sym (back .same))
+      subst (λ (n : Monitor). Opened (readBy order last) b (given (reply.Answered (r .said)) n)) (sym (back .same))
       (record {
         refuses = λ n h. refused-taken (sym h ∙ o .read);
         opens = λ v h. let z : o .value ≡ v = cc in rw (← z) (ap taken (o .said), follows-back (o .ready) f (o .follows));
-        unused = λ v h. nothing-back (o .ready) f (λ k l. blank-at (pos 0) 8 k);
+        unused = λ v h. nothing-back (o .ready) f (o .tags);
+      })
+
+-- ---- rows of a new array are blank
+pub fresh-rows : BlankRow (replicate words 0) headRows
+fresh-rows = record { size = length-replicate {A = ℕ} words 0; blank = λ p h. blank-at {A = ℕ} 0 words (width * headRows + p) }
+
+-- ---- room in what was begun
+module _ {s : Sheet} {r : Begun} {lines a b : List ℕ} (begun : BegunMonitor s r lines a b) where
+  pub found-begun : FindingRows b (r .progress .count) (r .progress .from) (r .plan)
+  found-begun = rw (begun .progress) (record { side = omega arith; small = begun .rows .small; plan = begun .plan .fits })
+
+  pub room-begun : length a ≡ words → {list : List Bool} → length list ≡ 2048 → Working b (r .progress .from) (r .progress .count) (r .plan) list
+  room-begun size lists = rw (begun .progress)
+      (record {
+        size = begun .rows .stays .size ∙ size;
+        side = record { one = omega arith; other = omega arith; past = omega arith; apart = λ k l h j e. omega arith };
+        small = begun .rows .small;
+        plan = begun .plan .fits;
+        lists = lists;
       })

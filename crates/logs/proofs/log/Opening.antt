@@ -4,7 +4,6 @@ use mathlib.Core.List.{List, [], _++_}
 use mathlib.Core.Path.{_≡_, refl, sym, ap, _∙_, subst}
 use Prim.Native.Nat.{ℕ, _+_, _*_, _≤_, _<_}
 use native.Mathlib.Omega.{arith}
-use lib.IntN.{pos}
 use lib.ListN.{length, drop}
 use borrow.Author.Tests.{lt-ltb, le-ltb}
 use Rattle.records.specs.declared.order.Order.the-variants.{Rising}
@@ -19,21 +18,19 @@ use Rattle.records.proofs.Store.{puts-front}
 use Rattle.tesl.specs.Lists.{flatMap}
 use Rattle.tesl.specs.Answer.{Answer, answer}
 use Rattle.tesl.specs.Machine.{machine, listAfterCalls, session, LogResult, concluded, callsOf, judgeLog}
-use Rattle.judge.specs.declared.answer.Answer as code
 use Rattle.judge.specs.declared.answer.Reply.the-variants as reply
 use Rattle.logs.specs.declared.log.LastMonitor.{LastMonitor}
 use Rattle.logs.specs.declared.log.LastRows.{LastRows}
 use Rattle.judge.specs.declared.monitor.Monitor.{Monitor}
 use Rattle.judge.specs.declared.monitor.CallResult.{CallResult}
-use Rattle.lines.specs.declared.plan.Plan.{Plan}
+use Rattle.judge.specs.declared.start.Begun.{Begun}
 use Rattle.judge.specs.Answer.{replyOf}
 use Rattle.logs.specs.Entry.{entry, answersFrom}
 use Rattle.judge.specs.Monitor.{KeepsNothing, blankMonitor, refusal}
 use Rattle.judge.specs.Promises.{Follows}
-use Rattle.judge.specs.Progress.{firstProgress, ReadBack}
+use Rattle.judge.specs.Progress.{ReadBack}
 use Rattle.logs.specs.Log.{FollowsLog, entries, watchedAs, watchLog}
 use Rattle.logs.specs.Records.{ObservedRecords, ObservedLog, Counted, CountedLog}
-use Rattle.remainders.proofs.rows.Placing.{blank-at}
 use Rattle.judge.proofs.progress.Laws.{follows-back, nothing-back}
 use Rattle.logs.proofs.log.Answers.{concluded-count, instants-all, length-entries}
 use Rattle.judge.proofs.monitor.Opened.{OpenedRows, read-answer, opened-refused}
@@ -74,9 +71,9 @@ module _ (sheet log : List ℕ) (x : SheetRead) (e : x ≡ sheetRead (readSheet 
         buffer = λ h. rw (no-entries sheet log f);
       }
 
-  module _ {p : Plan} {lines rows : List ℕ} {y : code.Answer} (o : OpenedRows Rising 24 sheet x e p lines rows y) {r : LastRows} {out : List ℕ} {list : List Bool} {before after : List ℕ}
-      (w : ObservedRecords log (reply.Answered y) firstProgress p lines r rows out list before after) where
-    pub log-observed : {m : Monitor} → ReadBack (x .sheet) (r .progress) p m out → ObservedLog sheet log (record { reply = r .reply; instants = r .instants; monitor = m }) before after
+  module _ {g : Begun} {lines rows : List ℕ} (o : OpenedRows Rising 24 sheet x e g lines rows) {r : LastRows} {out : List ℕ} {list : List Bool} {before after : List ℕ}
+      (w : ObservedRecords log g lines r rows out list before after) where
+    pub log-observed : {m : Monitor} → ReadBack (x .sheet) (r .progress) (g .plan) m out → ObservedLog sheet log (record { reply = r .reply; instants = r .instants; monitor = m }) before after
     unfolding judgeLog session
     log-observed {m} back =
         let k = w .follows (x .sheet) (o .ready) in
@@ -88,7 +85,7 @@ module _ (sheet log : List ℕ) (x : SheetRead) (e : x ≡ sheetRead (readSheet 
             follows = λ s g.
                 let z : o .value ≡ s = cc in
                 subst (Follows s _) (sym (back .same)) (follows-back left (back .found) (rw z at (k .follows (o .value) [] (o .follows))));
-            unused = λ s g. subst KeepsNothing (sym (back .same)) (nothing-back left (back .found) (w .tags (x .sheet) (o .ready) (λ j l. blank-at (pos 0) 8 j)));
+            unused = λ s g. subst KeepsNothing (sym (back .same)) (nothing-back left (back .found) (w .tags (x .sheet) (o .ready) (o .tags)));
           };
           size = w .size;
           buffer = λ h. k .buffer (o .value) [] (o .follows) (omega (arith, size-of sheet log (o .read))) ∙ rw (entries-of sheet log (o .read));

@@ -14,14 +14,14 @@ use Rattle.logs.proofs.log.observe_records.Statement.{statement}
 use Rattle.logs.proofs.log.observe_records.Tie as tie
 
 abbrev Inv-loop : tie.InvT-loop
-Inv-loop log plan lines rows₀ list₀ out₀ progress₀ reply₀ instants₀ end₀ at₀ rows list out progress reply instants end at = Turns log out₀ progress₀ rows₀ reply₀ plan lines progress reply instants at end rows list out
+Inv-loop log lines rows₀ list₀ out₀ plan progress₀ reply₀ instants₀ end₀ at₀ rows list out progress reply instants end at = Turns log out₀ progress₀ rows₀ reply₀ plan lines progress reply instants at end rows list out
 
 abbrev μ-loop : tie.MeasureT-loop
-μ-loop log plan lines rows₀ list₀ out₀ progress₀ reply₀ instants₀ end₀ at₀ rows list out progress reply instants end at = length log - at
+μ-loop log lines rows₀ list₀ out₀ plan progress₀ reply₀ instants₀ end₀ at₀ rows list out progress reply instants end at = length log - at
 
 loop-holds : tie.Need-loop-holds Inv-loop μ-loop
 loop-holds c =
-    let s = c .before .before in
+    let s = c .before .before .before .before in
     record { few = omega arith; ends = omega arith; most = omega arith; size = refl; room = s .pre; writing = λ v ready. writing-start _ _ _ _; ready = λ v ready. ready; tags = λ v ready blank. blank }
 
 -- ---- the record at this place of the log
@@ -29,7 +29,7 @@ module _ (c : tie.After-record-bytes Inv-loop μ-loop) where
   abbrev turn : tie.At-loop Inv-loop μ-loop
   turn = c .before .before
 
-  here : TheRecord (c .before .before .before .before .before .args .log .now) (c .before .before .loop .at) (c .record-bytes .result .now)
+  here : TheRecord (c .before .before .before .before .before .before .before .args .log .now) (c .before .before .loop .at) (c .record-bytes .result .now)
   here = the-record _ _ (c .record-bytes .ensures) (c .before .loop-test .taken)
 
 -- ---- the record observed
