@@ -1,5 +1,5 @@
 pub mod Finding
-pub mod Unused
+pub mod Stored
 pub mod Keeping
 pub mod Observing
 pub mod Opening

@@ -14,7 +14,7 @@ use Rattle.lines.specs.Plan.{PlanFits, Planned}
 use Rattle.remainders.specs.Rows.{parts, partWords, leadsPart, stoppedPart, width, sides, word, rowSet, rowObligation, rowLead, rowOf, CountsSame, NothingInParts, Stays, HeadStays, RowsStay}
 use Rattle.step.specs.Apply.{Side, foundIn, FewOwedIn, builtRows}
 use Rattle.step.specs.Fill.{workedRows}
-use Rattle.lent.specs.UnusedWords.{leadUsed, NothingInRow, NothingBeside}
+use Rattle.lent.specs.UnusedWords.{leadUsed, NothingInRow, NothingElse, NothingBeside}
 
 -- words lo to hi - 1 of row i are zero, the others stay
 pub record ClearedPart (i lo hi : ℕ) (a b : List ℕ) : Type 0 where
@@ -45,10 +45,15 @@ pub record ClearedLeads (leaders : ℕ) (precede : List Bool) (i : ℕ) (a b : L
   pub used : (k : ℕ) → leadUsed leaders precede k ≡ true → rowLead b i k ≡ rowLead a i k
   pub unused : (k : ℕ) → k < 16 → leadUsed leaders precede k ≡ false → rowLead b i k ≡ 0
 
+-- the words of the stopped ones of the plan's clocks stay in row i
+abbrev pub StopsStay : Plan → ℕ → List ℕ → List ℕ → Type 0
+StopsStay p i a b = (k : ℕ) → k < p .clocks → word b i (stoppedPart + k) ≡ word a i (stoppedPart + k)
+
 -- row i reads as before, for every sheet that the plan is of, and what its remainder doesn't use is zero
 pub record ClearedRow (p : Plan) (i : ℕ) (a b : List ℕ) : Type 0 where
   pub count : CountsSame i a b
   pub row : (v : SheetValue) (lines : List ℕ) → Planned v p lines → usedPart v (rowOf b i) ≡ usedPart v (rowOf a i)
+  pub stops : StopsStay p i a b
   pub nothing : NothingInRow p b i
 
 -- so row i; the other rows stay
@@ -73,6 +78,7 @@ pub record ClearedBeside (p : Plan) (from : ℕ) (count : Status) (a b : List �
   pub head : HeadStays a b
   pub small : FewOwedIn count b from
   pub held : (v : SheetValue) (lines : List ℕ) → Planned v p lines → foundIn v count b from ≡ foundIn v count a from
+  pub stops : (k : ℕ) → k < liveCount count → StopsStay p (from + k) a b
   pub nothing : NothingBeside p count from b
 
 -- those found from row `to` on are as before, for every sheet that the plan is of; of the rows that may have been built in, what they don't use is zero, other rows stay
@@ -80,6 +86,7 @@ pub record ClearedFound (p : Plan) (to : ℕ) (count : Status) (a b : List ℕ) 
   pub stays : RowsStay to (builtRows count) a b
   pub small : FewOwedIn count b to
   pub found : (v : SheetValue) (lines : List ℕ) → Planned v p lines → foundIn v count b to ≡ foundIn v count a to
+  pub stops : (k : ℕ) → k < liveCount count → StopsStay p (to + k) a b
   pub others : (h q : ℕ) → to ≤ h → h < to + builtRows count → q < width → (h < to + liveCount count → ⊥) → word b h q ≡ 0
   pub each : (k : ℕ) → k < liveCount count → NothingInRow p b (to + k)
 
@@ -96,4 +103,5 @@ pub record Tidied (p : Plan) (from : ℕ) (was count : Status) (a b : List ℕ) 
   pub head : HeadStays a b
   pub small : FewOwedIn count b (sides - from)
   pub found : (v : SheetValue) (lines : List ℕ) → Planned v p lines → foundIn v count b (sides - from) ≡ foundIn v count a (sides - from)
-  pub nothing : (before : List ℕ) → NothingBeside p was from before → RowsStay (sides - from) (workedRows was count) before a → NothingBeside p count (sides - from) b
+  pub stops : (k : ℕ) → k < liveCount count → StopsStay p (sides - from + k) a b
+  pub nothing : (before : List ℕ) → NothingElse was from before → RowsStay (sides - from) (workedRows was count) before a → NothingBeside p count (sides - from) b

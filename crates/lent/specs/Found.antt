@@ -16,7 +16,8 @@ use Rattle.lines.specs.Plan.{PlanFits, Planned}
 use Rattle.remainders.specs.Rows.{words, headRows, width, sides, word, RowsStay}
 use Rattle.step.specs.Apply.{Side, foundIn, FewOwedIn}
 use Rattle.step.specs.Fill.{workedRows}
-use Rattle.lent.specs.UnusedWords.{NothingBeside}
+use Rattle.lent.specs.UnusedWords.{NothingElse, NothingBeside}
+use Rattle.lent.specs.Cleared.{StopsStay}
 use Rattle.judge.specs.Progress.{Ready}
 use Rattle.lent.specs.State.{isState, stateSheet, stateProgress}
 use Rattle.lent.specs.Live.{stateWithin}
@@ -59,5 +60,6 @@ pub record KeptNext (p : Plan) (k next : Progress) (a b : List ℕ) : Type 0 whe
   pub raw : (j : ℕ) → j < 8 → word b 0 (8 + j) ≡ rawOf (getD (next .tags) j (pos 0))
   pub small : FewOwedIn (next .count) b (next .from)
   pub found : (v : SheetValue) (lines : List ℕ) → Planned v p lines → foundIn v (next .count) b (next .from) ≡ foundIn v (next .count) a (next .from)
+  pub stops : (j : ℕ) → j < liveCount (next .count) → StopsStay p (next .from + j) a b
   -- nothing is beside them, if nothing was beside those held before the instant, in the words `before`
-  pub nothing : (before : List ℕ) → NothingBeside p (k .count) (k .from) before → RowsStay (sides - k .from) (workedRows (k .count) (next .count)) before a → NothingBeside p (next .count) (next .from) b
+  pub nothing : (before : List ℕ) → NothingElse (k .count) (k .from) before → RowsStay (sides - k .from) (workedRows (k .count) (next .count)) before a → NothingBeside p (next .count) (next .from) b

@@ -24,7 +24,7 @@ use Rattle.judge.specs.Monitor.{heldBy, noMonitor, refusal}
 use Rattle.judge.specs.Progress.{given}
 use Rattle.judge.specs.Promises.{Follows, observes, Accepted}
 use Rattle.lent.specs.State.{isState, stateMonitor}
-use Rattle.lent.specs.UnusedState.{KeepsNothingIn}
+use Rattle.lent.specs.StoredState.{AsStored}
 
 -- ---- what a state is
 
@@ -43,11 +43,11 @@ pub record FollowsIn (s : SheetValue) (run : List Instant) (w : List ℕ) : Type
 
 -- ---- opening: `a` are the words before the call, `b` those after it
 
--- refused, the number, and every word as it was; else the answer for no instant, and words that follow the sheet and keep nothing where nothing is used
+-- refused, the number, and every word as it was; else the answer for no instant, and words that follow the sheet, each as it is stored
 pub record OpenedIn (read : Reader) (bytes : List ℕ) (r : Reply) (a b : List ℕ) : Type 0 where
   pub refuses : (n : ℕ) → read bytes ≡ refused n → (r ≡ Refused n) × (b ≡ a)
   pub opens : (s : SheetValue) → read bytes ≡ taken s → (replyOf r ≡ taken (answer s [])) × FollowsIn s [] b
-  pub unused : (s : SheetValue) → read bytes ≡ taken s → KeepsNothingIn b
+  pub stored : (s : SheetValue) → read bytes ≡ taken s → AsStored b
 
 -- ---- observing
 
@@ -55,12 +55,12 @@ pub record OpenedIn (read : Reader) (bytes : List ℕ) (r : Reply) (a b : List �
 unfoldable pub observesIn : List ℕ → List ℕ → Outcome Instant
 observesIn w bytes = cond (isState w) (observes (stateMonitor w) bytes) (refused 11)
 
--- refused, the number, and every word as it was; accepted, as a monitor that is a struct accepts it, and if the words kept nothing where nothing is used, they still don't; beside either the instants then held
+-- refused, the number, and every word as it was; accepted, as a monitor that is a struct accepts it, and if each word was as it is stored, it still is; beside either the instants then held
 pub record ObservedIn (bytes : List ℕ) (r : Replied) (a b : List ℕ) : Type 0 where
   pub refuses : (n : ℕ) → observesIn a bytes ≡ refused n → (r .reply ≡ Refused n) × (b ≡ a)
   pub accepts : (i : Instant) → observesIn a bytes ≡ taken i → (isState b ≡ true) × Accepted (stateMonitor a) i (given (r .reply) (stateMonitor b))
   pub instants : r .instants ≡ instantsIn b
-  pub unused : (i : Instant) → observesIn a bytes ≡ taken i → KeepsNothingIn a → KeepsNothingIn b
+  pub stored : (i : Instant) → observesIn a bytes ≡ taken i → AsStored a → AsStored b
 
 -- ---- the last answer
 

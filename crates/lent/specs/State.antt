@@ -192,4 +192,5 @@ pub record PutSheet (s : Sheet) (a b : List ℕ) : Type 0 where
   pub value : sheetValue (stateSheet b) ≡ sheetValue s
   pub count : stateSheet b .count ≡ s .count
   pub kinds : hasKinds b ≡ true
-  pub unused : (k : ℕ) → s .count ≤ k → k < 16 → stateWords b k ≡ noWords
+  pub clocks : word b 0 1 ≡ stateSheet b .clocks
+  pub words : (k : ℕ) → k < 16 → stateWords b k ≡ slotWords (stateSheet b) k

@@ -22,9 +22,11 @@ pub record NothingInRow (p : Plan) (rows : List ℕ) (i : ℕ) : Type 0 where
   -- stopped clocks from C on, and the words behind them
   pub rest : (q : ℕ) → stoppedPart + p .clocks ≤ q → q < width → word rows i q ≡ 0
 
--- where `count` remainders are held from row `from` on: every word of the two sides that none of them uses is zero
+-- where `count` remainders are held from row `from` on: the rows of the two sides that hold none are zero, all of them once exhausted or broken
+abbrev pub NothingElse : Status → ℕ → List ℕ → Type 0
+NothingElse count from rows = (h q : ℕ) → headRows ≤ h → h < height → q < width → (from ≤ h → h < from + liveCount count → ⊥) → word rows h q ≡ 0
+
+-- and every word of a row held that its remainder doesn't use
 pub record NothingBeside (p : Plan) (count : Status) (from : ℕ) (rows : List ℕ) : Type 0 where
-  -- rows that hold no remainder: all of them once exhausted or broken
-  pub others : (h q : ℕ) → headRows ≤ h → h < height → q < width → (from ≤ h → h < from + liveCount count → ⊥) → word rows h q ≡ 0
-  -- and in each row held
+  pub others : NothingElse count from rows
   pub each : (k : ℕ) → k < liveCount count → NothingInRow p rows (from + k)

@@ -11,10 +11,10 @@ use Rattle.remainders.specs.declared.held.Status.the-variants.{Exhausted, Live}
 use Rattle.judge.specs.declared.progress.Progress.{Progress}
 use Rattle.lines.specs.declared.plan.Plan.{Plan}
 use Rattle.remainders.specs.View.{liveCount}
-use Rattle.remainders.specs.Rows.{headRows, width, word}
+use Rattle.remainders.specs.Rows.{headRows, stoppedPart, width, word}
 use Rattle.step.specs.Apply.{foundIn, FewOwedIn}
 use Rattle.lent.specs.UnusedWords.{NothingBeside}
-use Rattle.lent.specs.Cleared.{Tidying, Tidied}
+use Rattle.lent.specs.Cleared.{StopsStay, Tidying, Tidied}
 use Rattle.lent.specs.State.{hasFormat, hasKinds, isSide, isState, FewIn, PuttingProgress, PutProgress}
 use Rattle.lent.specs.Found.{KeepingNext, KeptNext}
 use Rattle.judge.proofs.progress.Laws.{other-side}
@@ -77,6 +77,9 @@ module _ (k next : Progress) (p : Plan) {a : List ℕ} (can : KeepingNext a k ne
         found = λ v lines planned.
             found-same c b (next .from) (next .count) same small v
             ∙ subst (λ (n : ℕ). foundIn v (next .count) c n ≡ foundIn v (next .count) a n) (sym (can .to)) (t .found v lines planned);
+        stops = λ j l i m.
+            behind (next .from + j) (stoppedPart + i) (omega (arith, past)) (omega (arith, can .plan .clocks))
+            ∙ subst (λ (n : ℕ). StopsStay p (n + j) a c) (sym (can .to)) (t .stops j l) i m;
         nothing = λ before n s. beside-same (next .count) (next .from) c b past behind
             (subst (λ (n : ℕ). NothingBeside p (next .count) n c) (sym (can .to)) (t .nothing before n s));
       }

@@ -3,7 +3,7 @@ use mathlib.Core.Bool.{Bool, true, false, not, _&&_}
 use mathlib.Core.List.{List}
 use mathlib.Core.Option.{Option}
 use mathlib.Core.Path.{_≡_, refl, sym, ap, ap₂, _∙_, subst}
-use Prim.Native.Nat.{ℕ, _-_, _≤_}
+use Prim.Native.Nat.{ℕ, _+_, _-_, _≤_, _<_}
 use native.Mathlib.Omega.{arith}
 use lib.Dec.{T}
 use lib.IntN.{pos}
@@ -29,14 +29,15 @@ use Rattle.remainders.specs.View.{liveCount, heldOf, sized}
 use Rattle.judge.specs.Answer.{replyOf, saidBy}
 use Rattle.judge.specs.Limits.{monitorWithin}
 use Rattle.lines.specs.Plan.{Planned}
-use Rattle.remainders.specs.Rows.{word, HeadStays}
-use Rattle.lent.specs.UnusedWords.{NothingBeside}
+use Rattle.remainders.specs.Word.{flagOf, flagWord}
+use Rattle.remainders.specs.Rows.{stoppedPart, word, rowStop, HeadStays}
+use Rattle.lent.specs.UnusedWords.{NothingElse, NothingBeside}
 use Rattle.step.specs.Apply.{Side, FewOwedIn}
 use Rattle.step.specs.Fill.{Working}
 use Rattle.judge.specs.Progress.{rowsHeld, rowsMonitor, given, Ready, Takes}
 use Rattle.judge.specs.Promises.{observes, Accepted, Called}
 use Rattle.lent.specs.State.{isState, stateSheet, stateCount, stateProgress, stateMonitor}
-use Rattle.lent.specs.UnusedState.{KeepsNothingIn}
+use Rattle.lent.specs.StoredState.{topWords, kindsRow, numbersRow, RowIs, AsStored}
 use Rattle.lent.specs.Live.{stateWithin, instantsIn, observesIn, ObservedIn}
 use Rattle.lent.specs.Found.{FoundIn, KeepingNext, KeptNext}
 use Rattle.judge.proofs.progress.Laws.{held-rows, small-rows, sized-rows, within-same, follows-same}
@@ -46,7 +47,7 @@ use Rattle.lent.proofs.unused.Sides.{few-live}
 use Rattle.lent.proofs.state.Laws.{side-of}
 use Rattle.lent.proofs.state.Same.{sheet-stays, state-stays}
 use Rattle.lent.proofs.live.Finding.{state-side}
-use Rattle.lent.proofs.live.Unused.{beside-in, keeps-on}
+use Rattle.lent.proofs.live.Stored.{top-past, top-stored, flags-in, nothing-else, stored-made}
 
 abbrev pub replied : InstantResult → Replied
 replied t = record { reply = t .reply; instants = t .progress .instants }
@@ -90,7 +91,7 @@ module _ {w : List ℕ} {f : Found} {lines : List ℕ} (found : FoundIn w f line
         refuses = λ n e. let z : 11 ≡ n = cc in (ap Refused z, refl);
         accepts = λ i e. refused-taken (sym o ∙ e);
         instants = sym (no-instants w (none-within out));
-        unused = λ i e n. refused-taken (sym o ∙ e);
+        stored = λ i e n. refused-taken (sym o ∙ e);
       }
 
   -- ---- one is found
@@ -136,7 +137,7 @@ module _ {w : List ℕ} {f : Found} {lines : List ℕ} (found : FoundIn w f line
           record {
             refuses = λ j e. (refuses e, k .1);
             accepts = λ i e. refused-taken (ap replyOf (sym p) ∙ called .accepts i (sym call ∙ e) .answers);
-            unused = λ i e n. refused-taken (ap replyOf (sym p) ∙ called .accepts i (sym call ∙ e) .answers);
+            stored = λ i e n. refused-taken (ap replyOf (sym p) ∙ called .accepts i (sym call ∙ e) .answers);
             instants = ap (λ (x : Progress). x .instants) (k .0 ∙ found .progress) ∙ sym (instants-held w one-within) ∙ ap instantsIn (sym (k .1));
           }
 
@@ -198,20 +199,46 @@ module _ {w : List ℕ} {f : Found} {lines : List ℕ} (found : FoundIn w f line
           planned-after : Planned (sheetValue (stateSheet b)) (f .plan) lines
           planned-after = subst (λ (y : Sheet). Planned (sheetValue y) (f .plan) lines) (sym sheet-after) (after .planned)
 
-          keeps : KeepsNothingIn w → KeepsNothingIn b
-          keeps n =
-              keeps-on b planned-after
-              (subst (λ (k : Progress). NothingBeside (f .plan) (k .count) (k .from) b) (sym (kept .progress))
-              (kept .nothing w (subst (λ (k : Progress). NothingBeside (f .plan) (k .count) (k .from) w) (sym (found .progress)) (beside-in w (ready .planned) n)) (takes .moved x q .stays)))
+          -- the words of the head but for the monitor beside the sheet
+          same-head : (h j : ℕ) → h < 6 → j < 64 → (h ≡ 0 → 3 ≤ j → j < 16 → ⊥) → word b h j ≡ word w h j
+          same-head h j l m g = kept .head h j l m g ∙ head h j l m
+
+          few-clocks : stateSheet b .clocks ≤ 8
+          few-clocks = planned-after .few-clocks
+
+          top-after : AsStored w → RowIs b 0 (topWords (stateSheet b) (stateProgress b))
+          top-after n =
+              top-stored b few-clocks state-after
+              (same-head 0 1 (omega arith) (omega arith) (λ e x y. omega arith) ∙ n .top 1 (omega arith) ∙ ap (λ (y : Sheet). y .clocks) (sym sheet-after))
               (kept .live ∙ ap (λ (k : Progress). liveCount (k .count)) (sym (kept .progress)))
               (λ j l. kept .raw j l ∙ ap (λ (k : Progress). rawOf (getD (k .tags) j (pos 0))) (sym (kept .progress)))
               (λ j l. ap (λ (k : Progress). getD (k .tags) j (pos 0)) (kept .progress) ∙ takes .tags (stateSheet w) ready-kept x q j (subst (λ (y : Sheet). y .clocks ≤ j) sheet-after l))
-              w sheet-after (λ h j l m g. kept .head h j l m g ∙ head h j l m) (kept .gap ∙ head 0 7 (omega arith) (omega arith)) n
+              (kept .gap ∙ head 0 7 (omega arith) (omega arith) ∙ n .top 7 (omega arith))
+              (λ j l m. same-head 0 j (omega arith) m (λ e x y. omega arith) ∙ n .top j m ∙ top-past w (ready .planned .few-clocks) j l)
+
+          -- the stopped clocks of those found
+          flags-after : AsStored w → (j k : ℕ) → j < liveCount (t .progress .count) → k < f .plan .clocks → word b (t .progress .from + j) (stoppedPart + k) ≡ flagWord (rowStop b (t .progress .from + j) k)
+          flags-after n j k l m =
+              let e = kept .stops j l k m in
+              let s = takes .moved x q .flags (flags-in w (ready .planned) n) .flag (t .progress .from + j) k (omega (arith, keeping .to, keeping .side .past)) (omega (arith, keeping .to, keeping .side .other, few-live (t .progress .count) b (t .progress .from) (kept .small))) (omega (arith, found .plan .clocks)) in
+              e ∙ s ∙ ap (λ (v : ℕ). flagWord (flagOf v)) (sym e)
+
+          stored-after : AsStored w → AsStored b
+          stored-after n =
+              stored-made b planned-after
+              (subst (λ (k : Progress). FewOwedIn (k .count) b (k .from)) (sym (kept .progress)) (kept .small))
+              (subst (λ (k : Progress). NothingBeside (f .plan) (k .count) (k .from) b) (sym (kept .progress))
+              (kept .nothing w (subst (λ (k : Progress). NothingElse (k .count) (k .from) w) (sym (found .progress)) (nothing-else w (ready .planned) n)) (takes .moved x q .stays)))
+              (subst (λ (p : Progress). (j k : ℕ) → j < liveCount (p .count) → k < f .plan .clocks → word b (p .from + j) (stoppedPart + k) ≡ flagWord (rowStop b (p .from + j) k)) (sym (kept .progress)) (flags-after n))
+              (top-after n)
+              (λ j l. same-head 1 j (omega arith) l (λ e. absurd (omega arith)) ∙ n .kinds j l ∙ ap (λ (y : Sheet). getD (kindsRow y) j 0) (sym sheet-after))
+              (λ j l. same-head 2 j (omega arith) l (λ e. absurd (omega arith)) ∙ n .numbers j l ∙ ap (λ (y : Sheet). getD (numbersRow y) j 0) (sym sheet-after))
+              (λ h j l m k. same-head h j m k (λ e x y. omega arith) ∙ n .others h l (omega arith) (λ x y. omega (arith, side .other)) j k)
 
           pub observed-answered : ObservedIn bytes (replied t) w b
           observed-answered = record {
             refuses = λ n e. answered-refused (sym q ∙ refuses e);
             accepts = λ i e. (state-after, subst (λ (y : Monitor). Accepted (stateMonitor w) i (given (t .reply) y)) (sym monitor-after) (accepted (called .accepts i (sym call ∙ e))));
-            unused = λ i e n. keeps n;
+            stored = λ i e n. stored-after n;
             instants = ap (λ (k : Progress). k .instants) (sym (kept .progress)) ∙ sym (instants-held b within-after);
           }

@@ -1,4 +1,5 @@
 -- A state opened: the head and one row are cleared, the remainder of no instant is begun there, every word that it doesn't use is cleared; then the format, the sheet and the monitor beside it are stored, each where the others are not; so it follows the sheet that was read. Assumes nothing.
+use mathlib.Core.Bool.{false}
 use mathlib.Core.List.{List, []}
 use mathlib.Core.Path.{_≡_, refl, sym, ap, _∙_, subst}
 use Prim.Native.Nat.{ℕ, _+_, _≤_, _<_}
@@ -25,15 +26,17 @@ use Rattle.lines.specs.declared.plan.Plan.{Plan}
 use Rattle.remainders.specs.View.{liveCount, heldOf}
 use Rattle.judge.specs.Answer.{answerOf, saidBy}
 use Rattle.lines.specs.Plan.{PlanFits, Planned, PlanOf}
-use Rattle.remainders.specs.Rows.{width, words, headRows, word}
+use Rattle.remainders.specs.Word.{flagWord}
+use Rattle.remainders.specs.Rows.{width, words, headRows, stoppedPart, word, rowStop}
+use Rattle.remainders.proofs.rows.Flags.{flag-stored}
 use Rattle.step.specs.Apply.{foundIn, FewOwedIn}
 use Rattle.judge.specs.Start.{BlankRow, BegunRows}
 use Rattle.lent.specs.UnusedWords.{NothingBeside}
 use Rattle.lent.specs.Cleared.{ClearedRows, Holding, ClearedBeside}
 use Rattle.judge.specs.Progress.{firstProgress, rowsHeld, rowsMonitor}
 use Rattle.judge.specs.Promises.{Follows}
-use Rattle.lent.specs.State.{stateSheet, stateProgress, PutFormat, PuttingProgress, PutProgress, PutSheet}
-use Rattle.lent.specs.UnusedState.{KeepsNothingIn}
+use Rattle.lent.specs.State.{stateWords, stateSheet, stateProgress, slotWords, PutFormat, PuttingProgress, PutProgress, PutSheet}
+use Rattle.lent.specs.StoredState.{AsStored}
 use Rattle.lent.specs.Live.{FollowsIn, OpenedIn}
 use Rattle.remainders.proofs.rows.Placing.{blank-at}
 use Rattle.judge.proofs.progress.Laws.{held-rows, sized-rows, follows-same}
@@ -41,7 +44,7 @@ use Rattle.judge.proofs.monitor.Opened.{follows-begun}
 use Rattle.lent.proofs.unused.Sides.{SameRows, small-same, found-same}
 use Rattle.lent.proofs.state.Words.{words-same}
 use Rattle.lent.proofs.state.Same.{sheet-beside, state-made, value-made}
-use Rattle.lent.proofs.live.Unused.{keeps-made}
+use Rattle.lent.proofs.live.Stored.{kinds-stored, numbers-stored, top-stored, stored-made}
 use Rattle.lent.proofs.live.Keeping.{beside-same}
 
 -- ---- room for each part
@@ -66,7 +69,7 @@ module _ (bytes : List ℕ) (x : SheetRead) (e : x ≡ sheetRead (readSheet byte
     where
       by-outcome : (o : Outcome SheetValue) → readSheet bytes ≡ o → sheetRead o .answer ≡ told.Refused n → OpenedIn readSheet bytes (Refused n) a a
       by-outcome (taken s) h q = refused-done (sym q)
-      by-outcome (refused k) h q = record { refuses = λ j f. let z : n ≡ j = cc in (ap Refused z, refl); opens = λ s f. refused-taken (sym h ∙ f); unused = λ s f. refused-taken (sym h ∙ f) }
+      by-outcome (refused k) h q = record { refuses = λ j f. let z : n ≡ j = cc in (ap Refused z, refl); opens = λ s f. refused-taken (sym h ∙ f); stored = λ s f. refused-taken (sym h ∙ f) }
 
   sheet-read : {v : SheetValue} → readSheet bytes ≡ taken v → sheetValue (x .sheet) ≡ v
   sheet-read {v} f = ap (λ (z : SheetRead). sheetValue (z .sheet)) (e ∙ ap sheetRead f) ∙ sheetOf-value v
@@ -123,17 +126,37 @@ module _ (bytes : List ℕ) (x : SheetRead) (e : x ≡ sheetRead (readSheet byte
     blank-top : (j : ℕ) → 2 < j → j < width → word h 0 j ≡ 0
     blank-top j l m = sheet .top j m (λ y. omega arith) (λ y. omega arith) ∙ format .stays .same 0 j m (λ y u w. omega arith) ∙ blank 0 j (omega arith) m
 
-    keeps : KeepsNothingIn b
-    keeps =
-        keeps-made b planned
+    -- the stopped clocks of the remainder of no instant: none
+    unstopped : (j k : ℕ) → j < 1 → k < p .clocks → word b (headRows + j) (stoppedPart + k) ≡ 0
+    unstopped j k l m =
+        let e : headRows + j ≡ 6 = omega arith in
+        let f = plan .fits .clocks in
+        behind (headRows + j) (stoppedPart + k) (omega arith) (omega arith)
+        ∙ cleared .stops j l k m
+        ∙ begun .stays .same (headRows + j) (stoppedPart + k) (omega arith) (λ y u w. omega arith)
+        ∙ zero .zero (headRows + j) (stoppedPart + k) (omega arith) (omega arith) (omega arith)
+
+    sheet-opened : stateSheet b ≡ stateSheet h
+    sheet-opened = sheet-beside h b (put .stays)
+
+    places : (j : ℕ) → j < 16 → stateWords b j ≡ slotWords (stateSheet b) j
+    places j m = words-same h b (λ i q u w y. put .stays .same i q y (λ n s t. omega arith)) j m ∙ sheet .words j m ∙ ap (λ (y : Sheet). slotWords y j) (sym sheet-opened)
+
+    stored : AsStored b
+    stored =
+        stored-made b planned
+        (subst (λ (y : Progress). FewOwedIn (y .count) b (y .from)) (sym kept-first) small-opened)
         (subst (λ (y : Progress). NothingBeside p (y .count) (y .from) b) (sym kept-first) (beside-same (Live 1) headRows d b (omega arith) behind (cleared .nothing)))
+        (subst (λ (y : Progress). (j k : ℕ) → j < liveCount (y .count) → k < p .clocks → word b (y .from + j) (stoppedPart + k) ≡ flagWord (rowStop b (y .from + j) k)) (sym kept-first) (λ j k l m. flag-stored false (unstopped j k l m)))
+        (top-stored b (planned .few-clocks) (state-made sheet put format)
+        (put .stays .same 0 1 (omega arith) (λ y u w. omega arith) ∙ sheet .clocks ∙ ap (λ (y : Sheet). y .clocks) (sym sheet-opened))
         (put .live ∙ ap (λ (y : Progress). liveCount (y .count)) (sym (put .progress)))
         (λ j l. put .raw j l ∙ ap (λ (y : Progress). rawOf (getD (y .tags) j (pos 0))) (sym (put .progress)))
         (λ j l. ap (λ (y : Progress). getD (y .tags) j (pos 0)) kept-first ∙ blank-at (pos 0) 8 j)
-        (λ j l m. words-same h b (λ i q u w y. put .stays .same i q y (λ n s t. omega arith)) j m ∙ sheet .unused j (omega (arith, sheet .count, ap (λ (y : Sheet). y .count) (sheet-beside h b (put .stays)))) m)
         (put .gap ∙ blank-top 7 (omega arith) (omega arith))
-        (λ j l m. put .stays .same 0 j m (λ y u w. omega arith) ∙ blank-top j (omega arith) m)
-        (λ j l m. put .stays .same 2 j m (λ y u w. omega arith) ∙ sheet .free j l m ∙ format .stays .same 2 j m (λ y u w. omega arith) ∙ blank 2 j (omega arith) m)
+        (λ j l m. put .stays .same 0 j m (λ y u w. omega arith) ∙ blank-top j (omega arith) m))
+        (kinds-stored b (stateSheet b) places)
+        (numbers-stored b (stateSheet b) places (λ j l m. put .stays .same 2 j m (λ y u w. omega arith) ∙ sheet .free j l m ∙ format .stays .same 2 j m (λ y u w. omega arith) ∙ blank 2 j (omega arith) m))
         (λ i j l m n. put .stays .same i j n (λ y u w. omega arith) ∙ sheet .rows i j l n ∙ format .stays .same i j n (λ y u w. omega arith) ∙ blank i j m n)
 
     pub opened-state : IsBytes bytes → x .answer ≡ told.Done → {y : code.Answer} → ((v : SheetValue) → answerOf y ≡ saidBy (foundIn v (Live 1) b headRows)) → OpenedIn readSheet bytes (Answered y) a b
@@ -144,5 +167,5 @@ module _ (bytes : List ℕ) (x : SheetRead) (e : x ≡ sheetRead (readSheet byte
         by-outcome (taken s) i j = record {
           refuses = λ n r. refused-taken (sym r ∙ i);
           opens = λ v r. (ap taken (says (sheetValue (stateSheet b)) ∙ ap saidBy (sym (held-rows b headRows (sheetValue (stateSheet b)) (Live 1))) ∙ follows is r .said), follows-opened is r);
-          unused = λ v r. keeps;
+          stored = λ v r. stored;
         }

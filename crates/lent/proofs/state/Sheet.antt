@@ -2,7 +2,7 @@
 use mathlib.Core.Bool.{Bool, true, false, cond, not, _||_}
 use mathlib.Core.List.{List}
 use mathlib.Core.Logic.{⊎-elim}
-use mathlib.Core.Path.{_≡_, refl, ap, ap₂, _∙_}
+use mathlib.Core.Path.{_≡_, refl, sym, ap, ap₂, _∙_}
 use Prim.Native.Nat.{ℕ, _+_, _*_, _<_, _≤_}
 use native.Mathlib.Nat.{eq-or-lt-of-le}
 use native.Mathlib.Omega.{arith}
@@ -21,7 +21,7 @@ use Rattle.work.proofs.Listing.{listed-at, listed-same}
 use Rattle.lines.specs.declared.line_words.LineWords.{LineWords}
 use Rattle.lines.specs.LineWords.{lineOfWords, wordsOf, WordsOf}
 use Rattle.remainders.specs.Rows.{width, words, word}
-use Rattle.lent.specs.State.{stateWords, stateLine, clocksBy, stateSlot, stateSheet, isKind, hasKinds, OthersStay, PutWords, noWords, SlotWords, PutLines, PutSheet}
+use Rattle.lent.specs.State.{stateWords, stateLine, clocksBy, stateSlot, stateSheet, isKind, hasKinds, OthersStay, PutWords, noWords, slotWords, SlotWords, PutLines, PutSheet}
 use Rattle.remainders.proofs.rows.Laws.{stored, stored-other}
 use Rattle.lent.proofs.state.Words.{words-same}
 
@@ -81,10 +81,11 @@ module _ (s : Sheet) (a b : List ℕ) where
     count : word sheeted 0 2 ≡ s .count
     count = stored clocked 0 2 (s .count) (omega (arith, length-set b (width * 0 + 1) (s .clocks), w .size))
 
+    clocks-stored : word sheeted 0 1 ≡ s .clocks
+    clocks-stored = stored-other clocked 0 2 (s .count) 0 1 (omega arith) (omega arith) (λ x y. omega arith) ∙ stored b 0 1 (s .clocks) (omega (arith, w .size))
+
     clocks : clocksBy (word sheeted 0 1) ≡ s .clocks
-    clocks =
-        ap clocksBy (stored-other clocked 0 2 (s .count) 0 1 (omega arith) (omega arith) (λ x y. omega arith) ∙ stored b 0 1 (s .clocks) (omega (arith, w .size)))
-        ∙ rw (lt-ltb (s .clocks) 256 byte)
+    clocks = ap clocksBy clocks-stored ∙ rw (lt-ltb (s .clocks) 256 byte)
 
     place : (k : ℕ) → k < 16 → stateWords sheeted k ≡ stateWords b k
     place k h = words-same b sheeted (λ i p l q m. other i p m (λ e. absurd (omega arith)) (λ e. absurd (omega arith))) k h
@@ -97,6 +98,13 @@ module _ (s : Sheet) (a b : List ℕ) where
 
     lines : listed (lineAt (stateSheet sheeted)) (word sheeted 0 2) ≡ listed (lineAt s) (s .count)
     lines = ap (listed (lineAt (stateSheet sheeted))) count ∙ listed-same (s .count) line
+
+    slot : (k : ℕ) → slotWords (stateSheet sheeted) k ≡ slotWords s k
+    slot k = ap (λ (n : ℕ). cond (ltb k n) (wordsOf (lineAt (stateSheet sheeted) k)) noWords) count ∙ by-test (ltb k (s .count)) refl
+      where
+        by-test : (t : Bool) → ltb k (s .count) ≡ t → cond t (wordsOf (lineAt (stateSheet sheeted) k)) noWords ≡ cond t (wordsOf (lineAt s k)) noWords
+        by-test true e = ap wordsOf (line k (ltb-true k (s .count) e))
+        by-test false e = refl
 
     kind : (k : ℕ) → k < 16 → (not (ltb k (word sheeted 0 2)) || isKind (word sheeted 1 k)) ≡ true
     kind k h =
@@ -116,5 +124,6 @@ module _ (s : Sheet) (a b : List ℕ) where
           value = same-value clocks lines;
           count = count;
           kinds = T→≡ (hasKinds sheeted) (below-of 16 (λ k. not (ltb k (word sheeted 0 2)) || isKind (word sheeted 1 k)) (λ k h. ≡→T (kind k h)));
-          unused = λ k h l. place k l ∙ w .places k l .words ∙ ap (λ (t : Bool). cond t (wordsOf (lineAt s k)) noWords) (le-ltb k (s .count) h);
+          clocks = clocks-stored ∙ sym clocks;
+          words = λ k l. place k l ∙ w .places k l .words ∙ sym (slot k);
         }

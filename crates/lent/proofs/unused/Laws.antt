@@ -24,7 +24,7 @@ use Rattle.remainders.specs.View.{obligationOf, countdownOf}
 use Rattle.lines.specs.Plan.{PlanFits, Planned}
 use Rattle.remainders.specs.Rows.{parts, partWords, leadsPart, stoppedPart, width, word, rowCount, rowObligation, rowSet, rowOwed, rowCountdowns, rowLead, rowLeads, rowStop, rowStopped, FewInRow, CountsSame, Stays, ClearedWords}
 use Rattle.lent.specs.UnusedWords.{leadUsed}
-use Rattle.lent.specs.Cleared.{ClearedPart, ClearedRows, ClearedOwed, ClearedSets, ClearedLeads, ClearedUnused}
+use Rattle.lent.specs.Cleared.{ClearedPart, ClearedRows, ClearedOwed, ClearedSets, ClearedLeads, StopsStay, ClearedUnused}
 use Rattle.remainders.proofs.rows.Laws.{stored-zero, stored-other, stays-all, stays-put, stays-wide, stays-on, obligation-same, place-same, set-same, part-stays, few-counts, set-words, nothing-words}
 use Rattle.judge.proofs.stored.Laws.{take-same}
 use Rattle.step.proofs.advance.Row.{same-remainder}
@@ -185,10 +185,10 @@ module _ {p : Plan} {i : ℕ} {a b c d : List ℕ} (few : FewInRow a i) (fit : P
   same-lead : (k : ℕ) → k < 16 → leadUsed (p .leaders) (p .precede) k ≡ true → rowLead d i k ≡ rowLead a i k
   same-lead k h e = s .stays .same i (leadsPart + k) (omega arith) (λ r x y. omega arith) ∙ l .used k e ∙ o .stays .same i (leadsPart + k) (omega arith) (λ r x y. omega arith)
 
-  same-stop : (k : ℕ) → k < p .clocks → rowStop d i k ≡ rowStop a i k
+  same-stop : StopsStay p i a d
   same-stop k h =
       let f = fit .clocks in
-      ap flagOf (s .stays .same i (stoppedPart + k) (omega arith) (λ r x y. omega arith) ∙ l .stays .same i (stoppedPart + k) (omega arith) (λ r x y. omega arith) ∙ o .stays .same i (stoppedPart + k) (omega arith) (λ r x y. omega arith))
+      s .stays .same i (stoppedPart + k) (omega arith) (λ r x y. omega arith) ∙ l .stays .same i (stoppedPart + k) (omega arith) (λ r x y. omega arith) ∙ o .stays .same i (stoppedPart + k) (omega arith) (λ r x y. omega arith)
 
   -- of a sheet that the plan is of
   module _ {v : SheetValue} {lines : List ℕ} (planned : Planned v p lines) where
@@ -211,7 +211,7 @@ module _ {p : Plan} {i : ℕ} {a b c d : List ℕ} (few : FewInRow a i) (fit : P
         let c = planned .as-many in
         let f = planned .few-clocks in
         take-same false (v .clocks) (rowStopped d i) (rowStopped a i) (omega (arith, length-listed (rowStop d i) 8)) (omega (arith, length-listed (rowStop a i) 8))
-        (λ k h. listed-at (rowStop d i) false 8 k (omega arith) ∙ same-stop k (omega arith) ∙ sym (listed-at (rowStop a i) false 8 k (omega arith)))
+        (λ k h. listed-at (rowStop d i) false 8 k (omega arith) ∙ ap flagOf (same-stop k (omega arith)) ∙ sym (listed-at (rowStop a i) false 8 k (omega arith)))
 
   pub unused-cleared : ClearedUnused p i a d
   unused-cleared =
@@ -220,6 +220,7 @@ module _ {p : Plan} {i : ℕ} {a b c d : List ℕ} (few : FewInRow a i) (fit : P
         cleared = record {
           count = λ part h. same-word (partWords * part) (omega arith) ∙ o .count part h;
           row = λ v lines planned. same-remainder same-owed same-countdowns (same-leads planned) (same-stopped planned);
+          stops = same-stop;
           nothing = record {
             sets = nothing-words b d i same-word (o .nothing);
             leads = λ k h e. s .stays .same i (leadsPart + k) (omega arith) (λ r x y. omega arith) ∙ l .unused k h e;

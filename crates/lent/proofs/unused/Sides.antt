@@ -16,16 +16,17 @@ use Rattle.lines.specs.declared.plan.Plan.{Plan}
 use Rattle.remainders.specs.declared.held.Status.{Status}
 use Rattle.remainders.specs.declared.held.Status.the-variants.{Exhausted, Live}
 use Rattle.remainders.specs.View.{liveCount}
-use Rattle.remainders.specs.Rows.{partWords, leadsPart, width, height, word, rowOf, FewInRow, FewOwed, CountsSame, RowsStay}
+use Rattle.remainders.specs.Rows.{partWords, leadsPart, stoppedPart, width, height, word, rowOf, FewInRow, FewOwed, CountsSame, RowsStay}
 use Rattle.step.specs.Apply.{Side, foundIn, FewOwedIn, builtRows}
 use Rattle.step.specs.Fill.{workedRows}
-use Rattle.lent.specs.UnusedWords.{NothingInRow, NothingBeside}
+use Rattle.lines.specs.Plan.{PlanFits}
+use Rattle.lent.specs.UnusedWords.{NothingInRow, NothingElse}
 use Rattle.lent.specs.Cleared.{ClearedRows, ClearedRow, ClearedUnused, ClearedEach, ClearedBeside, ClearedFound, Tidied}
 use Rattle.remainders.proofs.rows.Laws.{few-counts, counts-words, few-words, nothing-words, rows-stay-all, rows-stay-one, rows-stay-among, rows-stay-wide, rows-stay-on}
 use Rattle.step.proofs.apply.Laws.{row-same}
 
 -- row h is one of n rows from `first` on, or none of them
-among-rows : {X : Type 0} (h first n : ℕ) → (first ≤ h → h < first + n → X) → ((first ≤ h → h < first + n → ⊥) → X) → X
+pub among-rows : {X : Type 0} (h first n : ℕ) → (first ≤ h → h < first + n → X) → ((first ≤ h → h < first + n → ⊥) → X) → X
 among-rows {X} h first n among apart = by-tests (ltb h first) refl (ltb h (first + n)) refl
   where
     by-tests : (b : Bool) → ltb h first ≡ b → (d : Bool) → ltb h (first + n) ≡ d → X
@@ -54,15 +55,16 @@ nothing-zero p rows i zero =
     }
 
 -- cleared after, or before, other rows
-module _ {p : Plan} {i : ℕ} where
+module _ {p : Plan} {i : ℕ} (fit : PlanFits p) where
   cleared-on : (a b : List ℕ) {c : List ℕ} → FewInRow a i → ((q : ℕ) → q < width → word b i q ≡ word a i q) → ClearedRow p i b c → ClearedRow p i a c
-  cleared-on a b few same w = record { count = λ part l. w .count part l ∙ counts-words a b i (λ q m. same q (omega arith)) part l; row = λ v lines planned. w .row v lines planned ∙ ap (usedPart v) (row-same a b i few same); nothing = w .nothing }
+  cleared-on a b few same w = record { count = λ part l. w .count part l ∙ counts-words a b i (λ q m. same q (omega arith)) part l; row = λ v lines planned. w .row v lines planned ∙ ap (usedPart v) (row-same a b i few same); stops = λ k l. w .stops k l ∙ same (stoppedPart + k) (omega (arith, fit .clocks)); nothing = w .nothing }
 
   cleared-stays : (b c : List ℕ) {a : List ℕ} → FewInRow a i → ((q : ℕ) → q < width → word c i q ≡ word b i q) → ClearedRow p i a b → ClearedRow p i a c
   cleared-stays b c {a} few same w =
       record {
         count = λ part l. counts-words b c i (λ q m. same q (omega arith)) part l ∙ w .count part l;
         row = λ v lines planned. ap (usedPart v) (row-same b c i (few-counts a b i (w .count) few) same) ∙ w .row v lines planned;
+        stops = λ k l. same (stoppedPart + k) (omega (arith, fit .clocks)) ∙ w .stops k l;
         nothing = nothing-same b c i same (w .nothing);
       }
 
@@ -76,7 +78,7 @@ module _ {p : Plan} {from n : ℕ} {was : List ℕ} where
   pub clearing-start : Clearing p from n was was 0
   clearing-start = record { turns = omega arith; stays = rows-stay-all from 0 was; each = λ j l. absurd (omega arith) }
 
-  module _ {rows : List ℕ} {k : ℕ} (small : FewOwed was from n) (w : Clearing p from n was rows k) (h : k < n) where
+  module _ {rows : List ℕ} {k : ℕ} (fit : PlanFits p) (small : FewOwed was from n) (w : Clearing p from n was rows k) (h : k < n) where
     -- the next row is as it was
     next-word : (q : ℕ) → q < width → word rows (from + k) q ≡ word was (from + k) q
     next-word q l = w .stays .same (from + k) q l (λ x y. omega arith)
@@ -90,8 +92,8 @@ module _ {p : Plan} {from n : ℕ} {was : List ℕ} where
           turns = omega arith;
           stays = rows-stay-on (rows-stay-wide (w .stays) (k + 1) (omega arith)) (rows-stay-one (c .stays) from (k + 1) (omega arith) (omega arith));
           each = λ j l. ⊎-elim
-              (λ (e : j ≡ k). rw e (cleared-on was rows (small k h) next-word (c .cleared)))
-              (λ (g : j < k). cleared-stays rows after (small j (omega arith)) (λ q m. c .stays .same (from + j) q m (λ e x y. omega arith)) (w .each j g))
+              (λ (e : j ≡ k). rw e (cleared-on fit was rows (small k h) next-word (c .cleared)))
+              (λ (g : j < k). cleared-stays fit rows after (small j (omega arith)) (λ q m. c .stays .same (from + j) q m (λ e x y. omega arith)) (w .each j g))
               (eq-or-lt-of-le (omega arith));
         }
 
@@ -141,16 +143,17 @@ module _ {p : Plan} {to : ℕ} {count : Status} {a b : List ℕ} where
   pub found-exhausted : count ≡ Exhausted → ClearedRows to 33 a b → ClearedFound p to count a b
   found-exhausted e c =
       rw e
-      (record { stays = c .stays; small = tt; found = λ v lines planned. refl; others = λ h q l m k f. c .zero h q l m k; each = λ k l. absurd (omega arith) })
+      (record { stays = c .stays; small = tt; found = λ v lines planned. refl; stops = λ k l. absurd (omega arith); others = λ h q l m k f. c .zero h q l m k; each = λ k l. absurd (omega arith) })
 
-  pub found-live : {n : ℕ} {m : List ℕ} → count ≡ Live n → n ≤ 32 → FewOwed a to n → ClearedRows (to + n) 1 a m → ClearedEach p to n m b → ClearedFound p to count a b
-  found-live {n} {m} e few small c w =
+  pub found-live : {n : ℕ} {m : List ℕ} → PlanFits p → count ≡ Live n → n ≤ 32 → FewOwed a to n → ClearedRows (to + n) 1 a m → ClearedEach p to n m b → ClearedFound p to count a b
+  found-live {n} {m} fit e few small c w =
       let same = first-same to n c in
       rw e
       (record {
         stays = rows-stay-on (rows-stay-among (c .stays) to (n + 1) (omega arith) (omega arith)) (rows-stay-wide (w .stays) (n + 1) (omega arith));
         small = small-by m b to (Live n) (λ k l. w .each k l .count) (small-same a m to (Live n) same (few, small));
         found = λ v lines planned. found-by m b to v (Live n) (λ k l. w .each k l .row v lines planned) ∙ found-same a m to (Live n) same (few, small) v;
+        stops = λ k l j m. w .each k l .stops j m ∙ same k (stoppedPart + j) l (omega (arith, fit .clocks));
         others = λ h q x y l f. w .stays .same h q l (λ s t. omega arith) ∙ c .zero h q (omega arith) (omega arith) l;
         each = λ k l. w .each k l .nothing;
       })
@@ -175,7 +178,7 @@ module _ {from : ℕ} (side : Side from) where
       (λ x y. let e = first-side (omega arith) in let g : h < from + 33 → ⊥ = f (omega arith) in (omega arith, omega arith))
       (λ x. let y : from < 23 → ⊥ = x (omega arith) in let e = second-side (omega arith) in let g : from ≤ h → ⊥ = λ u. f u (omega arith) in (omega arith, omega arith))
 
-module _ (p : Plan) {from : ℕ} (count : Status) {n : ℕ} (e : n ≡ liveCount count) {a b c : List ℕ} (side : Side from) (small : FewOwedIn count a from)
+module _ (p : Plan) (fit : PlanFits p) {from : ℕ} (count : Status) {n : ℕ} (e : n ≡ liveCount count) {a b c : List ℕ} (side : Side from) (small : FewOwedIn count a from)
     (x : ClearedRows (45 - from) 33 a b) (y : ClearedRows (from + n) (33 - n) b c) where
   same-held : SameRows a c from (liveCount count)
   same-held k q l m =
@@ -201,6 +204,7 @@ module _ (p : Plan) {from : ℕ} (count : Status) {n : ℕ} (e : n ≡ liveCount
           head = λ h q l m. z .stays .same h q m (λ s t. omega (arith, side .other)) ∙ y .stays .same h q m (λ s t. omega (arith, side .other)) ∙ x .stays .same h q m (λ s t. omega (arith, side .past));
           small = small-by c d from count (λ k l. z .each k (omega arith) .count) (small-same a c from count same-held small);
           held = λ v lines planned. found-by c d from v count (λ k l. z .each k (omega arith) .row v lines planned) ∙ found-same a c from count same-held small v;
+          stops = λ k l j m. z .each k (omega arith) .stops j m ∙ same-held k (stoppedPart + j) l (omega (arith, fit .clocks));
           nothing = record { others = zero-beside; each = λ k l. z .each k (omega arith) .nothing };
         }
 
@@ -211,12 +215,12 @@ worked-none was e count = rw (eq-eqb (liveCount was) 0 e)
 worked-some : (was : Status) → (liveCount was ≡ 0 → ⊥) → (count : Status) → workedRows was count ≡ builtRows count
 worked-some was f count = rw (ne-eqb (liveCount was) 0 f)
 
-module _ (p : Plan) (from : ℕ) (was count : Status) {a : List ℕ} (side : Side from) (small : FewOwedIn count a (45 - from)) where
+module _ (p : Plan) (fit : PlanFits p) (from : ℕ) (was count : Status) {a : List ℕ} (side : Side from) (small : FewOwedIn count a (45 - from)) where
   -- none was held: all words are zero
   module _ (none : liveCount was ≡ 0) where
-    all-zero : {before : List ℕ} → NothingBeside p was from before → RowsStay (45 - from) (workedRows was count) before a → (h q : ℕ) → 6 ≤ h → h < height → q < width → word a h q ≡ 0
+    all-zero : {before : List ℕ} → NothingElse was from before → RowsStay (45 - from) (workedRows was count) before a → (h q : ℕ) → 6 ≤ h → h < height → q < width → word a h q ≡ 0
     all-zero n s h q l m k =
-        s .same h q k (λ x y. omega (arith, worked-none was none count)) ∙ n .others h q l m k (λ x y. omega arith)
+        s .same h q k (λ x y. omega (arith, worked-none was none count)) ∙ n h q l m k (λ x y. omega arith)
 
     pub tidied-none : Tidied p from was count a a
     tidied-none =
@@ -225,6 +229,7 @@ module _ (p : Plan) (from : ℕ) (was count : Status) {a : List ℕ} (side : Sid
           head = λ h q l m. refl;
           small = small;
           found = λ v lines planned. refl;
+          stops = λ k l j m. refl;
           nothing = λ before n s. record {
             others = λ h q l m k f. all-zero n s h q l m k;
             each = λ k l. nothing-zero p a (45 - from + k) (λ q m. all-zero n s (45 - from + k) q (omega (arith, side .past)) (omega (arith, side .other, few-live count a (45 - from) small)) m);
@@ -240,12 +245,12 @@ module _ (p : Plan) (from : ℕ) (was count : Status) {a : List ℕ} (side : Sid
     small-cleared = small-same a b (45 - from) count same-found small
 
     module _ {c : List ℕ} (y : ClearedFound p (45 - from) count b c) where
-      module _ {before : List ℕ} (w : NothingBeside p was from before) (s : RowsStay (45 - from) (workedRows was count) before a) (h q : ℕ) (l : 6 ≤ h) (m : h < height) (k : q < width) where
+      module _ {before : List ℕ} (w : NothingElse was from before) (s : RowsStay (45 - from) (workedRows was count) before a) (h q : ℕ) (l : 6 ≤ h) (m : h < height) (k : q < width) where
         -- a row that nothing was built in
         not-built : (45 - from ≤ h → h < 45 - from + builtRows count → ⊥) → word b h q ≡ 0
         not-built g =
             among-rows h from n (λ u t. x .zero h q u t k)
-            (λ f. x .stays .same h q k f ∙ s .same h q k (λ u t. g u (omega (arith, worked-some was (λ z. some (e ∙ z)) count))) ∙ w .others h q l m k (λ u t. f u (omega arith)))
+            (λ f. x .stays .same h q k f ∙ s .same h q k (λ u t. g u (omega (arith, worked-some was (λ z. some (e ∙ z)) count))) ∙ w h q l m k (λ u t. f u (omega arith)))
 
         zero-other : (45 - from ≤ h → h < 45 - from + liveCount count → ⊥) → word c h q ≡ 0
         zero-other f = among-rows h (45 - from) (builtRows count) (λ u t. y .others h q u t k (f u)) (λ g. y .stays .same h q k g ∙ not-built g)
@@ -257,5 +262,6 @@ module _ (p : Plan) (from : ℕ) (was count : Status) {a : List ℕ} (side : Sid
             head = λ h q l m. y .stays .same h q m (λ s t. omega (arith, side .past)) ∙ x .stays .same h q m (λ s t. omega (arith, side .other));
             small = y .small;
             found = λ v lines planned. y .found v lines planned ∙ found-same a b (45 - from) count same-found small v;
+            stops = λ k l j m. y .stops k l j m ∙ same-found k (stoppedPart + j) l (omega (arith, fit .clocks));
             nothing = λ before w s. record { others = zero-other w s; each = y .each };
           }

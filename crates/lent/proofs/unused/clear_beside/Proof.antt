@@ -29,7 +29,7 @@ clear-each-requires c κs =
     record {
       side = s .pre .side .one;
       held = few l;
-      small = small-beside (s .args .plan) (s .args .count) (l .live-in .ensures) (s .pre .side) (s .pre .small) (x .clear-rows .ensures) (y .clear-rows2 .ensures);
+      small = small-beside (s .args .plan) (s .pre .plan) (s .args .count) (l .live-in .ensures) (s .pre .side) (s .pre .small) (x .clear-rows .ensures) (y .clear-rows2 .ensures);
       plan = s .pre .plan;
     }
 
@@ -39,7 +39,7 @@ returns c =
     let x = y .before .before in
     let l = counted (y .before) in
     let s = start l in
-    beside-cleared (s .args .plan) (s .args .count) (l .live-in .ensures) (s .pre .side) (s .pre .small) (x .clear-rows .ensures) (y .clear-rows2 .ensures) (c .clear-each .ensures)
+    beside-cleared (s .args .plan) (s .pre .plan) (s .args .count) (l .live-in .ensures) (s .pre .side) (s .pre .small) (x .clear-rows .ensures) (y .clear-rows2 .ensures) (c .clear-each .ensures)
 
 pub clear-beside-spec : {M : Type 1} → statement M
 clear-beside-spec =

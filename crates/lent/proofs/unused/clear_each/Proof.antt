@@ -16,12 +16,12 @@ clear-unused-requires : tie.Need-clear-unused-requires Inv-loop μ-loop
 clear-unused-requires c κs =
     let at = c .before .before in
     let s = at .before .pre in
-    record { row = omega (arith, s .side, s .held); few = next-few (s .small) (at .loop .inv) (omega arith); plan = s .plan }
+    record { row = omega (arith, s .side, s .held); few = next-few (s .plan) (s .small) (at .loop .inv) (omega arith); plan = s .plan }
 
 loop-again : tie.Need-loop-again Inv-loop μ-loop
 loop-again c =
     let at = c .before .before .before in
-    clearing-more (at .before .pre .small) (at .loop .inv) (omega arith) (c .clear-unused .ensures)
+    clearing-more (at .before .pre .plan) (at .before .pre .small) (at .loop .inv) (omega arith) (c .clear-unused .ensures)
 
 pub clear-each-spec : {M : Type 1} → statement M
 clear-each-spec =

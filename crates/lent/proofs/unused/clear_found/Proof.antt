@@ -37,7 +37,7 @@ returns-2 : tie.Need-returns-2
 returns-2 c =
     let r = c .before .before in
     let k = r .before .before in
-    found-live (k .before .count .given .1) (small k .0) (small k .1) (r .clear-rows2 .ensures) (c .clear-each .ensures)
+    found-live (start k .pre .plan) (k .before .count .given .1) (small k .0) (small k .1) (r .clear-rows2 .ensures) (c .clear-each .ensures)
 
 pub clear-found-spec : {M : Type 1} → statement M
 clear-found-spec =
