@@ -8,6 +8,7 @@ use crate::text::byte;
 use crate::text::end;
 use crate::text::say;
 use crate::values::body_length;
+use crate::words;
 use records::record::Decision;
 use records::sheet::read_sheet;
 
@@ -37,9 +38,9 @@ fn with_line(t: Tape, kind: u8, len: usize, at: usize, three: [u8; 3]) -> Tape {
 fn sheet(what: u8, kind: u8, at: usize) -> Tape {
     let len = body_length(kind);
     match what {
-        b'l' => with_line(tape_of(b"01 00 01 00 01"), kind, at, at, [0, 0, 0]),
-        b'c' => with_line(tape_of(b"01 00 01 00 02"), kind, len, at, [0, 2, 0]),
-        b't' => {
+        words::LENGTH => with_line(tape_of(b"01 00 01 00 01"), kind, at, at, [0, 0, 0]),
+        words::CLOCK => with_line(tape_of(b"01 00 01 00 02"), kind, len, at, [0, 2, 0]),
+        words::TWICE => {
             let t = with_line(tape_of(b"01 00 01 00 03"), kind, len, at, [1, 1, 2]);
             with_line(t, kind, len, at, [1, 2, 1])
         }
@@ -50,6 +51,7 @@ fn sheet(what: u8, kind: u8, at: usize) -> Tape {
     }
 }
 
+// 'taken' or the number of the refusal, a space before it.
 fn cell(t: Tape) {
     say(b" ");
     let bytes = t.bytes;
@@ -76,12 +78,12 @@ pub fn cell_row(what: u8, name: &[u8], fields: &[u8]) {
     say(b"  ");
     say(name);
     match what {
-        b'l' => cells(what, kind, 8),
-        b'c' => cells(what, kind, body_length(kind)),
+        words::LENGTH => cells(what, kind, 8),
+        words::CLOCK => cells(what, kind, body_length(kind)),
         _ => {
             cells(what, kind, body_length(kind));
             say(b"; exchanged");
-            cells(b'x', kind, body_length(kind));
+            cells(words::EXCHANGED, kind, body_length(kind));
         }
     }
     end();

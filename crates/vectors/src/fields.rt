@@ -24,16 +24,12 @@ pub fn first(row: &[u8]) -> &[u8] {
     front(row, find(row, 0, b'|'))
 }
 
-// The fields behind the first.
+// The fields behind the first, nothing where there is none.
 pub fn rest(row: &[u8]) -> &[u8] {
-    let end = find(row, 0, b'|');
-    if end == row.len() {
-        return &row[end..];
-    }
-    behind(row, end + 1)
+    behind(row, find(row, 0, b'|') + 1)
 }
 
-// A number with a decimal digit after it; what no word holds is left out.
+// A number with a decimal digit after it, as far as a word holds it.
 fn with_digit(n: usize, digit: u8) -> usize {
     if digit < b'0' {
         return n;

@@ -13,6 +13,7 @@ use crate::text::refused;
 use crate::text::say;
 use crate::text::tag;
 use crate::text::word;
+use crate::words;
 use records::form::Form;
 use records::instant::Instant;
 use records::instant::InstantRead;
@@ -91,8 +92,8 @@ pub fn read_case(what: u8, name: &[u8], bytes: &[u8], n: usize) {
     case(name);
     let clocks = (n % 256) as u8;
     match what {
-        b'n' => outcome(read_next(bytes, 1, n), 1, bytes, 1),
-        b'e' => outcome(read_instant(bytes, clocks), 8, bytes, clocks),
+        words::NEXT => outcome(read_next(bytes, 1, n), 1, bytes, 1),
+        words::EIGHT => outcome(read_instant(bytes, clocks), 8, bytes, clocks),
         _ => outcome(read_instant(bytes, clocks), n, bytes, clocks),
     }
 }

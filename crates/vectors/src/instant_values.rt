@@ -1,4 +1,5 @@
 // Instant values to write.
+// A row: fill|name|size|value or double|name|value|value. An instant value: the clock count that it is written with, its kind and its number, then the tick and the tag of each clock.
 use crate::rows::rows;
 
 pub fn all() {

@@ -1,7 +1,8 @@
 // Instants to read, each written back.
+// A row: instant|name|clocks|bytes or eight|name|clocks|bytes.
 use crate::rows::rows;
 
-pub fn all() {
+fn records() {
     rows(
         b"#|Instants to read
 instant|listing 1|2|06 00 20 00 01 FD FF 00 00 00
@@ -29,8 +30,13 @@ instant|a byte after it|1|03 00 20 00 00 00 00, 00
 instant|two records|1|03 00 20 00 00 00 00, 03 00 20 00 00 00 00
 instant|a byte short, kind 31|1|03 00 1F 00 00 00
 instant|a byte after it, kind 31|1|03 00 1F 00 00 00 00, 00
-instant|a byte after it, tick byte 3|1|03 00 20 00 03 00 00, 00
-#|Instants to read: kind, length, tick bytes
+instant|a byte after it, tick byte 3|1|03 00 20 00 03 00 00, 00",
+    );
+}
+
+fn bodies() {
+    rows(
+        b"#|Instants to read: kind, length, tick bytes
 instant|kind 31|1|03 00 1F 00 00 00 00
 instant|kind 34|1|03 00 22 00 00 00 00
 instant|kind 288|1|03 00 20 01 00 00 00
@@ -48,4 +54,9 @@ instant|tick byte 255|1|03 00 20 00 FF 00 00
 instant|second tick byte 3|2|06 00 20 00 00 00 00 03 00 00
 instant|eighth tick byte 3|8|18 00 20 00 00 00 00 00 00 00 00 00 00 00 00 00 00 00 00 00 00 00 00 00 00 03 00 00",
     );
+}
+
+pub fn all() {
+    records();
+    bodies();
 }

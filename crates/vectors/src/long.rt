@@ -4,6 +4,7 @@ use crate::place_row::record_case;
 use crate::sheet_row::shown;
 use crate::tape::front;
 use crate::text::heading;
+use crate::words;
 use records::sheet::read_sheet;
 
 // The record stands at byte 5; the bytes end with it.
@@ -18,8 +19,13 @@ fn cases(bytes: &[u8]) {
     record_case(b"a byte short", short, 5);
     shown(b"as a line", read_sheet(bytes), bytes);
     shown(b"as a line, a byte short", read_sheet(short), short);
-    read_case(b'i', b"as an instant", &bytes[5..], 1);
-    read_case(b'i', b"as an instant, a byte short", &bytes[5..less], 1);
+    read_case(words::INSTANT, b"as an instant", &bytes[5..], 1);
+    read_case(
+        words::INSTANT,
+        b"as an instant, a byte short",
+        &bytes[5..less],
+        1,
+    );
 }
 
 pub fn all() {

@@ -25,6 +25,7 @@ mod text;
 mod unordered;
 mod value_order;
 mod values;
+mod words;
 mod write_row;
 
 fn main() {

@@ -1,4 +1,5 @@
 // The record at each place of some byte strings.
+// A row: place|name|at|bytes.
 use crate::rows::rows;
 
 pub fn all() {

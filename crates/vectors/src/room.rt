@@ -8,13 +8,16 @@ use crate::text::refused;
 use crate::text::say;
 use records::record::Written;
 
-pub fn marked() -> [u8; 192] {
-    [0xA5; 192]
+// How many bytes it has.
+pub const ROOM: usize = 192;
+
+pub fn marked() -> [u8; ROOM] {
+    [0xA5; ROOM]
 }
 
 // Whether the bytes from n on are as they were.
-fn rest_as_before(room: [u8; 192], n: usize) -> bool {
-    if 192 < n {
+fn rest_as_before(room: [u8; ROOM], n: usize) -> bool {
+    if ROOM < n {
         return false;
     }
     let before = marked();
@@ -22,7 +25,7 @@ fn rest_as_before(room: [u8; 192], n: usize) -> bool {
 }
 
 // What came of writing back what was read from `bytes`.
-pub fn written_back(written: Written, room: [u8; 192], bytes: &[u8]) {
+pub fn written_back(written: Written, room: [u8; ROOM], bytes: &[u8]) {
     match written {
         Written::Refused(n) => {
             say(b", writing back ");
@@ -58,7 +61,7 @@ fn answer(written: Written) {
 }
 
 // What came of writing a value, and what the room holds.
-pub fn outcome(written: Written, room: [u8; 192]) {
+pub fn outcome(written: Written, room: [u8; ROOM]) {
     answer(written);
     match written {
         Written::Refused(_) => {
@@ -81,7 +84,7 @@ pub fn outcome(written: Written, room: [u8; 192]) {
 }
 
 // What came of writing two values, and whether the rooms hold the same bytes.
-pub fn both(first: Written, one: [u8; 192], second: Written, other: [u8; 192]) {
+pub fn both(first: Written, one: [u8; ROOM], second: Written, other: [u8; ROOM]) {
     answer(first);
     say(b" and ");
     answer(second);

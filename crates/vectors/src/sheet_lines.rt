@@ -13,44 +13,45 @@ fn pair(a: u8, words: &[u8], b: u8) {
     byte(b);
 }
 
+fn sporadic(a: u8, b: u8, t: i16) {
+    byte(a);
+    say(b" sporadic ");
+    tag(t);
+    say(b" on ");
+    byte(b);
+}
+
+fn relation(a: u8, b: u8, p: i16, q: i16) {
+    byte(a);
+    say(b" = ");
+    tag(p);
+    say(b" x ");
+    byte(b);
+    say(b" + ");
+    tag(q);
+}
+
+// A delayed or a counted line, by its own words.
+fn implied(a: u8, words: &[u8], n: u16, b: u8, d: u8) {
+    byte(a);
+    say(words);
+    word(n);
+    say(b" on ");
+    pair(b, b" implies ", d);
+}
+
 fn row(l: Line) {
     say(b"    ");
     match l {
-        Line::Sporadic { a, b, t } => {
-            byte(a);
-            say(b" sporadic ");
-            tag(t);
-            say(b" on ");
-            byte(b);
-        }
-        Line::Relation { a, b, p, q } => {
-            byte(a);
-            say(b" = ");
-            tag(p);
-            say(b" x ");
-            byte(b);
-            say(b" + ");
-            tag(q);
-        }
+        Line::Sporadic { a, b, t } => sporadic(a, b, t),
+        Line::Relation { a, b, p, q } => relation(a, b, p, q),
         Line::Implies { a, b } => pair(a, b" implies ", b),
         Line::Excludes { a, b } => pair(a, b" excludes ", b),
-        Line::Delayed { a, b, d, by } => {
-            byte(a);
-            say(b" delayed by ");
-            word(by);
-            say(b" on ");
-            pair(b, b" implies ", d);
-        }
+        Line::Delayed { a, b, d, by } => implied(a, b" delayed by ", by, b, d),
         Line::Weakly { a, b } => pair(a, b" weakly precedes ", b),
         Line::Strictly { a, b } => pair(a, b" strictly precedes ", b),
         Line::Kills { a, b } => pair(a, b" kills ", b),
-        Line::Counted { a, b, d, n } => {
-            byte(a);
-            say(b" counted by ");
-            byte(n);
-            say(b" on ");
-            pair(b, b" implies ", d);
-        }
+        Line::Counted { a, b, d, n } => implied(a, b" counted by ", n as u16, b, d),
     }
     end();
 }

@@ -1,4 +1,5 @@
-// Sheets to read: each line above the one before it, by kind and then by the bytes of the body; which of two faults decides, repeats at the limits of lines and of sporadic lines, and two lines of a kind that differ from a byte on.
+// Sheets to read: each line above the one before it, by kind and then by the bytes of the body. Of two faults of one line the first decides, of two lines the earlier one's; then repeats at the limits of lines and of sporadic lines, and two lines of a kind that differ from a byte on.
+// A row: read|name|bytes or twice|name|kind.
 use crate::rows::rows;
 
 pub fn all() {

@@ -1,7 +1,8 @@
 // Sheets to read that are refused, and which of two faults decides.
+// A row: read|name|bytes.
 use crate::rows::rows;
 
-pub fn all() {
+fn one_fault() {
     rows(
         b"#|Sheets to read: a torn record
 read|no bytes|
@@ -31,8 +32,13 @@ read|kind 25|01 00 01 00 02, 02 00 19 00 00 01
 read|kind 0|01 00 01 00 02, 00 00 00 00
 read|kind 274|01 00 01 00 02, 02 00 12 01 00 01
 read|clocks again|01 00 01 00 02, 01 00 01 00 02
-read|an instant|01 00 01 00 01, 03 00 20 00 00 00 00
-#|Sheets to read: two faults
+read|an instant|01 00 01 00 01, 03 00 20 00 00 00 00",
+    );
+}
+
+fn two_faults() {
+    rows(
+        b"#|Sheets to read: two faults
 read|torn, and not the clocks|02 00 02 00 02
 read|not the clocks, wrong length|02 00 02 00 02 00
 read|wrong length, C = 9|02 00 01 00 09 00
@@ -52,4 +58,9 @@ read|ninth sporadic, wrong length|01 00 01 00 08, 04 00 10 00 00 01 FF 00 08+, 0
 read|ninth sporadic, bad clock|01 00 01 00 08, 04 00 10 00 00 01 FF 00 08+, 04 00 10 00 00 08 FF FF
 read|ninth sporadic, then bad clock|01 00 01 00 08, 04 00 10 00 00 01 FF 00 08+, 04 00 10 00 00 01 FF 08, 02 00 12 00 08 08",
     );
+}
+
+pub fn all() {
+    one_fault();
+    two_faults();
 }

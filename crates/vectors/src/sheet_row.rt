@@ -13,6 +13,7 @@ use crate::text::refused;
 use crate::text::say;
 use crate::text::wide;
 use crate::values::sheet_of;
+use crate::words;
 use records::order::Order;
 use records::record::Decision;
 use records::sheet::Sheet;
@@ -53,12 +54,13 @@ pub fn shown(name: &[u8], r: SheetRead, bytes: &[u8]) {
 // Reads in rising order, in any order, or as document 01 has it: kinds up to 23, any order.
 fn read(what: u8, bytes: &[u8]) -> SheetRead {
     match what {
-        b'r' => read_sheet(bytes),
-        b'a' => read_unordered(bytes),
+        words::READ => read_sheet(bytes),
+        words::ANY => read_unordered(bytes),
         _ => read_by(bytes, Order::Any, 23),
     }
 }
 
+// A sheet read in one of these ways.
 pub fn sheet_row(what: u8, name: &[u8], fields: &[u8]) {
     let t = tape_of(first(fields));
     let bytes = t.bytes;
@@ -72,6 +74,7 @@ pub fn sheet_row(what: u8, name: &[u8], fields: &[u8]) {
     }
 }
 
+// A sheet value sorted.
 pub fn value_row(name: &[u8], fields: &[u8]) {
     case(name);
     let t = tape_of(fields);

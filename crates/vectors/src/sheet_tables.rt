@@ -1,4 +1,5 @@
-// Sheets to read of one line of a kind: its length, and its clocks.
+// Sheets to read of one line of a kind: of which lengths it is taken, and at which bytes of its body a clock stands.
+// A row: length|name|kind, clock|name|kind or read|name|bytes.
 use crate::rows::rows;
 
 pub fn all() {

@@ -1,4 +1,5 @@
 // Sheets to read, each written back.
+// A row: read|name|bytes, and behind it |lines where the lines are listed.
 use crate::rows::rows;
 
 pub fn all() {

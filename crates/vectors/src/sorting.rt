@@ -1,4 +1,5 @@
-// Sheets to sort, as bytes and as values: the lines in rising order, repeats dropped.
+// Sheets to sort, as bytes and as values: the lines in rising order, repeats dropped. 'Six lines' are kills, implies, sporadic at 1, implies again, sporadic at 256, kills again.
+// A row: sort|name|size|bytes or value|name|value. A sheet value: its clock count and its line count, then its lines, each by its kind and its body.
 use crate::rows::rows;
 
 pub fn all() {

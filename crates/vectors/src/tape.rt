@@ -1,6 +1,10 @@
 // Byte strings: cut, and put together from a table's text.
+// There a byte is two hexadecimal digits. A comma ends a piece, as a record of a sheet. A piece with n* behind it stands there n times, with n+ too, its last byte one more each time; n is two digits.
 ghost use Prim.Native.Nat.{_+_, _≤_};
 ghost use lib.ListN.{length};
+
+// How many bytes a tape has room for.
+const LENGTH: usize = 192;
 
 // What stands for a byte's first digit where it has not come yet.
 const NO_DIGIT: u8 = 16;
@@ -31,7 +35,7 @@ pub fn byte_at(bytes: &[u8], at: usize) -> u8 {
 
 // A byte string that is being put together: the first `len` bytes.
 pub struct Tape {
-    pub bytes: [u8; 192],
+    pub bytes: [u8; LENGTH],
     pub len: usize,
     // Where its last piece begins.
     piece: usize,
@@ -39,9 +43,9 @@ pub struct Tape {
     digit: u8,
 }
 
-pub fn empty() -> Tape {
+fn empty() -> Tape {
     Tape {
-        bytes: [0; 192],
+        bytes: [0; LENGTH],
         len: 0,
         piece: 0,
         digit: NO_DIGIT,
@@ -49,7 +53,7 @@ pub fn empty() -> Tape {
 }
 
 // The bytes with others put at a place.
-fn put(bytes: [u8; 192], at: usize, more: &[u8]) -> [u8; 192]
+fn put(bytes: [u8; LENGTH], at: usize, more: &[u8]) -> [u8; LENGTH]
     requires { ⌜ at + length (now more) ≤ 192 ⌝ }
 {
     let mut next = bytes;
@@ -60,10 +64,10 @@ fn put(bytes: [u8; 192], at: usize, more: &[u8]) -> [u8; 192]
 // A tape with more bytes after it; what finds no room is left out.
 pub fn with(t: Tape, more: &[u8]) -> Tape {
     let at = t.len;
-    if 192 < at {
+    if LENGTH < at {
         return t;
     }
-    if 192 - at < more.len() {
+    if LENGTH - at < more.len() {
         return t;
     }
     let before = t.bytes;
@@ -76,11 +80,6 @@ pub fn with(t: Tape, more: &[u8]) -> Tape {
     }
 }
 
-// A tape with a byte after it.
-pub fn with_byte(t: Tape, byte: u8) -> Tape {
-    with(t, &[byte])
-}
-
 // A tape with a digit after it: the first of a byte, or the second.
 fn with_digit(t: Tape, digit: u8) -> Tape {
     let mut next = t;
@@ -90,14 +89,14 @@ fn with_digit(t: Tape, digit: u8) -> Tape {
         return next;
     }
     next.digit = NO_DIGIT;
-    with_byte(next, first % 16 * 16 + digit % 16)
+    with(next, &[first % 16 * 16 + digit % 16])
 }
 
 // A tape with a piece after it, so much added to the piece's last byte.
 fn with_raised(t: Tape, piece: &[u8], by: u8) -> Tape {
     let mut longer = with(t, piece);
     let last = std::num::wrapping_sub_usize(longer.len, 1);
-    if last < 192 {
+    if last < LENGTH {
         let byte = longer.bytes[last];
         longer.bytes[last] = std::num::wrapping_add_u8(byte, by);
     }
@@ -117,7 +116,7 @@ fn with_times(t: Tape, piece: &[u8], times: u8, by: u8) -> Tape {
     longer
 }
 
-// A tape whose last byte is taken off: so often its last piece stands there instead.
+// A tape whose last byte is a number of times: its last piece so often, each time so much more added to the last byte.
 fn with_repeated(t: Tape, by: u8) -> Tape {
     let last = std::num::wrapping_sub_usize(t.len, 1);
     let bytes = t.bytes;
@@ -127,13 +126,14 @@ fn with_repeated(t: Tape, by: u8) -> Tape {
     with_times(shorter, behind(front(&bytes, last), t.piece), times, by)
 }
 
+// A tape after which a piece begins.
 fn with_piece(t: Tape) -> Tape {
     let mut next = t;
     next.piece = t.len;
     next
 }
 
-// A tape with what a character of the text says: a digit; a comma, after which a piece begins; or after a number n of times '*' for the piece n times, '+' for the same with its last byte rising by one.
+// A tape with what a character of the text says; a space says nothing.
 fn with_character(t: Tape, c: u8) -> Tape {
     match c {
         b'0'..=b'9' => with_digit(t, c - b'0'),
@@ -145,7 +145,7 @@ fn with_character(t: Tape, c: u8) -> Tape {
     }
 }
 
-// The bytes that a text of hexadecimal digits tells.
+// The bytes that a text tells.
 pub fn tape_of(text: &[u8]) -> Tape {
     let mut t = empty();
     let mut i = 0;

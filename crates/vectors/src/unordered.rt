@@ -1,4 +1,5 @@
 // Sheets to read in any order of their lines, repeats allowed, each written back.
+// A row: any|name|bytes, and behind it |lines where the lines are listed.
 use crate::rows::rows;
 
 pub fn all() {

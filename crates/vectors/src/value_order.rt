@@ -1,4 +1,5 @@
-// Sheet values to write: each line above the one before it; which of two faults decides, of one line the first, of two lines the earlier one's, and room is asked for last; repeats at the limits of lines and of sporadic lines.
+// Sheet values to write: each line above the one before it. Of two faults of one line the first decides, of two lines the earlier one's; room is asked for last. Then repeats at the limits of lines and of sporadic lines.
+// A row: write|name|size|value. A sheet value: its clock count and its line count, then its lines, each by its kind and its body.
 use crate::rows::rows;
 
 pub fn all() {

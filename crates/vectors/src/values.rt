@@ -11,9 +11,10 @@ use records::line::Slot;
 use records::sheet::Sheet;
 use records::word::tag_of;
 
-// Where the lines of a sheet value begin, and the clocks of an instant value.
+// Where the lines of a sheet value begin.
 const LINES: usize = 2;
 
+// Where the clocks of an instant value begin.
 const CLOCKS: usize = 4;
 
 // The number of the bytes at a place and behind it, the low one first.
@@ -33,7 +34,7 @@ pub fn body_length(kind: u8) -> usize {
     }
 }
 
-// The line of a kind and a body.
+// The line that its kind and its body tell.
 fn line_of(line: &[u8]) -> Line {
     let a = byte_at(line, 1);
     let b = byte_at(line, 2);
@@ -83,7 +84,7 @@ fn next_line(bytes: &[u8], at: usize) -> usize {
     next
 }
 
-// A sheet value: its clock count, its line count, and the lines at its places, each by its kind and its body.
+// A sheet value: its clock count, its line count, and the lines at its places, each by its kind and its body; places behind the last begin again with the first.
 pub fn sheet_of(bytes: &[u8]) -> Sheet {
     let line = line_of(behind(bytes, LINES));
     let mut lines = [Slot { line }; 16];

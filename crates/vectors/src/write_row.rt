@@ -2,6 +2,7 @@
 use crate::fields::first;
 use crate::fields::number_of;
 use crate::fields::rest;
+use crate::room::ROOM;
 use crate::room::both;
 use crate::room::marked;
 use crate::room::outcome;
@@ -12,6 +13,7 @@ use crate::text::case;
 use crate::text::end;
 use crate::values::instant_of;
 use crate::values::sheet_of;
+use crate::words;
 use records::instant::write_instant;
 use records::record::Written;
 use records::sheet::write_sheet;
@@ -23,8 +25,8 @@ fn written(what: u8, text: &[u8], room: &mut [u8]) -> Written {
     let bytes = t.bytes;
     let told = front(&bytes, t.len);
     match what {
-        b'w' | b'b' => write_sheet(sheet_of(told), room),
-        b'f' | b'd' => write_instant(instant_of(told), byte_at(told, 0), room),
+        words::WRITE | words::BOTH => write_sheet(sheet_of(told), room),
+        words::FILL | words::DOUBLE => write_instant(instant_of(told), byte_at(told, 0), room),
         _ => sort_sheet(told, room),
     }
 }
@@ -32,7 +34,7 @@ fn written(what: u8, text: &[u8], room: &mut [u8]) -> Written {
 // Into the first bytes of the room, as many as told.
 pub fn write_row(what: u8, name: &[u8], fields: &[u8]) {
     let size = number_of(first(fields));
-    if 192 < size {
+    if ROOM < size {
         return;
     }
     case(name);
