@@ -4,22 +4,21 @@ use mathlib.Core.List.{List}
 use mathlib.Core.Path.{_≡_}
 use Prim.Native.Nat.{ℕ}
 use lib.Dec.{leb, ltb}
-use lib.IntN.{ℤ, negsuc}
 use lib.ListN.{take}
-use lib.Signed.{leZ}
 use Rattle.records.specs.declared.order.Order.the-variants.{Any}
 use Rattle.records.specs.Outcome.{Outcome, taken, refused, decide}
 use Rattle.records.specs.Sheet.{SheetValue, sheetValue, sheetValueChecks}
 use Rattle.records.specs.Types.{IsSheet}
 use Rattle.tesl.specs.Lists.{all}
-use Rattle.tesl.specs.Fits.{mostTag, Obligation, Countdown}
+use Rattle.tesl.specs.Fits.{mostTag}
+use Rattle.theory.specs.Limits.{leastTag, withinLimits}
 use Rattle.remainders.specs.declared.obligation.Obligation as code
 use Rattle.remainders.specs.declared.remainder.Remainder as arrays
 use Rattle.remainders.specs.declared.held.Status.{Status}
 use Rattle.remainders.specs.declared.held.Status.the-variants.{Exhausted, Live}
 use Rattle.judge.specs.declared.monitor.Monitor.{Monitor}
 use Rattle.remainders.specs.Word.{dueNumber}
-use Rattle.remainders.specs.View.{owedOf, countdownsOf, viewOf}
+use Rattle.remainders.specs.View.{viewOf, fewOwed}
 
 abbrev pub isTaken : {A : Type 0} → Outcome A → Bool
 isTaken (taken x) = true
@@ -29,39 +28,23 @@ isTaken (refused n) = false
 unfoldable pub sheetWithin : SheetValue → Bool
 sheetWithin v = isTaken (decide (sheetValueChecks Any v) v)
 
--- clocks below C, dues −32,768 to the end of the scale, `most`
-unfoldable pub obligationWithin : ℤ → ℕ → Obligation → Bool
-obligationWithin most c o = (ltb (o .clock) c && ltb (o .on) c) && (leZ (negsuc 32767) (o .due) && leZ (o .due) most)
-
--- clocks below C, 1 to 255 ticks wanted
-unfoldable pub countdownWithin : ℕ → Countdown → Bool
-countdownWithin c x = (ltb (x .clock) c && ltb (x .on) c) && (leb 1 (x .wanted) && leb (x .wanted) 255)
-
--- as they are stored: the number within bounds; those of dues, counted from the least tag, and of ticks wanted
+-- as they are stored: clocks below C, and the number within bounds; those of dues, counted from the least tag, or those of ticks wanted
 unfoldable pub storedWithin : ℕ → ℕ → ℕ → code.Obligation → Bool
 storedWithin c least most o = (ltb (o .clock) c && ltb (o .on) c) && (leb least (o .number) && leb (o .number) most)
 
 unfoldable pub leastDue : ℕ
-leastDue = dueNumber (negsuc 32767)
+leastDue = dueNumber leastTag
 
 unfoldable pub mostDue : ℕ
 mostDue = dueNumber mostTag
-
-abbrev pub leastWanted : ℕ
-leastWanted = 1
-
-abbrev pub mostWanted : ℕ
-mostWanted = 255
 
 -- a set of at most eight, each within bounds
 unfoldable pub setWithin : ℕ → ℕ → ℕ → ℕ → List code.Obligation → Bool
 setWithin c least most n os = leb n 8 && all (storedWithin c least most) os
 
--- obligations 0 to 8, countdowns 0 to 8; ticks minus ticks 0 to the instants held, of the precedes lines
+-- obligations 0 to 8, countdowns 0 to 8; and each of them, and the leads of the precedes lines, as `withinLimits` (theory, specs/Limits.antt) has it
 unfoldable pub remainderWithin : SheetValue → ℕ → arrays.Remainder → Bool
-remainderWithin v instants r =
-    leb (r .owed) 8 && all (obligationWithin mostTag (v .clocks)) (owedOf r)
-    && (leb (r .counting) 8 && all (countdownWithin (v .clocks)) (countdownsOf r) && all (λ (n : ℕ). leb n instants) (viewOf v r .leads))
+remainderWithin v instants r = fewOwed r && withinLimits mostTag (v .clocks) instants (viewOf v r)
 
 -- live 0 to 32; none is held once exhausted
 unfoldable pub heldWithin : SheetValue → ℕ → Status → List arrays.Remainder → Bool

@@ -18,11 +18,11 @@ use Rattle.tesl.specs.Fits.{mostTag, Obligation, unmet, Countdown, ticksIn, lef
 use Rattle.tesl.specs.Remainder.{Remainder, leadOf, remainder, sameRemainder}
 use Rattle.tesl.specs.Answer.{exhausted, remainders, answerWithin}
 use Rattle.theory.specs.Step.{nextLead, nextLeads, nextOwed, startedBy, begunCountdowns, nextCountdowns, next, stepOk, lastTagsOf, nexts, lineBelow, wellFormed}
-use Rattle.theory.specs.Limits.{dueOk, clocksOk, countdownOk, withinLimits, HeldLimits}
+use Rattle.theory.specs.Limits.{dueOk, clocksOk, obligationOk, leastWanted, mostWanted, countdownOk, withinLimits, HeldLimits}
 use Rattle.theory.specs.Sets.{Covers}
 use Rattle.theory.specs.Held.{Held, successors}
 use Rattle.tesl.proofs.Tests.{and-l, and-r, and-i}
-use Rattle.theory.proofs.Lists.{any-map, any-flatMap, any-imp, none-any, all-imp, all-as-any, all-flatMap, snoc-ind, snoc-each}
+use Rattle.theory.proofs.Lists.{any-map, any-flatMap, any-imp, none-any, all-imp, all-both, all-as-any, all-flatMap, snoc-ind, snoc-each}
 use Rattle.theory.proofs.LineKinds.{law}
 use Rattle.theory.proofs.Owed.{append-i, start-all, next-all, start-clocks, next-clocks}
 use Rattle.theory.proofs.Sets.{any-covers, any-set, distinct-set}
@@ -64,9 +64,12 @@ left-within c later x t = by-test (ltb m (x .wanted)) (ltb→lt m (x .wanted))
     by-test : (b : Bool) → (T b → m < x .wanted) → T (all (countdownOk c) (cond b (record { clock = x .clock; on = x .on; wanted = w } ∷ []) []))
     by-test true l =
         let k = l tt in
-        let few = leb→le (x .wanted) 255 (and-r (leb 1 (x .wanted)) (leb (x .wanted) 255) (and-r clocks (leb 1 (x .wanted) && leb (x .wanted) 255) t)) in
-        and-i (clocks && (leb 1 w && leb w 255)) true
-        (and-i clocks (leb 1 w && leb w 255) (and-l clocks (leb 1 (x .wanted) && leb (x .wanted) 255) t) (and-i (leb 1 w) (leb w 255) (le→leb 1 w (omega arith)) (le→leb w 255 (omega arith)))) tt
+        let least = leb leastWanted (x .wanted) in
+        let most = leb (x .wanted) mostWanted in
+        let few = leb→le (x .wanted) mostWanted (and-r least most (and-r clocks (least && most) t)) in
+        and-i (clocks && (leb leastWanted w && leb w mostWanted)) true
+        (and-i clocks (leb leastWanted w && leb w mostWanted) (and-l clocks (least && most) t)
+        (and-i (leb leastWanted w) (leb w mostWanted) (le→leb leastWanted w (omega arith)) (le→leb w mostWanted (omega arith)))) tt
     by-test false l = tt
 
 -- the limits cannot tell apart what is the same, however its obligations and countdowns are kept
@@ -75,7 +78,7 @@ unfolding withinLimits
 same-within most c held a b t =
     let h = alike a b t in
     let test : (p : Obligation → Bool) → all p (a .owed) ≡ all p (b .owed) = λ p. all-equal owed-equality p (a .owed) (b .owed) (h .owed) in
-    rw (test (clocksOk c), test (λ o. dueOk most (o .due)), all-equal count-equality (countdownOk c) (a .countdowns) (b .countdowns) (h .countdowns), h .leads)
+    rw (test (obligationOk most c), all-equal count-equality (countdownOk c) (a .countdowns) (b .countdowns) (h .countdowns), h .leads)
 
 -- a sheet as it is read: clocks of lines below C, fields of their sizes
 module _ (s : SheetValue) (wf : T (wellFormed s)) (values : All IsLineValue (s .lines)) where
@@ -104,17 +107,17 @@ module _ (s : SheetValue) (wf : T (wellFormed s)) (values : All IsLineValue (s .
       let dues : Obligation → Bool = λ o. dueOk mostTag (o .due) in
       let counted = countdownOk (s .clocks) in
       let small : ℕ → List ℕ → Bool = λ k. all (λ (n : ℕ). leb n k) in
-      let owed = all clocks (r .owed) && all dues (r .owed) in
+      let owed = all (obligationOk mostTag (s .clocks)) (r .owed) in
       let rest = all counted (r .countdowns) && small held (r .leads) in
       let u = and-l owed rest t in
       let v = and-r owed rest t in
       let after = nextOwed mostTag (s .lines) f (r .owed) in
       let counts = nextCountdowns (s .lines) f (r .countdowns) in
       let leads = nextLeads (nextLead f) (s .lines) (r .leads) in
-      and-i (all clocks after && all dues after) (all counted counts && small (suc held) leads)
-      (and-i (all clocks after) (all dues after)
-      (next-clocks (s .clocks) mostTag (s .lines) wf f (r .owed) (and-l (all clocks (r .owed)) (all dues (r .owed)) u))
-      (next-all dues mostTag IsLineValue f (λ l v. law l .owes .begun-dues mostTag f tags) (s .lines) values (r .owed) (and-r (all clocks (r .owed)) (all dues (r .owed)) u)))
+      and-i (all (obligationOk mostTag (s .clocks)) after) (all counted counts && small (suc held) leads)
+      (all-both clocks dues after
+      (next-clocks (s .clocks) mostTag (s .lines) wf f (r .owed) (all-imp (obligationOk mostTag (s .clocks)) clocks (r .owed) (λ o. and-l (clocks o) (dues o)) u))
+      (next-all dues mostTag IsLineValue f (λ l v. law l .owes .begun-dues mostTag f tags) (s .lines) values (r .owed) (all-imp (obligationOk mostTag (s .clocks)) dues (r .owed) (λ o. and-r (clocks o) (dues o)) u)))
       (and-i (all counted counts) (small (suc held) leads)
       (countdowns-within f (r .countdowns) (and-l (all counted (r .countdowns)) (small held (r .leads)) v))
       (leads-within f held (s .lines) (r .leads) (and-r (all counted (r .countdowns)) (small held (r .leads)) v)))
@@ -124,8 +127,8 @@ module _ (s : SheetValue) (wf : T (wellFormed s)) (values : All IsLineValue (s .
   start-within =
       let dues : Obligation → Bool = λ o. dueOk mostTag (o .due) in
       let owed = unmet mostTag (s .lines) [] in
-      and-i (all (clocksOk (s .clocks)) owed && all dues owed) (all (λ (n : ℕ). leb n 0) (map (leadOf []) (s .lines)))
-      (and-i (all (clocksOk (s .clocks)) owed) (all dues owed) (start-clocks (s .clocks) mostTag (s .lines) wf)
+      and-i (all (obligationOk mostTag (s .clocks)) owed) (all (λ (n : ℕ). leb n 0) (map (leadOf []) (s .lines)))
+      (all-both (clocksOk (s .clocks)) dues owed (start-clocks (s .clocks) mostTag (s .lines) wf)
       (start-all dues mostTag IsLineValue (λ l v. law l .owes .start-dues v) (s .lines) values))
       (no-leads (s .lines))
     where

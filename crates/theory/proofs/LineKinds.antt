@@ -14,7 +14,7 @@ use Rattle.tesl.specs.Lists.{all, any}
 use Rattle.tesl.specs.Run.{Filled, ticksAt, tagAt}
 use Rattle.tesl.specs.Fits.{ticksIn, mostTag, Obligation, Countdown, leftBy}
 use Rattle.theory.specs.Step.{bit}
-use Rattle.theory.specs.Limits.{dueOk, clocksOk, countdownOk}
+use Rattle.theory.specs.Limits.{dueOk, clocksOk, leastWanted, mostWanted, countdownOk}
 use Rattle.tesl.proofs.Tests.{and-l, and-r, and-i, or-l, or-r, or-e}
 use Rattle.theory.proofs.Lists.{any-append, any-snoc, count-snoc}
 use Rattle.theory.proofs.Whole.{tag-due, delay-due}
@@ -224,7 +224,8 @@ counted-law A B D n = record {
       where
         by-test : (x : Bool) → (T x → 0 < n) → T (all (countdownOk c) (cond x (wanting (n - 0) ∷ []) [] ++ []))
         by-test true p = and-i (countdownOk c (wanting (n - 0))) true
-            (and-i (ltb D c && ltb B c) (leb 1 (n - 0) && leb (n - 0) 255) w (and-i (leb 1 (n - 0)) (leb (n - 0) 255) (let q = p tt in le→leb 1 (n - 0) (omega arith)) (le→leb (n - 0) 255 (omega arith)))) tt
+            (and-i (ltb D c && ltb B c) (leb leastWanted (n - 0) && leb (n - 0) mostWanted) w
+            (and-i (leb leastWanted (n - 0)) (leb (n - 0) mostWanted) (let q = p tt in le→leb leastWanted (n - 0) (omega arith)) (le→leb (n - 0) mostWanted (omega arith)))) tt
         by-test false p = tt
     begun c false b l h w = tt
 

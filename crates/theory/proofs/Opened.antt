@@ -1,4 +1,4 @@
--- A sheet that is read, and any within its own limits: 1 to 8 clocks, at most 16 lines and 8 sporadic ones, the clocks of lines below C; so the answer of opening is never exhausted. Assumes nothing.
+-- A sheet that is read, and any within its own limits: 1 to 8 clocks, at most 16 lines and 8 sporadic ones, the clocks of lines below C, no count of 0; so the answer of opening is never exhausted. Assumes nothing.
 use mathlib.Core.Bool.{Bool, true, false, cond}
 use mathlib.Core.List.{List, [], _∷_, _++_, map, append-nil}
 use mathlib.Core.Path.{_≡_, refl, _∙_}
@@ -14,7 +14,7 @@ use Rattle.records.specs.Outcome.{taken}
 use Rattle.records.specs.Sheet.{SheetValue, clockCount, readBy, sheetValueChecks}
 use Rattle.records.specs.Types.{All, IsBytes, IsSheet}
 use Rattle.records.proofs.Lists.{Passed, taken-passed}
-use Rattle.records.proofs.sheet.Passed.{Below, lines-passed}
+use Rattle.records.proofs.sheet.Passed.{Below, lines-passed, lines-counted}
 use Rattle.records.proofs.sheet.RoundTrip.{read-writes}
 use Rattle.tesl.specs.Lists.{all, flatMap}
 use Rattle.tesl.specs.Fits.{mostTag, owedAtStart, unmet}
@@ -45,6 +45,7 @@ checked-limits order v value h =
       lines-most = ltb-false 16 (length (v .lines)) (h .1 .0);
       sporadics-most = r .1;
       clocks-below = all-below (v .clocks) (v .lines) (r .0);
+      counts-least = lines-counted order (v .clocks) [] (v .lines) (h .1 .1);
       values = value .1;
     }
 

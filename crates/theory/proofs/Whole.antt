@@ -1,13 +1,13 @@
 -- Whole numbers: the tests `eqZ` and `leZ`, and the range of a due. Assumes nothing.
 use mathlib.Core.Bool.{true, false, not, cond}
-use Prim.Native.Nat.{ℕ, suc, _+_, _-_, _≤_, _<_}
+use Prim.Native.Nat.{ℕ, suc, _-_, _≤_, _<_}
 use native.Mathlib.Omega.{arith}
 use lib.Dec.{T, leb, ltb, leb→le, le→leb, ltb→lt, nltb→le, eqb-refl}
 use lib.IntN.{ℤ, pos, negsuc, _+ℤ_, subℕ}
 use lib.Signed.{leZ}
 use Rattle.records.specs.Types.{IsTag}
 use Rattle.tesl.specs.Fits.{eqZ, mostTag}
-use Rattle.theory.specs.Limits.{dueOk}
+use Rattle.theory.specs.Limits.{leastTag, dueOk}
 use Rattle.tesl.proofs.Tests.{and-i}
 
 pub eqZ-refl : (a : ℤ) → T (eqZ a a)
@@ -37,6 +37,6 @@ subℕ-ind P a b f g =
       | false ↦ λ u v. g (v tt)
     ] (ltb→lt a b) (nltb→le a b)
 
-pub delay-due : (z : ℤ) (d : ℕ) → IsTag z → T (leZ (negsuc 32767) (z +ℤ pos d))
+pub delay-due : (z : ℤ) (d : ℕ) → IsTag z → T (leZ leastTag (z +ℤ pos d))
 delay-due (pos n) d t = tt
-delay-due (negsuc n) d t = subℕ-ind (λ z. T (leZ (negsuc 32767) z)) d (suc n) (λ l. le→leb (suc n - suc d) 32767 (omega arith)) (λ l. tt)
+delay-due (negsuc n) d t = subℕ-ind (λ z. T (leZ leastTag z)) d (suc n) (λ l. le→leb (suc n - suc d) 32767 (omega arith)) (λ l. tt)

@@ -15,9 +15,10 @@ pub mod Said
 pub mod SameLines
 -- numbered instants
 pub mod Numbered
--- ---- for proofs only: adding to sets, one instant on a remainder, the remainders held after a run, their limits, and what a monitor keeps
+-- the limits of a sheet, of a list of instants and of what is held (refusal 11)
+pub mod Limits
+-- ---- for proofs only: adding to sets, one instant on a remainder, the remainders held after a run, and what a monitor keeps
 pub mod Adding
 pub mod Step
 pub mod Held
-pub mod Limits
 pub mod Tracks

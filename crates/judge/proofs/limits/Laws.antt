@@ -1,5 +1,5 @@
 -- An obligation within its limits as it is stored; a lead within its limit: of one line, and of all lines with the leads listed as the code reads them. Assumes nothing.
-use mathlib.Core.Bool.{Bool, true, false, _&&_}
+use mathlib.Core.Bool.{Bool, true, false, _&&_, and-false}
 use mathlib.Core.List.{List, [], _∷_, map}
 use mathlib.Core.Path.{_≡_, refl, sym, ap, ap₂, _∙_}
 use Prim.Native.Nat.{ℕ, _≤_}
@@ -13,29 +13,30 @@ use Rattle.records.specs.Sheet.{SheetValue, lineAt, sheetValue}
 use Rattle.records.proofs.Lists.{listed-take, length-listed}
 use Rattle.tesl.specs.Lists.{all}
 use Rattle.theory.specs.Step.{linesOk, nextLeads}
+use Rattle.theory.specs.Limits.{obligationOk, leastWanted, mostWanted, countdownOk, withinLimits}
 use Rattle.work.specs.View.{inUse}
 use Rattle.work.specs.Lines.{leadIn}
 use Rattle.tesl.specs.Fits.{mostTag}
 use Rattle.remainders.specs.declared.obligation.Obligation as code
 use Rattle.remainders.specs.declared.remainder.Remainder as arrays
 use Rattle.remainders.specs.Word.{dueOf, dueNumber}
-use Rattle.remainders.specs.View.{obligationOf, countdownOf, viewOf}
-use Rattle.judge.specs.Limits.{obligationWithin, countdownWithin, storedWithin, leastDue, mostDue, leastWanted, mostWanted, setWithin, remainderWithin}
+use Rattle.remainders.specs.View.{obligationOf, countdownOf, owedOf, countdownsOf, viewOf}
+use Rattle.judge.specs.Limits.{storedWithin, leastDue, mostDue, setWithin, remainderWithin}
 use Rattle.remainders.proofs.obligation.Laws.{due-le}
 use Rattle.lines.proofs.tags.Laws.{okFrom, ok-start}
 
 -- ---- obligations
 module _ (c : ℕ) where
-  pub stored-within : (o : code.Obligation) → storedWithin c leastDue mostDue o ≡ obligationWithin mostTag c (obligationOf o)
-  unfolding storedWithin obligationWithin dueOf dueNumber leastDue mostDue
+  pub stored-within : (o : code.Obligation) → storedWithin c leastDue mostDue o ≡ obligationOk mostTag c (obligationOf o)
+  unfolding storedWithin dueOf dueNumber leastDue mostDue
   stored-within o = ap (λ (b : Bool). (ltb (o .clock) c && ltb (o .on) c) && b) (ap₂ _&&_ (sym (due-le leastDue (o .number))) (sym (due-le (o .number) mostDue)))
 
-  pub all-stored : (os : List code.Obligation) → all (storedWithin c leastDue mostDue) os ≡ all (obligationWithin mostTag c) (map obligationOf os)
+  pub all-stored : (os : List code.Obligation) → all (storedWithin c leastDue mostDue) os ≡ all (obligationOk mostTag c) (map obligationOf os)
   all-stored [] = refl
   all-stored (o ∷ os) = ap₂ _&&_ (stored-within o) (all-stored os)
 
-  all-counted : (os : List code.Obligation) → all (storedWithin c leastWanted mostWanted) os ≡ all (countdownWithin c) (map countdownOf os)
-  unfolding storedWithin countdownWithin
+  all-counted : (os : List code.Obligation) → all (storedWithin c leastWanted mostWanted) os ≡ all (countdownOk c) (map countdownOf os)
+  unfolding storedWithin
   all-counted [] = refl
   all-counted (o ∷ os) = ap (λ (b : Bool). storedWithin c leastWanted mostWanted o && b) (all-counted os)
 
@@ -43,9 +44,16 @@ module _ (c : ℕ) where
   pub by-sets : (v : SheetValue) → v .clocks ≡ c → (m : ℕ) (r : arrays.Remainder) → remainderWithin v m r
       ≡ (setWithin c leastDue mostDue (r .owed) (take (r .owed) (r .obligations))
       && (setWithin c leastWanted mostWanted (r .counting) (take (r .counting) (r .countdowns)) && all (λ (n : ℕ). leb n m) (viewOf v r .leads)))
-  unfolding remainderWithin setWithin
+  unfolding remainderWithin withinLimits setWithin
   by-sets v e m r =
-      rw (e, all-stored (take (r .owed) (r .obligations)), all-counted (take (r .counting) (r .countdowns))) refl
+      regroup (leb (r .owed) 8) (leb (r .counting) 8) (all (obligationOk mostTag (v .clocks)) (owedOf r)) (all (countdownOk (v .clocks)) (countdownsOf r)) (all (λ (n : ℕ). leb n m) (viewOf v r .leads))
+      ∙ rw (e, all-stored (take (r .owed) (r .obligations)), all-counted (take (r .counting) (r .countdowns))) refl
+    where
+      -- how many, and what each is, set by set
+      regroup : (a b c d e : Bool) → ((a && b) && (c && (d && e))) ≡ ((a && c) && ((b && d) && e))
+      regroup false b c d e = refl
+      regroup true false c d e = sym (and-false c)
+      regroup true true c d e = refl
 
 -- one test after the other
 module _ (v : SheetValue) (m : ℕ) (r : arrays.Remainder) {b : Bool} (owed : b ≡ setWithin (v .clocks) leastDue mostDue (r .owed) (take (r .owed) (r .obligations))) where

@@ -1,7 +1,7 @@
 -- Limits of a monitor (11) as theory has them: of its sheet and of those held; what within them the work asks; and the shape of those held. Assumes nothing.
 use mathlib.Core.Bool.{Bool, true, false, _&&_, and-false, and-assoc}
 use mathlib.Core.List.{List, [], _∷_, map}
-use mathlib.Core.Path.{_≡_, refl, sym, ap, _∙_, subst, fun-ext}
+use mathlib.Core.Path.{_≡_, refl, sym, ap, _∙_, subst}
 use Prim.Native.Nat.{ℕ, zero, suc, _≤_, _<_}
 use native.Mathlib.Omega.{arith}
 use lib.Dec.{T, leb, ltb, leb→le, le→leb, lt→ltb}
@@ -13,10 +13,10 @@ use Rattle.records.specs.Sheet.{SheetValue, lineAt, sheetValueChecks}
 use Rattle.records.specs.Types.{All, IsSheet}
 use Rattle.records.proofs.Lists.{both, taken-passed, length-listed}
 use Rattle.tesl.specs.Lists.{all}
-use Rattle.tesl.specs.Fits.{mostTag, Obligation}
+use Rattle.tesl.specs.Fits.{mostTag}
 use Rattle.tesl.specs.Remainder.{Remainder}
 use Rattle.tesl.proofs.Tests.{and-l, and-r, ≡→T, T→≡}
-use Rattle.theory.specs.Limits.{SheetLimits, clocksOk, dueOk, countdownOk, withinLimits}
+use Rattle.theory.specs.Limits.{SheetLimits, obligationOk, countdownOk, withinLimits}
 use Rattle.theory.proofs.Lists.{all-imp}
 use Rattle.theory.proofs.Opened.{checked-limits}
 use Rattle.work.specs.View.{heldList}
@@ -26,8 +26,8 @@ use Rattle.remainders.specs.declared.remainder.Remainder as arrays
 use Rattle.remainders.specs.declared.held.Status.{Status}
 use Rattle.remainders.specs.declared.held.Status.the-variants.{Exhausted, Live}
 use Rattle.judge.specs.declared.monitor.Monitor.{Monitor}
-use Rattle.remainders.specs.View.{obligationOf, countdownOf, owedOf, countdownsOf, viewOf, heldIn, fewOwed, sizedIn, sized}
-use Rattle.judge.specs.Limits.{isTaken, sheetWithin, obligationWithin, countdownWithin, remainderWithin, heldWithin, monitorWithin}
+use Rattle.remainders.specs.View.{obligationOf, countdownOf, viewOf, heldIn, fewOwed, sizedIn, sized}
+use Rattle.judge.specs.Limits.{isTaken, sheetWithin, remainderWithin, heldWithin, monitorWithin}
 use Rattle.judge.specs.Monitor.{sheetBy, heldBy, Workable}
 
 -- ---- tests of a list
@@ -56,32 +56,14 @@ pub sheet-limits : (v : SheetValue) → IsSheet v → T (sheetWithin v) → Shee
 unfolding sheetWithin
 sheet-limits v h t = passed v (decide (sheetValueChecks Any v) v) refl (T→≡ _ t) h
 
--- ---- a remainder
-
--- the limits of an obligation are those of its clocks and of its due
-both-limits : (c : ℕ) (os : List Obligation) → all (obligationWithin mostTag c) os ≡ (all (clocksOk c) os && all (λ (o : Obligation). dueOk mostTag (o .due)) os)
-unfolding obligationWithin
-both-limits c os = all-parts (clocksOk c) (λ o. dueOk mostTag (o .due)) os
-
-six : (a b c d e : Bool) → (a && b && (c && d && e)) ≡ (a && c && (b && (d && e)))
-six false b c d e = refl
-six true b false d e = and-false b
-six true b true d e = refl
-
-remainder-limits : (v : SheetValue) (n : ℕ) (r : arrays.Remainder) → remainderWithin v n r ≡ (fewOwed r && withinLimits mostTag (v .clocks) n (viewOf v r))
-unfolding remainderWithin withinLimits countdownWithin
-remainder-limits v n r =
-    six (leb (r .owed) 8) (all (obligationWithin mostTag (v .clocks)) (owedOf r)) (leb (r .counting) 8) (all (countdownWithin (v .clocks)) (countdownsOf r)) (all (λ (k : ℕ). leb k n) (viewOf v r .leads))
-    ∙ ap (λ (b : Bool). fewOwed r && (b && (all (countdownWithin (v .clocks)) (countdownsOf r) && all (λ (k : ℕ). leb k n) (viewOf v r .leads)))) (both-limits (v .clocks) (owedOf r))
-
 -- ---- those held
 
 -- of the first ones of an array: how many each owes, and the limits of each view
 each-limits : (v : SheetValue) (n : ℕ) (rs : List arrays.Remainder)
     → all (remainderWithin v n) rs ≡ (all fewOwed rs && all (withinLimits mostTag (v .clocks) n) (map (viewOf v) rs))
+unfolding remainderWithin
 each-limits v n rs =
-    ap (λ (p : arrays.Remainder → Bool). all p rs) (fun-ext (remainder-limits v n))
-    ∙ all-parts fewOwed (λ r. withinLimits mostTag (v .clocks) n (viewOf v r)) rs
+    all-parts fewOwed (λ r. withinLimits mostTag (v .clocks) n (viewOf v r)) rs
     ∙ ap (λ (b : Bool). all fewOwed rs && b) (sym (all-map (withinLimits mostTag (v .clocks) n) (viewOf v) rs))
 
 -- within the limits: room for what is counted, and each view within them
@@ -121,7 +103,7 @@ small-leads : (c n : ℕ) → n ≤ 4000 → (r : Remainder) → T (withinLimits
 unfolding withinLimits
 small-leads c n h r t = all-imp (λ (k : ℕ). leb k n) (λ (k : ℕ). ltb k 65535) (r .leads) (λ k u. let b = leb→le k n u in lt→ltb k 65535 (omega arith))
     (and-r (all (countdownOk c) (r .countdowns)) (all (λ (k : ℕ). leb k n) (r .leads))
-    (and-r (all (clocksOk c) (r .owed) && all (λ (o : Obligation). dueOk mostTag (o .due)) (r .owed)) (all (countdownOk c) (r .countdowns) && all (λ (k : ℕ). leb k n) (r .leads)) t))
+    (and-r (all (obligationOk mostTag c) (r .owed)) (all (countdownOk c) (r .countdowns) && all (λ (k : ℕ). leb k n) (r .leads)) t))
 
 pub leads-small : (m : Monitor) → Limits m → T (all smallLeads (heldList (heldBy m)))
 leads-small m l = all-imp (withinLimits mostTag (m .sheet .clocks) (m .instants)) smallLeads (heldList (heldBy m)) (small-leads (m .sheet .clocks) (m .instants) (l .instants)) (l .views)

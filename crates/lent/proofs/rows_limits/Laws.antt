@@ -14,6 +14,7 @@ use Rattle.records.specs.Sheet.{SheetValue}
 use Rattle.records.proofs.Lists.{length-listed}
 use Rattle.tesl.specs.Lists.{all, below, table}
 use Rattle.theory.specs.Step.{nextLeads}
+use Rattle.theory.specs.Limits.{leastWanted, mostWanted}
 use Rattle.work.specs.View.{inUse}
 use Rattle.work.proofs.Below.{below-ext, below-front, below-either}
 use Rattle.work.proofs.Listing.{listed-at, all-listed}
@@ -21,7 +22,7 @@ use Rattle.work.proofs.Carried.{sheetLine, next-places, used-by}
 use Rattle.remainders.specs.declared.held.Status.{Status}
 use Rattle.remainders.specs.declared.held.Status.the-variants.{Exhausted, Live}
 use Rattle.lines.specs.declared.plan.Plan.{Plan}
-use Rattle.judge.specs.Limits.{storedWithin, leastDue, mostDue, leastWanted, mostWanted, setWithin, remainderWithin, heldWithin}
+use Rattle.judge.specs.Limits.{storedWithin, leastDue, mostDue, setWithin, remainderWithin, heldWithin}
 use Rattle.lines.specs.Plan.{Planned}
 use Rattle.remainders.specs.Rows.{rowCount, rowObligation, rowSet, rowLead, rowLeads}
 use Rattle.judge.specs.Progress.{rowRemainder}
