@@ -1,46 +1,98 @@
--- What a filling makes of a row, by what depends on the filling alone, question by question. Assumes nothing.
-use mathlib.Core.Bool.{Bool, true, false, not, cond, _&&_, and-true, and-false}
+-- What a filling makes of a row, by what depends on the filling alone: what is known of the row that is built, question by question. Assumes nothing.
+use mathlib.Core.Bool.{Bool, true, false, not}
 use mathlib.Core.List.{List, map}
-use mathlib.Core.Option.{some, Option·map}
-use mathlib.Core.Path.{_≡_, sym, ap, ap₂, _∙_}
-use Prim.Native.Nat.{ℕ, _+_, _-_, _<_}
+use mathlib.Core.Option.{Option, some, Option·map}
+use mathlib.Core.Path.{_≡_, sym, ap, _∙_}
+use Prim.Native.Nat.{ℕ, _≤_}
 use native.Mathlib.Omega.{arith}
-use lib.Dec.{T, leb}
-use lib.ListN.{getD, drop, take}
+use lib.ListN.{drop, take}
 use borrow.Author.Tests.{not-true, not-false}
-use Rattle.records.specs.Lists.{listed}
 use Rattle.records.specs.Sheet.{SheetValue}
-use Rattle.records.proofs.Lists.{listed-take, length-listed}
-use Rattle.tesl.specs.Lists.{below}
 use Rattle.tesl.specs.Run.{Filled}
 use Rattle.tesl.specs.Fits.{Obligation, Countdown}
 use Rattle.tesl.specs.Remainder.{Remainder, sameObligation, sameCountdown}
-use Rattle.theory.specs.Step.{overlap, linesOk, nextLeads}
-use Rattle.work.specs.Advanced.{Advanced, fails, over, onto}
-use Rattle.work.specs.View.{inUse, usedPart}
-use Rattle.work.specs.Questions.{carriedHolds, leadAfter}
-use Rattle.work.specs.Lines.{allStopped, smallLeads}
-use Rattle.work.specs.Owed.{owing, addedCountdowns, stillOwed, stillCounting, together}
-use Rattle.work.specs.Carried.{either}
-use Rattle.work.specs.Parts.{isPrecedes}
-use Rattle.work.specs.Work.{carried, withBegun, withStillOwed, advanced}
-use Rattle.work.proofs.Below.{below-ext}
-use Rattle.work.proofs.Listing.{listed-at}
-use Rattle.work.proofs.Carried.{sheetLine, small-lead, carried-holds, carried-stopped, carried-leads}
-use Rattle.step.specs.declared.filling.Filling.{Filling}
+use Rattle.work.specs.Advanced.{Advanced, fails, over}
+use Rattle.work.specs.View.{usedPart}
+use Rattle.work.specs.Owed.{addedAll, addedCountdowns, stillOwed, stillCounting, together}
+use Rattle.work.specs.Work.{withBegun, withStillOwed, advanced}
 use Rattle.lines.specs.declared.plan.Plan.{Plan}
-use Rattle.remainders.specs.Word.{halfValues}
-use Rattle.remainders.specs.Rows.{rowSet, rowOwed, rowCountdowns, rowLead, rowLeads, rowStop, rowStopped, rowOf, provided, BegunRow}
-use Rattle.step.specs.Left.{LeftRow}
 use Rattle.remainders.specs.View.{obligationOf, countdownOf}
-use Rattle.step.specs.Filling.{filledInstant, begunIn, GatheredFor}
+use Rattle.remainders.specs.Rows.{leadsPart, width, rowCount, rowSet, rowOwed, rowCountdowns, rowOf, provided, FewInRow, Stays, BegunRow}
 use Rattle.remainders.proofs.obligation.Laws.{same-read, same-counted}
-use Rattle.step.proofs.left.Laws.{left-owed, left-counting}
+use Rattle.remainders.proofs.rows.Flags.{flags-stay}
+use Rattle.remainders.proofs.rows.Laws.{stays-on, stays-wide}
 use Rattle.remainders.proofs.rows.Reading.{provided-read, begun-row-read}
+use Rattle.step.specs.declared.advance.Next.the-variants.{Fails, Over, Onto}
+use Rattle.step.specs.declared.filling.Filling.{Filling}
+use Rattle.step.specs.Left.{LeftRow}
+use Rattle.step.specs.Filling.{filledInstant, begunIn, GatheredFor, AdvancedRow}
+use Rattle.step.proofs.left.Laws.{left-owed, left-counting}
+use Rattle.step.proofs.advance.Built.{row-stays, other-set, few-owed, few-counting, set-stays}
 
 pub same-remainder : {o o′ : List Obligation} {c c′ : List Countdown} {l l′ : List ℕ} {s s′ : List Bool} → o ≡ o′ → c ≡ c′ → l ≡ l′ → s ≡ s′
     → _≡_ {A = Remainder} (record { owed = o; countdowns = c; leads = l; stopped = s }) (record { owed = o′; countdowns = c′; leads = l′; stopped = s′ })
 same-remainder a b c d = λ i. record { owed = a i; countdowns = b i; leads = c i; stopped = d i }
+
+-- ---- what row i becomes
+
+-- as a remainder of the sheet
+abbrev pub row : SheetValue → List ℕ → ℕ → Remainder
+row v rows i = usedPart v (rowOf rows i)
+
+-- what is said of it, in every sheet that the plan and the filling are of
+abbrev pub Becomes : Plan → Filling → List ℕ → ℕ → (SheetValue → Advanced) → Type 0
+Becomes p f rows i said = (v : SheetValue) → GatheredFor v p f → advanced v (filledInstant f) (begunIn f) (row v rows i) ≡ said v
+
+-- by what is left of its obligations and of its countdowns; by those with what is begun
+abbrev pub byLeft : Filling → List ℕ → ℕ → Option (List Obligation) → Option (List Countdown) → SheetValue → Advanced
+byLeft f rows i os cs v = withStillOwed v (f .ticks) (begunIn f) (row v rows i) (together os cs)
+
+abbrev pub byBegun : Filling → List ℕ → ℕ → Option (List Obligation) → Option (List Countdown) → SheetValue → Advanced
+byBegun f rows i os cs v = withBegun v (f .ticks) (row v rows i) (together os cs)
+
+-- ---- what is known once a question was passed; `to` is the row built, from rows a to rows b
+
+-- leads and stopped clocks
+pub record LinesAsked (p : Plan) (f : Filling) (i : ℕ) (a : List ℕ) : Type 0 where
+  pub becomes : Becomes p f a i (byLeft f a i (stillOwed (filledInstant f) (rowOwed a i)) (stillCounting (filledInstant f) (rowCountdowns a i)))
+
+-- no obligation is late
+pub record OwedLeft (p : Plan) (f : Filling) (i to : ℕ) (a b : List ℕ) : Type 0 where
+  pub stays : Stays to 0 leadsPart a b
+  pub few : rowCount b to 0 ≤ 8
+  pub becomes : Becomes p f a i (byLeft f a i (some (rowOwed b to)) (stillCounting (filledInstant f) (rowCountdowns a i)))
+
+-- both sets are stored, and this is said of row i
+pub record BothStored (p : Plan) (f : Filling) (i to : ℕ) (a b : List ℕ) (said : SheetValue → Advanced) : Type 0 where
+  pub stays : Stays to 0 leadsPart a b
+  pub few : FewInRow b to
+  pub becomes : Becomes p f a i said
+
+-- no countdown is missed
+abbrev pub BothLeft : Plan → Filling → ℕ → ℕ → List ℕ → List ℕ → Type 0
+BothLeft p f i to a b = BothStored p f i to a b (byBegun f a i (addedAll (begunIn f .owed) (rowOwed b to)) (addedCountdowns (begunIn f .countdowns) (rowCountdowns b to)))
+
+-- there is room for the obligations begun
+abbrev pub OwedBegun : Plan → Filling → ℕ → ℕ → List ℕ → List ℕ → Type 0
+OwedBegun p f i to a b = BothStored p f i to a b (byBegun f a i (some (rowOwed b to)) (addedCountdowns (begunIn f .countdowns) (rowCountdowns b to)))
+
+-- and for the countdowns
+abbrev pub BothBegun : Plan → Filling → ℕ → ℕ → List ℕ → List ℕ → Type 0
+BothBegun p f i to a b = BothStored p f i to a b (byBegun f a i (some (rowOwed b to)) (some (rowCountdowns b to)))
+
+-- a row that doesn't go on
+module _ {p : Plan} {f : Filling} {i to : ℕ} {a b : List ℕ} (s : Stays to 0 leadsPart a b) where
+  pub fails-row : Becomes p f a i (λ v. fails) → AdvancedRow p f i to Fails a b
+  fails-row w = record { stays = stays-wide s 0 width (omega arith) (omega arith); flags = flags-stay s (omega arith); few = λ t. absurd (not-failed t); row = λ v asked small. sym (w v asked) }
+    where
+      not-failed : Fails ≡ Onto → ⊥
+      not-failed t = let z : _≡_ {A = ℕ} 0 1 = cc in omega arith
+
+  pub over-row : Becomes p f a i (λ v. over) → AdvancedRow p f i to Over a b
+  over-row w = record { stays = stays-wide s 0 width (omega arith) (omega arith); flags = flags-stay s (omega arith); few = λ t. absurd (not-over t); row = λ v asked small. sym (w v asked) }
+    where
+      not-over : Over ≡ Onto → ⊥
+      not-over t = let z : _≡_ {A = ℕ} 0 1 = cc in omega arith
 
 -- what is left of a set, read
 module _ {f : Filled} {i to : ℕ} {k : Bool} {a b : List ℕ} where
@@ -50,97 +102,75 @@ module _ {f : Filled} {i to : ℕ} {k : Bool} {a b : List ℕ} where
   left-counting-row : LeftRow f 1 i to k a b → provided k (rowCountdowns b to) ≡ stillCounting f (rowCountdowns a i)
   left-counting-row m = sym (provided-read (map countdownOf) k (rowSet b to 1)) ∙ ap (Option·map (map countdownOf)) (m .set) ∙ left-counting f (rowSet a i 1)
 
-module _ {v : SheetValue} {p : Plan} {f : Filling} (a : GatheredFor v p f) (rows : List ℕ) (i : ℕ) where
-  abbrev row : Remainder
-  row = usedPart v (rowOf rows i)
+-- ---- what is left of each set
 
-  -- what the row becomes
-  abbrev became : Advanced
-  became = advanced v (filledInstant f) (begunIn f) row
+module _ {p : Plan} {f : Filling} {i to : ℕ} {a b : List ℕ} {k : Bool} (w : LinesAsked p f i a) (m : LeftRow (filledInstant f) 0 i to k a b) where
+  late-stays : Stays to 0 leadsPart a b
+  late-stays = row-stays 0 (m .stays) (omega arith)
 
-  abbrev enough : Bool
-  enough = below (p .leaders) (λ (k : ℕ). leb (getD (f .needs) k 0) (rowLead rows i k))
+  by-owed : Becomes p f a i (byLeft f a i (provided k (rowOwed b to)) (stillCounting (filledInstant f) (rowCountdowns a i)))
+  by-owed v g = w .becomes v g ∙ rw (left-owed-row m)
 
-  lead-at : (rs : List ℕ) (j k : ℕ) → k < p .leaders → getD (rowLeads rs j) k 0 ≡ rowLead rs j k
-  lead-at rs j k h = let r = a .leading .0 in listed-at (rowLead rs j) 0 16 k (omega arith)
+  -- an obligation is late
+  pub row-late : not k ≡ true → AdvancedRow p f i to Fails a b
+  row-late l = fails-row late-stays (λ v g. by-owed v g ∙ rw (not-true k l))
 
-  -- a clock that ticks is stopped in the row
-  abbrev barred : Bool
-  barred = overlap (f .ticks) (listed (rowStop rows i) (p .clocks))
+  pub owed-left : not k ≡ false → OwedLeft p f i to a b
+  owed-left l = record { stays = late-stays; few = m .few (not-false k l); becomes = λ v g. by-owed v g ∙ rw (not-false k l) }
 
-  row-stopped : row .stopped ≡ listed (rowStop rows i) (p .clocks)
-  row-stopped =
-      sym (listed-take false (rowStop rows i) (v .clocks) (rowStopped rows i) (omega (arith, a .few-clocks, length-listed (rowStop rows i) 8)) (λ k h. sym (listed-at (rowStop rows i) false 8 k (omega (arith, a .few-clocks)))))
-      ∙ ap (listed (rowStop rows i)) (sym (a .as-many))
+-- the countdowns of row i are read after its obligations; row `to` still owes what was left
+module _ {p : Plan} {f : Filling} {i to : ℕ} {a b c : List ℕ} {k : Bool} (w : OwedLeft p f i to a b) (apart : i ≡ to → ⊥) (few : rowCount a i 1 ≤ 8) (m : LeftRow (filledInstant f) 1 i to k b c) where
+  missed-stays : Stays to 0 leadsPart a c
+  missed-stays = stays-on (w .stays) (row-stays 1 (m .stays) (omega arith))
 
-  holds : (not (overlap (f .ticks) (row .stopped)) && linesOk (carriedHolds (f .ticks)) (v .lines) (row .leads)) ≡ (not barred && enough)
-  holds = ap₂ (λ (bs : List Bool) (b : Bool). not (overlap (f .ticks) bs) && b) row-stopped
-      (carried-holds v (f .ticks) (p .leaders) (p .precede) (a .leading) (rowLeads rows i) ∙ below-ext (p .leaders) _ _ (λ k h. ap₂ leb (sym (a .needed k h)) (lead-at rows i k h)))
+  read-after : rowCountdowns b i ≡ rowCountdowns a i
+  read-after = ap (map countdownOf) (set-stays apart (w .stays) 1 (omega arith) few)
 
-  -- a lead is too short; a stopped clock ticks
-  module _ {h : Bool} (g : h ≡ enough) where
-    pub row-short : not h ≡ true → fails ≡ became
-    unfolding advanced
-    row-short u = rw (holds, sym g, not-true h u, and-false (not barred))
+  left-kept : rowOwed c to ≡ rowOwed b to
+  left-kept = ap (map obligationOf) (other-set 1 (m .stays) (omega arith) 0 (omega arith) (λ e. omega arith) (w .few))
 
-    module _ (u : not h ≡ false) {b : Bool} (e : b ≡ barred) where
-      by-stopped : became ≡ cond (not b) (withStillOwed v (f .ticks) (begunIn f) row (together (stillOwed (filledInstant f) (row .owed)) (stillCounting (filledInstant f) (row .countdowns)))) fails
-      unfolding advanced
-      by-stopped = rw (holds, sym g, not-false h u, and-true (not barred), sym e)
+  by-left : Becomes p f a i (byLeft f a i (some (rowOwed c to)) (provided k (rowCountdowns c to)))
+  by-left v g = w .becomes v g ∙ rw (sym left-kept, left-counting-row m, read-after)
 
-      pub row-barred : b ≡ true → fails ≡ became
-      row-barred t = sym (by-stopped ∙ rw t)
+  -- a countdown is missed
+  pub row-missed : not k ≡ true → AdvancedRow p f i to Fails a c
+  row-missed l = fails-row missed-stays (λ v g. by-left v g ∙ rw (not-true k l))
 
-      -- an obligation is late
-      module _ (t : b ≡ false) {to : ℕ} {k : Bool} {mid : List ℕ} (m : LeftRow (filledInstant f) 0 i to k rows mid) where
-        by-owed : became ≡ withStillOwed v (f .ticks) (begunIn f) row (together (provided k (rowOwed mid to)) (stillCounting (filledInstant f) (row .countdowns)))
-        by-owed = by-stopped ∙ rw (t, left-owed-row m)
+  pub both-left : not k ≡ false → BothLeft p f i to a c
+  both-left l = record { stays = missed-stays; few = few-counting (m .stays) (m .few (not-false k l)) (w .few); becomes = λ v g. by-left v g ∙ rw (not-false k l) }
 
-        pub row-late : not k ≡ true → fails ≡ became
-        row-late l = sym (by-owed ∙ rw (not-true k l))
+-- ---- what is begun in each set
 
-        -- a countdown is missed; row i stays, and what row `to` owes
-        module _ (l : not k ≡ false) {k₂ : Bool} {left : List ℕ} (m₂ : LeftRow (filledInstant f) 1 i to k₂ mid left) (same : rowCountdowns mid i ≡ rowCountdowns rows i) (kept : rowOwed left to ≡ rowOwed mid to) where
-          by-left : became ≡ withStillOwed v (f .ticks) (begunIn f) row (together (some (rowOwed left to)) (provided k₂ (rowCountdowns left to)))
-          by-left = by-owed ∙ rw (not-false k l, sym kept, left-counting-row m₂, same)
+module _ {p : Plan} {f : Filling} {i to : ℕ} {a b c : List ℕ} {o : Bool} (w : BothLeft p f i to a b) (n : BegunRow to 0 (take (f .owed) (f .begun)) o b c) where
+  over-stays : Stays to 0 leadsPart a c
+  over-stays = stays-on (w .stays) (row-stays 0 (n .stays) (omega arith))
 
-          pub row-missed : not k₂ ≡ true → fails ≡ became
-          row-missed n = sym (by-left ∙ rw (not-true k₂ n))
+  begun-kept : rowCountdowns c to ≡ rowCountdowns b to
+  begun-kept = ap (map countdownOf) (other-set 0 (n .stays) (omega arith) 1 (omega arith) (λ e. omega arith) (w .few 1 (omega arith)))
 
-          -- there is no room for an obligation; the countdowns stay
-          module _ (l₂ : not k₂ ≡ false) {o : Bool} {after : List ℕ} (n : BegunRow to 0 (take (f .owed) (f .begun)) o left after) (stay : rowCountdowns after to ≡ rowCountdowns left to) where
-            by-added : became ≡ withBegun v (f .ticks) row (together (provided o (rowOwed after to)) (addedCountdowns (begunIn f .countdowns) (rowCountdowns left to)))
-            by-added = by-left ∙ rw (not-false k₂ l₂, begun-row-read obligationOf sameObligation same-read n)
+  by-added : Becomes p f a i (byBegun f a i (provided o (rowOwed c to)) (addedCountdowns (begunIn f .countdowns) (rowCountdowns c to)))
+  by-added v g = w .becomes v g ∙ rw (begun-row-read obligationOf sameObligation same-read n, begun-kept)
 
-            pub row-over : not o ≡ true → over ≡ became
-            row-over q = sym (by-added ∙ rw (not-true o q))
+  -- there is no room for an obligation
+  pub row-over : not o ≡ true → AdvancedRow p f i to Over a c
+  row-over q = over-row over-stays (λ v g. by-added v g ∙ rw (not-true o q))
 
-            -- nor for a countdown; the obligations stay
-            module _ (q : not o ≡ false) {o₂ : Bool} {last : List ℕ} (n₂ : BegunRow to 1 (drop (f .owed) (take (f .count) (f .begun))) o₂ after last) (still : rowOwed last to ≡ rowOwed after to) where
-              by-counted : became ≡ withBegun v (f .ticks) row (together (some (rowOwed last to)) (provided o₂ (rowCountdowns last to)))
-              by-counted = by-added ∙ rw (not-false o q, sym still, begun-row-read countdownOf sameCountdown same-counted n₂, stay)
+  pub owed-begun : not o ≡ false → OwedBegun p f i to a c
+  owed-begun q = record { stays = over-stays; few = few-owed (n .stays) (n .few) (w .few 1 (omega arith)); becomes = λ v g. by-added v g ∙ rw (not-false o q) }
 
-              pub row-full : not o₂ ≡ true → over ≡ became
-              row-full q₂ = sym (by-counted ∙ rw (not-true o₂ q₂))
+module _ {p : Plan} {f : Filling} {i to : ℕ} {a b c : List ℕ} {o : Bool} (w : OwedBegun p f i to a b) (n : BegunRow to 1 (drop (f .owed) (take (f .count) (f .begun))) o b c) where
+  full-stays : Stays to 0 leadsPart a c
+  full-stays = stays-on (w .stays) (row-stays 1 (n .stays) (omega arith))
 
-              -- the row goes on to row j, where that is what it owes
-              pub row-onto : not o₂ ≡ false → T (smallLeads row) → (rs : List ℕ) → rowOwed rs to ≡ rowOwed last to → rowCountdowns rs to ≡ rowCountdowns last to
-                  → ((k : ℕ) → k < p .leaders → rowLead rows i k < halfValues → rowLead rs to k ≡ rowLead rows i k + getD (f .gains) k 0 - getD (f .losses) k 0) → rowStopped rs to ≡ either (rowStopped rows i) (f .stops)
-                  → onto (usedPart v (rowOf rs to)) ≡ became
-              row-onto q₂ small rs owes counts moves stops = ap onto (same-remainder owes counts on-leads on-stopped) ∙ sym goes
-                where
-                  goes : became ≡ onto (carried v (f .ticks) (owing (record { owed = rowOwed last to; countdowns = rowCountdowns last to }) row))
-                  goes = by-counted ∙ rw (not-false o₂ q₂)
+  counted-kept : rowOwed c to ≡ rowOwed b to
+  counted-kept = ap (map obligationOf) (other-set 1 (n .stays) (omega arith) 0 (omega arith) (λ e. omega arith) (w .few 0 (omega arith)))
 
-                  moved : (k : ℕ) → k < p .leaders → isPrecedes (sheetLine v k) ≡ true → getD (rowLeads rs to) k 0 ≡ getD (rowLeads rows i) k 0 + getD (f .gains) k 0 - getD (f .losses) k 0
-                  moved k h e =
-                      let at = lead-at rows i k h in
-                      lead-at rs to k h ∙ moves k h (omega (arith, at, small-lead v (f .ticks) (rowOf rows i) small k e)) ∙ rw at
+  by-counted : Becomes p f a i (byBegun f a i (some (rowOwed c to)) (provided o (rowCountdowns c to)))
+  by-counted v g = w .becomes v g ∙ rw (sym counted-kept, begun-row-read countdownOf sameCountdown same-counted n)
 
-                  on-leads : nextLeads inUse (v .lines) (rowLeads rs to) ≡ nextLeads (leadAfter (f .ticks)) (v .lines) (row .leads)
-                  on-leads = carried-leads v (f .ticks) (p .leaders) (p .precede) (a .leading) (rowLeads rows i) (rowLeads rs to) (λ k h e. rw (sym (a .gained k h), sym (a .lost k h)) (moved k h e))
+  -- there is no room for a countdown
+  pub row-full : not o ≡ true → AdvancedRow p f i to Over a c
+  row-full q = over-row full-stays (λ v g. by-counted v g ∙ rw (not-true o q))
 
-                  on-stopped : take (v .clocks) (rowStopped rs to) ≡ allStopped (f .ticks) (v .lines) (row .stopped)
-                  on-stopped =
-                      ap (take (v .clocks)) (stops ∙ ap (either (rowStopped rows i)) (a .ends))
-                      ∙ carried-stopped v (f .ticks) (rowStopped rows i) (length-listed (rowStop rows i) 8)
+  pub both-begun : not o ≡ false → BothBegun p f i to a c
+  both-begun q = record { stays = full-stays; few = few-counting (n .stays) (n .few) (w .few 0 (omega arith)); becomes = λ v g. by-counted v g ∙ rw (not-false o q) }
