@@ -43,13 +43,17 @@ pub record OrderExamples : Type 0 where
       (readSheet (clock ++ at256 ++ at1) ≡ taken (sheet (Sporadic 0 0 (pos 256) ∷ Sporadic 0 0 (pos 1) ∷ [])))
       × (readSheet (clock ++ at1 ++ at256) ≡ refused 17)
   -- the kind comes first, though the other's body is above
-  kinds : (readSheet (clock ++ at1 ++ implies) ≡ taken (sheet (Sporadic 0 0 (pos 1) ∷ Implies 0 0 ∷ []))) × (readSheet (clock ++ implies ++ at1) ≡ refused 17)
+  kinds :
+      (readSheet (clock ++ at1 ++ implies) ≡ taken (sheet (Sporadic 0 0 (pos 1) ∷ Implies 0 0 ∷ [])))
+      × (readSheet (clock ++ implies ++ at1) ≡ refused 17)
   -- equal lines, and the first line alone
   equal : (readSheet (clock ++ at1 ++ at1) ≡ refused 17) × (readSheet (clock ++ at1) ≡ taken (sheet (Sporadic 0 0 (pos 1) ∷ [])))
   -- in a line's own turn: 17 of the second before 7 of the third, and 7 of the second before 17 of the third
   turns : (readSheet (clock ++ at1 ++ at1 ++ noClock) ≡ refused 17) × (readSheet (clock ++ at1 ++ noClock ++ at1) ≡ refused 7)
   -- any order, repeats allowed
-  unordered : readUnordered (clock ++ at1 ++ at256 ++ at1) ≡ taken (sheet (Sporadic 0 0 (pos 1) ∷ Sporadic 0 0 (pos 256) ∷ Sporadic 0 0 (pos 1) ∷ []))
+  unordered :
+      readUnordered (clock ++ at1 ++ at256 ++ at1)
+      ≡ taken (sheet (Sporadic 0 0 (pos 1) ∷ Sporadic 0 0 (pos 256) ∷ Sporadic 0 0 (pos 1) ∷ []))
   -- a last kind that is read: 18 is one kind too many for 17
   last : (readBy Any 17 (clock ++ at1 ++ implies) ≡ refused 5) × (readBy Any 18 (clock ++ at1) ≡ readUnordered (clock ++ at1))
 
@@ -73,13 +77,21 @@ kind25 = 0x04 ∷ 0x00 ∷ 0x19 ∷ 0x00 ∷ 0x00 ∷ 0x00 ∷ 0x00 ∷ 0x01 ∷
 
 pub record CountedExamples : Type 0 where
   -- the least count and the greatest
-  read : (readSheet (clock ++ counts 0 1) ≡ taken (sheet (Counted 0 0 0 1 ∷ []))) × (readSheet (clock ++ counts 0 255) ≡ taken (sheet (Counted 0 0 0 255 ∷ [])))
+  read :
+      (readSheet (clock ++ counts 0 1) ≡ taken (sheet (Counted 0 0 0 1 ∷ [])))
+      × (readSheet (clock ++ counts 0 255) ≡ taken (sheet (Counted 0 0 0 255 ∷ [])))
   -- n is 0; a D that is no clock comes first
-  zero : (readSheet (clock ++ counts 0 0) ≡ refused 18) × (readUnordered (clock ++ counts 0 0) ≡ refused 18) × (readSheet (clock ++ counts 1 0) ≡ refused 7)
+  zero :
+      (readSheet (clock ++ counts 0 0) ≡ refused 18)
+      × (readUnordered (clock ++ counts 0 0) ≡ refused 18)
+      × (readSheet (clock ++ counts 1 0) ≡ refused 7)
   -- 18 of a line comes before its 17
   order : (readSheet (clock ++ counts 0 1 ++ counts 0 0) ≡ refused 18) × (readSheet (clock ++ counts 0 2 ++ counts 0 1) ≡ refused 17)
   -- the last kind that is a line, and document 01's own
-  last : (readSheet (clock ++ kind25) ≡ refused 5) × (readBase (clock ++ counts 0 1) ≡ refused 5) × (readBase (clock ++ at1) ≡ readUnordered (clock ++ at1))
+  last :
+      (readSheet (clock ++ kind25) ≡ refused 5)
+      × (readBase (clock ++ counts 0 1) ≡ refused 5)
+      × (readBase (clock ++ at1) ≡ readUnordered (clock ++ at1))
 
 pub counted-examples : CountedExamples
 unfolding signed isTorn front cut lengthOf clocksOf lineOf above readBy
@@ -126,12 +138,22 @@ numbered-examples = record {
 
 pub record NextExamples : Type 0 where
   -- 16: the 4,000th instant is taken, one more is refused, and a fault of its own comes first
-  full : (ifNext 3999 (ticking Plain) ≡ ticking Plain) × (ifNext 4000 (ticking Plain) ≡ refused 16) × (ifNext 4000 (refused 15) ≡ refused 15)
+  full :
+      (ifNext 3999 (ticking Plain) ≡ ticking Plain)
+      × (ifNext 4000 (ticking Plain) ≡ refused 16)
+      × (ifNext 4000 (refused 15) ≡ refused 15)
   -- 19: the first is 1; the number held already and one too high are refused; all of the number counts, not its low byte
-  first : (ifNext 0 (ticking (Numbered 1)) ≡ ticking (Numbered 1)) × (ifNext 0 (ticking (Numbered 0)) ≡ refused 19) × (ifNext 0 (ticking (Numbered 2)) ≡ refused 19) × (ifNext 0 (ticking (Numbered 257)) ≡ refused 19)
+  first :
+      (ifNext 0 (ticking (Numbered 1)) ≡ ticking (Numbered 1))
+      × (ifNext 0 (ticking (Numbered 0)) ≡ refused 19)
+      × (ifNext 0 (ticking (Numbered 2)) ≡ refused 19)
+      × (ifNext 0 (ticking (Numbered 257)) ≡ refused 19)
   last : (ifNext 3999 (ticking (Numbered 4000)) ≡ ticking (Numbered 4000)) × (ifNext 3999 (ticking (Numbered 3999)) ≡ refused 19)
   -- 16 before 19: with 4,000 held it is 16 whatever the number
-  order : (ifNext 4000 (ticking (Numbered 4001)) ≡ refused 16) × (ifNext 4000 (ticking (Numbered 1)) ≡ refused 16) × (ifNext 4000 (ticking (Numbered 65535)) ≡ refused 16)
+  order :
+      (ifNext 4000 (ticking (Numbered 4001)) ≡ refused 16)
+      × (ifNext 4000 (ticking (Numbered 1)) ≡ refused 16)
+      × (ifNext 4000 (ticking (Numbered 65535)) ≡ refused 16)
 
 pub next-examples : NextExamples
 next-examples = record { full = (refl, refl, refl); first = (refl, refl, refl, refl); last = (refl, refl); order = (refl, refl, refl) }

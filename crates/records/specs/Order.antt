@@ -1,4 +1,5 @@
--- The order of a sheet's lines (document 02, Q-1): rising by kind, then by the bytes of the body, compared from the first byte, as unsigned.
+-- The order of a sheet's lines (document 02, Q-1): rising by kind,
+-- then by the bytes of the body, compared from the first byte, as unsigned.
 use Prim.Native.Nat.{ℕ}
 use mathlib.Core.Bool.{Bool, true, false, _&&_, _||_}
 use mathlib.Core.List.{List, [], _∷_}

@@ -45,13 +45,16 @@ pub record Sorted (v w : SheetValue) : Type 0 where
 -- what sorting a sheet value answers: the number by which it is outside its limits, its lines in any order, or its sorted form
 pub record SortsValue (s : Sheet) (r : SheetRead) : Type 0 where
   pub refuses : (n : ℕ) → decide (sheetValueChecks Any (sheetValue s)) (sheetValue s) ≡ refused n → r ≡ sheetRead (refused n)
-  pub sorts : (v : SheetValue) → decide (sheetValueChecks Any (sheetValue s)) (sheetValue s) ≡ taken v → (w : SheetValue) × Sorted v w × (r ≡ sheetRead (taken w))
+  pub sorts :
+      (v : SheetValue) → decide (sheetValueChecks Any (sheetValue s)) (sheetValue s) ≡ taken v
+      → (w : SheetValue) × Sorted v w × (r ≡ sheetRead (taken w))
 
 -- bytes written at a buffer's front; 10: it is shorter than they are
 abbrev pub fitted : List ℕ → List ℕ → Wrote
 fitted buffer bytes = leaves buffer (decide ((ltb (length buffer) (length bytes) ⇒ 10) ∷ []) bytes)
 
--- what sorting a sheet's bytes answers and leaves for every buffer: the number by which they are refused, the lines in any order, or the bytes of the sorted form
+-- what sorting a sheet's bytes answers and leaves for every buffer:
+-- the number by which they are refused, the lines in any order, or the bytes of the sorted form
 pub record SortsBytes (b before : List ℕ) (r : Written) (after : List ℕ) : Type 0 where
   pub refuses : (n : ℕ) → readUnordered b ≡ refused n → wrote r after ≡ leaves before (refused n)
   pub sorts : (v : SheetValue) → readUnordered b ≡ taken v → (w : SheetValue) × Sorted v w × (wrote r after ≡ fitted before (sheetBytes w))
@@ -62,13 +65,15 @@ pub record SortsBytes (b before : List ℕ) (r : Written) (after : List ℕ) : T
 abbrev pub OneForm : Type 0
 OneForm = (v w : SheetValue) → v .clocks ≡ w .clocks → Rises (v .lines) → Rises (w .lines) → SameLines (v .lines) (w .lines) → v ≡ w
 
--- the sorted form of what bytes hold: it is written as it is, or 10; its bytes read as it, by the order's own rule; and of bytes whose lines rise already it is the same bytes
+-- the sorted form of what bytes hold: it is written as it is, or 10; its bytes read as it, by the order's own rule;
+-- and of bytes whose lines rise already it is the same bytes
 pub record SortedForm (b : List ℕ) (v w : SheetValue) : Type 0 where
   pub written : (buffer : List ℕ) → writeSheet w buffer ≡ fitted buffer (sheetBytes w)
   pub back : readSheet (sheetBytes w) ≡ taken w
   pub kept : readSheet b ≡ taken v → sheetBytes w ≡ b
 
--- two byte strings that hold the same lines, in whatever order and however often, over the same clocks: sorting gives the same answer and leaves the same bytes
+-- two byte strings that hold the same lines, in whatever order and however often, over the same clocks:
+-- sorting gives the same answer and leaves the same bytes
 abbrev pub OneFile : Type 0
 OneFile =
     (b c before : List ℕ) (v w : SheetValue) → readUnordered b ≡ taken v → readUnordered c ≡ taken w → v .clocks ≡ w .clocks → SameLines (v .lines) (w .lines)

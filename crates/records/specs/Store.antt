@@ -14,7 +14,8 @@ pub record Wrote : Type 0 where
 abbrev pub wrote : Written → List ℕ → Wrote
 wrote answer buffer = record { answer = answer; buffer = buffer }
 
--- each case of the answer: how many bytes, which fill the front of the buffer, later ones staying; or the paper's number, and no byte changed
+-- each case of the answer: how many bytes, which fill the front of the buffer, later ones staying;
+-- or the paper's number, and no byte changed
 abbrev pub leaves : List ℕ → Outcome (List ℕ) → Wrote
 leaves buffer (taken bytes) = wrote (written.Bytes (length bytes)) (bytes ++ drop (length bytes) buffer)
 leaves buffer (refused n) = wrote (written.Refused n) buffer

@@ -24,7 +24,8 @@ wordBytes w = w % 256 ∷ w / 256 ∷ []
 unfoldable pub signed : ℕ → ℕ → ℤ
 signed k w = cond (ltb w (2 ^ (k - 1))) (pos w) (negsuc (2 ^ k - suc w))
 
--- document 02's way to the same number, by arithmetic and no test: the word plus 2 ^ (k - 1), the remainder by 2 ^ k, which counts from the least number, minus 2 ^ (k - 1). For a word of k bits it is `signed k` (`signed-by-remainder`)
+-- document 02's way to the same number, by arithmetic and no test: the word plus 2 ^ (k - 1), the remainder by 2 ^ k,
+-- which counts from the least number, minus 2 ^ (k - 1). For a word of k bits it is `signed k` (`signed-by-remainder`)
 abbrev pub fromLeast : ℕ → ℕ → ℕ
 fromLeast k w = (w + 2 ^ (k - 1)) % 2 ^ k
 

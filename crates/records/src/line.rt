@@ -179,7 +179,8 @@ fn line_of(kind: u16, body: &[u8]) -> Line
     }
 }
 
-// A line record of a sheet whose last kind of line is given, `lines` lines and `spent` sporadic ones among them standing before it: 8, 5, 6, 7, 18, 9, or the line.
+// A line record of a sheet whose last kind of line is given,
+// `lines` lines and `spent` sporadic ones among them standing before it: 8, 5, 6, 7, 18, 9, or the line.
 pub(crate) fn read_line(
     kind: u16,
     body: &[u8],

@@ -56,7 +56,8 @@ pub fn record_at(bytes: &[u8], at: usize) -> Record
     first_record(&bytes[at..])
 }
 
-// The bytes of the record at a place of a byte string, for every place: length, kind and body; of a torn one what remains, which is refused when it is read. At the end and past it that is nothing.
+// The bytes of the record at a place of a byte string, for every place: length, kind and body;
+// of a torn one what remains, which is refused when it is read. At the end and past it that is nothing.
 pub fn record_bytes(bytes: &[u8], at: usize) -> &[u8]
     ensures { λ r. ⌜ now r ≡ recordSpan (now (bytes .entry)) at ⌝ }
 {

@@ -80,7 +80,8 @@ pub fn sorted_sheet(sheet: Sheet) -> SheetRead
     }
 }
 
-// Writes the sorted form of the sheet that a byte string holds, its lines in any order, at the buffer's front; or refuses it and changes no byte.
+// Writes the sorted form of the sheet that a byte string holds, its lines in any order,
+// at the buffer's front; or refuses it and changes no byte.
 pub fn sort_sheet(bytes: &[u8], buffer: &mut [u8]) -> Written
     ensures { λ r. ⌜ SortsBytes (now (bytes .entry)) (now (buffer .entry)) r (now (buffer .exit)) ⌝ }
 {
