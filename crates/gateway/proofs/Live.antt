@@ -137,7 +137,7 @@ module _ {g : CallResult} {w : List ℕ} (h : GivenIn g w) where
   given-instants = by-limits (stateWithin w) refl
     where
       by-limits : (b : Bool) → stateWithin w ≡ b → g .monitor .instants ≡ instantsIn w
-      by-limits true e = h .instants e ∙ sym (instants-held w e)
+      by-limits true e = ap (λ (m : Monitor). m .instants) (h .monitor e) ∙ sym (instants-held w e)
       by-limits false e = ap (λ (x : CallResult). x .monitor .instants) (h .outside e) ∙ sym (no-instants w e)
 
   pub given-few : g .monitor .instants ≤ 4000

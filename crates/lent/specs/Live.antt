@@ -20,10 +20,10 @@ use Rattle.lent.specs.declared.live.Replied.{Replied}
 use Rattle.judge.specs.declared.monitor.CallResult.{CallResult}
 use Rattle.judge.specs.Answer.{replyOf, saidBy}
 use Rattle.judge.specs.Limits.{monitorWithin}
-use Rattle.judge.specs.Monitor.{heldBy, noMonitor, refusal}
-use Rattle.judge.specs.Progress.{given}
+use Rattle.judge.specs.Monitor.{KeepsNothing, heldBy, noMonitor, refusal}
+use Rattle.judge.specs.Progress.{given, readBack}
 use Rattle.judge.specs.Promises.{Follows, observes, Accepted}
-use Rattle.lent.specs.State.{isState, stateMonitor}
+use Rattle.lent.specs.State.{isState, stateSheet, stateProgress, stateMonitor}
 use Rattle.lent.specs.StoredState.{AsStored}
 
 -- ---- what a state is
@@ -72,12 +72,14 @@ pub record SaidIn (r : Replied) (w : List ℕ) : Type 0 where
 
 -- ---- the monitor as a struct
 
--- 11 and no monitor; or the last answer, and a struct within its limits that holds what the words hold, and follows whatever they follow
+-- 11 and no monitor; or the last answer, and a struct within its limits: its sheet, its instants, its last tags and how many it holds are those of the words, its remainders are those that they hold, and it follows whatever they follow
+-- where each word is as it is stored, the struct keeps nothing in unused places
 pub record GivenIn (r : CallResult) (w : List ℕ) : Type 0 where
   pub outside : stateWithin w ≡ false → r ≡ refusal 11 noMonitor
   pub inside : stateWithin w ≡ true → (replyOf (r .reply) ≡ taken (saidBy (heldBy (stateMonitor w)))) × (monitorWithin (r .monitor) ≡ true)
+  pub monitor : stateWithin w ≡ true → r .monitor ≡ readBack (stateSheet w) (stateProgress w) (r .monitor .held .remainders)
   pub held : stateWithin w ≡ true → heldBy (r .monitor) ≡ heldBy (stateMonitor w)
-  pub instants : stateWithin w ≡ true → r .monitor .instants ≡ stateMonitor w .instants
+  pub unused : stateWithin w ≡ true → AsStored w → KeepsNothing (r .monitor)
   pub follows : (s : SheetValue) (run : List Instant) → FollowsIn s run w → Follows s run (r .monitor)
 
 -- ---- demands 2 and 3: each hypothesis is what a call ensures

@@ -22,7 +22,8 @@ use Rattle.judge.specs.Promises.{Follows}
 use Rattle.lent.specs.State.{stateSheet, stateCount, stateProgress, stateMonitor}
 use Rattle.lent.specs.Live.{stateWithin, FollowsIn, SaidIn, GivenIn}
 use Rattle.lent.specs.Found.{FoundIn}
-use Rattle.judge.proofs.progress.Laws.{held-rows, same-back, within-back, follows-back}
+use Rattle.judge.proofs.progress.Laws.{held-rows, same-back, within-back, follows-back, nothing-back}
+use Rattle.lent.proofs.live.Stored.{tags-blank}
 use Rattle.lent.proofs.live.Observing.{none-within, one-within, ready, side, small, instants-held, no-instants}
 
 false-true : {X : Type 0} → false ≡ true → X
@@ -42,7 +43,8 @@ module _ {w : List ℕ} {f : Found} {lines : List ℕ} (found : FoundIn w f line
     outside = λ e. c ∙ ap (refusal 11) (b ∙ ap blankMonitor a);
     inside = λ e. false-true (sym (none-within found out) ∙ e);
     held = λ e. false-true (sym (none-within found out) ∙ e);
-    instants = λ e. false-true (sym (none-within found out) ∙ e);
+    monitor = λ e. false-true (sym (none-within found out) ∙ e);
+    unused = λ e. false-true (sym (none-within found out) ∙ e);
     follows = λ s run g. false-true (sym (none-within found out) ∙ rw (g .state) (g .follows .limits));
   }
 
@@ -84,6 +86,7 @@ module _ {w : List ℕ} {f : Found} {lines : List ℕ} (found : FoundIn w f line
             outside = λ o. false-true (sym o ∙ one-within found is);
             inside = λ o. (said y says, within-back (ready found is) back);
             held = λ o. same-back (ready found is) back;
-            instants = λ o. refl;
+            monitor = λ o. refl;
+            unused = λ o n. nothing-back (ready found is) back (tags-blank w (ready found is .planned .few-clocks) n);
             follows = λ v run g. follows-back (ready found is) back (g .follows);
           })

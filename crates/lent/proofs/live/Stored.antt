@@ -13,7 +13,7 @@ use Rattle.records.specs.declared.sheet.Sheet.{Sheet}
 use Rattle.records.specs.Lists.{listed}
 use Rattle.records.specs.Line.{blankLine}
 use Rattle.records.specs.Sheet.{SheetValue, sheetValue}
-use Rattle.records.specs.Word.{unsigned, rawOf}
+use Rattle.records.specs.Word.{signed, unsigned, tagOf, rawOf}
 use Rattle.records.proofs.Lists.{both, listed-take, length-listed}
 use Rattle.tesl.specs.Lists.{table}
 use Rattle.tesl.specs.Remainder.{Remainder}
@@ -222,6 +222,10 @@ raw-zero : rawOf (pos 0) ≡ 0
 unfolding unsigned
 raw-zero = refl
 
+tag-zero : tagOf 0 ≡ pos 0
+unfolding signed
+tag-zero = refl
+
 format-in : (w : List ℕ) → isState w ≡ true → word w 0 0 ≡ format
 unfolding isState
 format-in w e = eqb-true (word w 0 0) format (both (hasFormat w) (both (hasFormat w && hasKinds w) e .0) .0)
@@ -241,6 +245,20 @@ module _ (w : List ℕ) (few : stateSheet w .clocks ≤ 8) where
   top-past q h =
       List·getD-eq-default (topWords (stateSheet w) (stateProgress w)) 0 {n = q}
       (omega (arith, ap length tags-listed ∙ length-listed (λ k. rawOf (stateTag w k)) (stateSheet w .clocks)))
+
+  -- the last tags of clocks from C on are 0, where they are so stored
+  pub tags-blank : AsStored w → BlankFrom (stateSheet w .clocks) (pos 0) (stateProgress w .tags)
+  tags-blank s k l = by-test (ltb k 8) refl
+    where
+      zero-word : k < 8 → word w 0 (8 + k) ≡ 0
+      zero-word h =
+          behind 8 (word w 0) (take 8 (topWords (stateSheet w) (stateProgress w))) (map rawOf (take (stateSheet w .clocks) (stateProgress w .tags))) refl 64 (s .top) k (omega arith)
+          ∙ ap (λ (xs : List ℕ). getD xs k 0) tags-listed
+          ∙ List·getD-eq-default (listed (λ j. rawOf (stateTag w j)) (stateSheet w .clocks)) 0 (omega (arith, length-listed (λ j. rawOf (stateTag w j)) (stateSheet w .clocks)))
+
+      by-test : (t : Bool) → ltb k 8 ≡ t → getD (stateProgress w .tags) k (pos 0) ≡ pos 0
+      by-test true e = let h = ltb-true k 8 e in listed-at (stateTag w) (pos 0) 8 k h ∙ ap (λ (x : ℕ). tagOf (x % 65536)) (zero-word h) ∙ tag-zero
+      by-test false e = List·getD-eq-default (stateProgress w .tags) (pos 0) (omega (arith, ltb-false k 8 e, length-listed (stateTag w) 8))
 
   module _ (state : isState w ≡ true) (clocks : word w 0 1 ≡ stateSheet w .clocks) (live : word w 0 6 ≡ liveCount (stateProgress w .count)) (raw : (j : ℕ) → j < 8 → word w 0 (8 + j) ≡ rawOf (getD (stateProgress w .tags) j (pos 0))) (blank : BlankFrom (stateSheet w .clocks) (pos 0) (stateProgress w .tags)) (gap : word w 0 7 ≡ 0) (past : (q : ℕ) → 16 ≤ q → q < width → word w 0 q ≡ 0) where
     abbrev eight : List ℕ
