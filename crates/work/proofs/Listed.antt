@@ -22,10 +22,10 @@ use Rattle.work.specs.Questions.{tagsHold}
 use Rattle.work.specs.Parts.{isRelation, isRule}
 use Rattle.work.specs.Rules.{allowed}
 use Rattle.work.specs.Fillings.{fillingsFrom, fillingsIn, takenBy, byFilling}
-use Rattle.work.specs.Relevant.{fillingsLeft, namedBy, flagged, isRelevant, relevantOnly}
+use Rattle.work.specs.Relevant.{clocksOf, fillingsLeft, namedBy, flagged, isRelevant, relevantOnly}
 use Rattle.work.specs.Work.{filling, fillFrom, worked}
 use Rattle.work.proofs.Parts.{relations-enough, rules-enough}
-use Rattle.work.proofs.Relevant.{clocksOf, relevant-enough}
+use Rattle.work.proofs.Relevant.{relevant-enough}
 
 -- ---- the fillings, one after the other
 module _ {R : Type 0} (g : R → List Bool → R) where

@@ -32,7 +32,7 @@ use Rattle.work.specs.View.{filledOf, heldList, isNone}
 use Rattle.work.specs.Questions.{tickIn, ticksHold, carriedHolds, leadAfter, stoppedAfter}
 use Rattle.work.specs.Lines.{allStopped}
 use Rattle.work.specs.Owed.{Owings, owing, begunBy, addedAll, addedCountdowns, left, stillOwed, stillCounting, together}
-use Rattle.work.specs.Relevant.{namedBy, flagged, isRelevant, tickIfRelevant, relevantOnly}
+use Rattle.work.specs.Relevant.{namedBy, countClocks, clocksOf, flagged, isRelevant, tickIfRelevant, relevantOnly}
 use Rattle.work.specs.Work.{carried, withBegun, withStillOwed, advanced, sameCounted, inserted, took, allAdvanced, filling, fillFrom}
 
 abbrev Found : Type 0
@@ -178,13 +178,6 @@ module _ (room : ℕ) where
       fill-relevant : (k : ℕ) (seen : List Tick) → Alike k (relevantOnly p k seen) seen
       fill-relevant k [] ticks found = refl
       fill-relevant k (t ∷ seen) ticks found = by-flag (p k) k refl t (relevantOnly p (k + 1) seen) seen (fill-relevant (k + 1) seen) ticks found
-
--- the clocks that a remainder owes a tick of, and those that its countdowns are on
-abbrev pub countClocks : Countdown → List ℕ
-countClocks c = c .clock ∷ c .on ∷ []
-
-abbrev pub clocksOf : Remainder → List ℕ
-clocksOf r = map (λ (o : Obligation). o .clock) (r .owed) ++ flatMap countClocks (r .countdowns)
 
 -- ---- lines, obligations and countdowns that don't name clock k don't tell ticks t and u apart
 module _ (k : ℕ) (t u : List Bool) (e : (a : ℕ) → eqb k a ≡ false → tickIn u a ≡ tickIn t a) where

@@ -1,6 +1,6 @@
 -- The ticks of an instant that its work asks about: those of the clocks that a line, an obligation held or a countdown held names. An unseen tick of another clock counts as idle.
 use mathlib.Core.Bool.{Bool, true, false}
-use mathlib.Core.List.{List, [], _∷_}
+use mathlib.Core.List.{List, [], _∷_, _++_, map}
 use Prim.Native.Nat.{ℕ, _+_}
 use lib.ListN.{getD, set, replicate, drop}
 use Rattle.records.specs.declared.line.Line.{Line}
@@ -9,6 +9,8 @@ use Rattle.records.specs.declared.instant.Tick.{Tick}
 use Rattle.records.specs.declared.instant.Tick.the-variants.{Idle, Ticks, Unseen}
 use Rattle.records.specs.declared.instant.TickSlot.{TickSlot}
 use Rattle.tesl.specs.Lists.{flatMap}
+use Rattle.tesl.specs.Fits.{Obligation, Countdown}
+use Rattle.tesl.specs.Remainder.{Remainder}
 use Rattle.work.specs.View.{seenOf}
 use Rattle.work.specs.Fillings.{fillingsFrom}
 
@@ -23,6 +25,13 @@ namedBy (Delayed A B D d) = A ∷ []
 namedBy (Counted A B D n) = A ∷ []
 namedBy (Sporadic A B t) = []
 namedBy (Relation A B p q) = []
+
+-- the clocks that a remainder owes a tick of, and those that its countdowns are on
+abbrev pub countClocks : Countdown → List ℕ
+countClocks c = c .clock ∷ c .on ∷ []
+
+abbrev pub clocksOf : Remainder → List ℕ
+clocksOf r = map (λ (o : Obligation). o .clock) (r .owed) ++ flatMap countClocks (r .countdowns)
 
 -- a flag for each clock of a list besides
 abbrev pub flagged : List ℕ → List Bool → List Bool

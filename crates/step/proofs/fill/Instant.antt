@@ -20,9 +20,8 @@ use Rattle.work.specs.Questions.{tagsHold}
 use Rattle.work.specs.Parts.{isRelation, isRule}
 use Rattle.work.specs.Rules.{allowed}
 use Rattle.work.specs.Fillings.{fillingsIn, takenBy, byFilling}
-use Rattle.work.specs.Relevant.{fillingsLeft, namedBy, flagged}
+use Rattle.work.specs.Relevant.{fillingsLeft, namedBy, countClocks, clocksOf, flagged}
 use Rattle.work.specs.Work.{worked}
-use Rattle.work.proofs.Relevant.{countClocks, clocksOf}
 use Rattle.work.proofs.Listed.{worked-no, worked-yes}
 use Rattle.remainders.specs.declared.held.Status.{Status}
 use Rattle.remainders.specs.declared.held.Status.the-variants.{Exhausted, Live}
