@@ -1,9 +1,9 @@
 // Cases of lines that count, and of both sets of obligations at their limits.
-use crate::families::ZERO;
 use crate::families::four;
 use crate::families::plan;
 use crate::plan::Habit;
 use crate::plan::Plan;
+use crate::plan::ZERO;
 use crate::plan::count_of;
 use crate::plan::counts;
 use crate::plan::delayed;

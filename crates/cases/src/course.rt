@@ -49,6 +49,16 @@ pub fn with_clock(v: Instant, at: usize, tick: Tick, tag: i16) -> Instant {
     v
 }
 
+// The tick of a clock; one from the eighth on is idle.
+pub fn tick_at(v: Instant, clock: usize) -> Tick {
+    if 7 < clock {
+        return Tick::Idle;
+    }
+    let slot = v.ticks[clock];
+    let tick = slot.tick;
+    tick
+}
+
 fn one_if_unseen(t: Tick) -> usize
     ensures { λ r. ⌜ r ≤ 1 ⌝ }
 {
@@ -63,9 +73,7 @@ pub fn unseen_from(v: Instant, from: usize) -> usize {
     let mut n = 0;
     let mut k = from;
     while k < 8 {
-        let slot = v.ticks[k];
-        let tick = slot.tick;
-        n += one_if_unseen(tick);
+        n += one_if_unseen(tick_at(v, k));
         k += 1;
     }
     n

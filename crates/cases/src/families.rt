@@ -1,6 +1,7 @@
 // Cases that reach the limits: of distinct remainders, of obligations, of tags and of products.
 use crate::plan::Habit;
 use crate::plan::Plan;
+use crate::plan::ZERO;
 use crate::plan::delayed;
 use crate::plan::empty_sheet;
 use crate::plan::maybe;
@@ -13,9 +14,6 @@ use crate::random::one_in;
 use records::line::Line;
 use records::sheet::Sheet;
 ghost use Prim.Native.Nat.{_≤_};
-
-// The tag 0, counted from the least tag.
-pub(crate) const ZERO: u64 = 32768;
 
 // The habits of four clocks; more are idle.
 pub(crate) fn four(h0: Habit, h1: Habit, h2: Habit, h3: Habit) -> [Habit; 8] {
@@ -138,7 +136,7 @@ fn end_of(low: bool) -> u64
     if low { 0 } else { 65528 }
 }
 
-// Tags at one end or the other, dues at and beyond them.
+// Tags at one end of the scale or the other: dues at both, and delays that begin nothing, their dues would be past the upper one.
 pub(crate) fn ends(d: [u64; 48]) -> Plan {
     let n = below(d, 0, 4);
     let end = end_of(one_in(d, 1, 2));

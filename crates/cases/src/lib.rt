@@ -1,4 +1,4 @@
-// Made cases for tests, of a fixed sequence: a sheet, its instants, damaged records between them, and the sheet with its lines out of order.
+// Made cases for tests, of a fixed sequence: a sheet, its instants, damaged records between them, the sheet with its lines out of order, and what is counted and printed of them.
 mod counting;
 pub mod course;
 pub mod damage;
@@ -10,6 +10,7 @@ pub mod made;
 pub mod numbered;
 pub mod plan;
 pub mod random;
+pub mod report;
 pub mod tally;
 pub mod tape;
 mod wide;

@@ -6,6 +6,9 @@ use records::sheet::Sheet;
 use records::sheet::line_at;
 use records::word::tag_of;
 
+// The tag 0, counted from the least tag.
+pub const ZERO: u64 = 32768;
+
 // A clock's habits (i, t, l, m): of eight draws the first i are idle, those from there to t tick, the others are unseen; its tag rises by l to l + m.
 pub struct Habit(pub u64, pub u64, pub u64, pub u64);
 
@@ -32,7 +35,7 @@ pub fn word(x: u64) -> u16 {
 
 // The tag that is so far above the least tag.
 pub fn tag_above(x: u64) -> i16 {
-    tag_of(word(x % 65536 + 32768))
+    tag_of(word(x % 65536 + ZERO))
 }
 
 pub fn empty_sheet(clocks: u64) -> Sheet {

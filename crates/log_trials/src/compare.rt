@@ -8,10 +8,12 @@ use crate::due::panel_due;
 use crate::due::result_due;
 use crate::due::short_due;
 use crate::tally;
-use crate::tally::Answers;
-use cases::tally::PLACES;
+use cases::tally::Tally;
 use cases::tally::count;
+use cases::tally::count_answer;
 use cases::tally::count_if;
+use cases::tape::front;
+use check::same;
 use gateway::lift_judge;
 use gateway::lift_panel;
 use gateway::lift_watch;
@@ -19,17 +21,18 @@ use judge::answer::Answer;
 use judge::answer::Reply;
 use logs::log::Judged;
 use logs::log::judge_log;
+ghost use Prim.Native.Nat.{_≤_};
 
 // A byte that no entry has.
 const BLANK: u8 = 165;
 
 // Counts a call, and a difference where it isn't as due.
-pub fn held(is_due: bool, t: [u64; PLACES], at: usize) -> [u64; PLACES] {
+pub fn held(is_due: bool, t: Tally, at: usize) -> Tally {
     count_if(!is_due, count(t, at), tally::DIFFERENT)
 }
 
 // Counts a refusal by its number.
-pub fn with_number(n: u8, t: [u64; PLACES]) -> [u64; PLACES] {
+pub fn with_number(n: u8, t: Tally) -> Tally {
     let at = n as usize;
     count(t, tally::NUMBERS + at)
 }
@@ -51,31 +54,23 @@ fn packed(j: Judged) -> u64 {
 }
 
 // Counts a result by its answer, if it has one.
-fn with_answer(r: u64, t: [u64; PLACES], places: Answers) -> [u64; PLACES] {
-    match r / 256 % 256 {
-        1 => count(t, places.exhausted),
-        2 => count(t, places.broken),
-        3 => {
-            if r / 16777216 % 256 == 0 {
-                return count(t, places.owed);
-            }
-            count(t, places.clear)
-        }
-        _ => t,
-    }
+fn with_answer(r: u64, t: Tally, first: usize) -> Tally
+    requires { ⌜ first ≤ 60 ⌝ }
+{
+    count_answer(t, first, r / 256 % 256, r / 16777216 % 256)
 }
 
 // Counts a result by its number, or its answer.
-fn with_result(r: u64, is_counted: bool, t: [u64; PLACES]) -> [u64; PLACES] {
+fn with_result(r: u64, is_counted: bool, t: Tally) -> Tally {
     let t = with_number((r % 256) as u8, t);
-    let t = with_answer(r, t, tally::all_answers());
+    let t = with_answer(r, t, tally::ANSWERS);
     if is_counted {
-        return with_answer(r, t, tally::counted_answers());
+        return with_answer(r, t, tally::COUNTED_ANSWERS);
     }
     t
 }
 
-fn judged(sheet: &[u8], log: &[u8], due: Due, t: [u64; PLACES]) -> [u64; PLACES] {
+fn judged(sheet: &[u8], log: &[u8], due: Due, t: Tally) -> Tally {
     let wanted = result_due(due);
     let j = judge_log(sheet, log);
     let t = held(packed(j) == wanted, t, tally::JUDGE_LOG);
@@ -104,35 +99,29 @@ fn watch(sheet: &[u8], log: &[u8], room: usize) -> Outcome {
     Outcome { result, out }
 }
 
-// The byte that is due at a place, after n bytes of entries; those of opening are left out.
-fn byte_due(entries: [u8; 51], n: usize, at: usize) -> u8 {
-    if 47 < at {
-        return BLANK;
+// The bytes behind the first n; none where there are fewer.
+fn behind(bytes: &[u8], n: usize) -> &[u8] {
+    if bytes.len() < n {
+        return &bytes[0..0];
     }
-    if at < n {
-        return entries[at + 3];
-    }
-    BLANK
+    &bytes[n..]
 }
 
-// Whether a result is as due, and the buffer holds n bytes of entries, later bytes as they were.
+// Whether a result is as due, and the buffer holds n bytes of entries, later bytes as they were; the entry of opening is left out.
 fn is_watched(w: Outcome, wanted: u64, entries: [u8; 51], n: usize) -> bool {
     if w.result != wanted {
         return false;
     }
     let out = w.out;
-    let mut i = 0;
-    while i < 64 {
-        if out[i] != byte_due(entries, n, i) {
-            return false;
-        }
-        i += 1;
+    let blank = [BLANK; 64];
+    if same(behind(&out, n), behind(&blank, n)) {
+        return same(front(&out, n), front(behind(&entries, 3), n));
     }
-    true
+    false
 }
 
 // With room for the entries, and for up to two bytes more.
-fn watched(sheet: &[u8], log: &[u8], due: Due, t: [u64; PLACES]) -> [u64; PLACES] {
+fn watched(sheet: &[u8], log: &[u8], due: Due, t: Tally) -> Tally {
     let n = entry_bytes(due);
     let entries = due.entries;
     let w = watch(sheet, log, n + due.taken % 3);
@@ -141,7 +130,7 @@ fn watched(sheet: &[u8], log: &[u8], due: Due, t: [u64; PLACES]) -> [u64; PLACES
 }
 
 // With a byte too little.
-fn watched_short(sheet: &[u8], log: &[u8], due: Due, t: [u64; PLACES]) -> [u64; PLACES] {
+fn watched_short(sheet: &[u8], log: &[u8], due: Due, t: Tally) -> Tally {
     let n = entry_bytes(due);
     if n == 0 {
         return t;
@@ -154,7 +143,7 @@ fn watched_short(sheet: &[u8], log: &[u8], due: Due, t: [u64; PLACES]) -> [u64; 
 }
 
 // Counts a panel's result that has a tick owed.
-fn with_owing(r: u64, is_counted: bool, t: [u64; PLACES]) -> [u64; PLACES] {
+fn with_owing(r: u64, is_counted: bool, t: Tally) -> Tally {
     if r / 65536 % 256 == 0 {
         return t;
     }
@@ -162,7 +151,7 @@ fn with_owing(r: u64, is_counted: bool, t: [u64; PLACES]) -> [u64; PLACES] {
 }
 
 // Every clock, and one that no sheet has.
-fn shown(sheet: &[u8], log: &[u8], due: Due, tally: [u64; PLACES]) -> [u64; PLACES] {
+fn shown(sheet: &[u8], log: &[u8], due: Due, tally: Tally) -> Tally {
     let mut t = tally;
     let mut clock = 0u8;
     while clock < 9 {
@@ -174,7 +163,7 @@ fn shown(sheet: &[u8], log: &[u8], due: Due, tally: [u64; PLACES]) -> [u64; PLAC
     t
 }
 
-pub fn compare(sheet: &[u8], log: &[u8], due: Due, t: [u64; PLACES]) -> [u64; PLACES] {
+pub fn compare(sheet: &[u8], log: &[u8], due: Due, t: Tally) -> Tally {
     let t = judged(sheet, log, due, t);
     let t = watched(sheet, log, due, t);
     let t = watched_short(sheet, log, due, t);

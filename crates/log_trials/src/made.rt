@@ -24,7 +24,8 @@ use cases::plan::has_counted;
 use cases::random::below;
 use cases::random::draw;
 use cases::random::one_in;
-use cases::tally::PLACES;
+use cases::tally::Ended;
+use cases::tally::Tally;
 use cases::tally::count;
 use cases::tally::count_if;
 use cases::tape::Tape;
@@ -51,12 +52,6 @@ struct Made {
     entries: [u8; 51],
 }
 
-// The last number drawn, and what was counted.
-struct Ended {
-    last: u64,
-    tally: [u64; PLACES],
-}
-
 // Each instant of a run with its number or plain, by a draw each.
 fn numbered_run(run: Run, d: [u64; 48]) -> Run {
     let mut next = run;
@@ -81,14 +76,14 @@ fn with_records(log: Tape, clocks: u8, run: Run, from: usize, to: usize) -> Tape
     all
 }
 
-fn compared(sheet: Tape, log: Tape, due: Due, t: [u64; PLACES]) -> [u64; PLACES] {
+fn compared(sheet: Tape, log: Tape, due: Due, t: Tally) -> Tally {
     let a = sheet.bytes;
     let b = log.bytes;
     compare(front(&a, sheet.len), front(&b, log.len), due, t)
 }
 
 // A log of the first n instants.
-fn taken(c: Made, n: usize, t: [u64; PLACES]) -> [u64; PLACES] {
+fn taken(c: Made, n: usize, t: Tally) -> Tally {
     let sheet = c.sheet;
     let run = c.run;
     let entries = c.entries;
@@ -125,44 +120,27 @@ fn number_in_log(r: Record, how: u64) -> u8 {
     r.refusal
 }
 
-// A damaged record after the first n instants; then the others, unless it is torn.
-fn damaged_log(c: Made, n: usize, how: u64, t: [u64; PLACES]) -> [u64; PLACES] {
+// A record that a number refuses after the first n instants; then the others, unless it is torn.
+fn refused_log(c: Made, n: usize, r: Record, number: u8, is_torn: bool, t: Tally) -> Tally {
     let sheet = c.sheet;
     let clocks = sheet.clocks;
     let run = c.run;
     let entries = c.entries;
     let tape = c.tape;
-    let r = damaged(instant_at(run, n), clocks, how);
+    let to = if is_torn { n } else { run.count };
     let log = with_record(with_records(no_bytes(), clocks, run, 0, n), r);
-    let due = refused(number_in_log(r, how), n, entries);
-    if how < 2 {
-        return compared(tape, log, due, t);
-    }
-    let longer = with_records(log, clocks, run, n, run.count);
-    compared(tape, longer, due, t)
+    let longer = with_records(log, clocks, run, n, to);
+    compared(tape, longer, refused(number, n, entries), t)
 }
 
-// A record with a number that is not the next after the first n instants, and then the others.
-fn skipped_log(c: Made, n: usize, how: u64, t: [u64; PLACES]) -> [u64; PLACES] {
-    let sheet = c.sheet;
-    let clocks = sheet.clocks;
-    let run = c.run;
-    let entries = c.entries;
-    let tape = c.tape;
-    let r = out_of_turn(instant_at(run, n), clocks, wrong_number(n, how));
-    let log = with_record(with_records(no_bytes(), clocks, run, 0, n), r);
-    let longer = with_records(log, clocks, run, n, run.count);
-    compared(tape, longer, refused(r.refusal, n, entries), t)
-}
-
-fn sheet_number(tape: Tape, wanted: u8, t: [u64; PLACES]) -> [u64; PLACES] {
+fn sheet_number(tape: Tape, wanted: u8, t: Tally) -> Tally {
     let bytes = tape.bytes;
     let n = lift_sheet_number(front(&bytes, tape.len));
     held(n == wanted, with_number(n, t), tally::SHEET_NUMBER)
 }
 
 // The sheet as it is, then damaged in one way, with a log of the first n instants.
-fn damaged_sheet(c: Made, n: usize, d: [u64; 48], t: [u64; PLACES]) -> [u64; PLACES] {
+fn damaged_sheet(c: Made, n: usize, d: [u64; 48], t: Tally) -> Tally {
     let sheet = c.sheet;
     let clocks = sheet.clocks;
     let run = c.run;
@@ -177,14 +155,14 @@ fn damaged_sheet(c: Made, n: usize, d: [u64; 48], t: [u64; PLACES]) -> [u64; PLA
     compared(bad, log, refused(f.number, 0, entries), t)
 }
 
-fn instant_number(r: Record, clocks: u8, wanted: u8, t: [u64; PLACES]) -> [u64; PLACES] {
+fn instant_number(r: Record, clocks: u8, wanted: u8, t: Tally) -> Tally {
     let bytes = r.bytes;
     let n = lift_instant_number(front(&bytes, r.len), clocks);
     held(n == wanted, with_number(n, t), tally::INSTANT_NUMBER)
 }
 
 // An instant's record as it is, with whatever number, for clock counts that no sheet has, and damaged.
-fn instant_numbers(v: Instant, clocks: u8, how: u64, t: [u64; PLACES]) -> [u64; PLACES] {
+fn instant_numbers(v: Instant, clocks: u8, how: u64, t: Tally) -> Tally {
     let r = whole(v, clocks);
     let t = instant_number(r, clocks, 0, t);
     let other = out_of_turn(v, clocks, wrong_number(0, how));
@@ -196,21 +174,25 @@ fn instant_numbers(v: Instant, clocks: u8, how: u64, t: [u64; PLACES]) -> [u64; 
 }
 
 // All that is compared of a case, with a place in it, ways of damage and a wrong number drawn.
-fn tried(c: Made, d: [u64; 48], t: [u64; PLACES]) -> [u64; PLACES] {
+fn tried(c: Made, d: [u64; 48], t: Tally) -> Tally {
     let sheet = c.sheet;
+    let clocks = sheet.clocks;
     let run = c.run;
     let all = run.count;
     let n = below(d, 0, all as u64) as usize;
     let how = below(d, 1, DAMAGES);
+    let v = instant_at(run, n);
+    let bad = damaged(v, clocks, how);
+    let skipped = out_of_turn(v, clocks, wrong_number(n, below(d, 4, WRONG)));
     let t = taken(c, all, t);
     let t = taken(c, n, t);
-    let t = damaged_log(c, n, how, t);
-    let t = skipped_log(c, n, below(d, 4, WRONG), t);
+    let t = refused_log(c, n, bad, number_in_log(bad, how), how < 2, t);
+    let t = refused_log(c, n, skipped, skipped.refusal, false, t);
     let t = damaged_sheet(c, n, d, t);
-    instant_numbers(instant_at(run, n), sheet.clocks, how, t)
+    instant_numbers(v, clocks, how, t)
 }
 
-fn case(is_wide: bool, number: u64, from: u64, tally: [u64; PLACES]) -> Ended {
+fn case(is_wide: bool, number: u64, from: u64, tally: Tally) -> Ended {
     let first = draw(from);
     let d = first.numbers;
     let plan = plan_of(is_wide, number, d);
@@ -238,7 +220,7 @@ fn case(is_wide: bool, number: u64, from: u64, tally: [u64; PLACES]) -> Ended {
 }
 
 // So many cases, from the first number of the sequence.
-fn cases_of(is_wide: bool, cases: u64, tally: [u64; PLACES]) -> [u64; PLACES] {
+fn cases_of(is_wide: bool, cases: u64, tally: Tally) -> Tally {
     let mut e = Ended { last: 1, tally };
     let mut i = 0;
     while i < cases {
@@ -250,7 +232,7 @@ fn cases_of(is_wide: bool, cases: u64, tally: [u64; PLACES]) -> [u64; PLACES] {
     told
 }
 
-pub fn all(tally: [u64; PLACES]) -> [u64; PLACES] {
+pub fn all(tally: Tally) -> Tally {
     let t = cases_of(false, NARROW_CASES, tally);
     cases_of(true, WIDE_CASES, t)
 }

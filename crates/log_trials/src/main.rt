@@ -5,10 +5,9 @@ mod faulty;
 mod made;
 mod report;
 mod tally;
-mod text;
 
-use cases::tally::PLACES;
+use cases::tally::TALLY_PLACES;
 
 fn main() {
-    report::table(made::all([0u64; PLACES]));
+    report::table(made::all([0u64; TALLY_PLACES]));
 }

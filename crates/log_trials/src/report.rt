@@ -1,84 +1,58 @@
 // The table of what was counted.
 use crate::tally;
-use crate::tally::Answers;
-use crate::text::number;
-use crate::text::say;
-use cases::tally::PLACES;
-use cases::tally::counted;
+use cases::report::answers;
+use cases::report::rows;
+use cases::report::say;
+use cases::tally::Tally;
 
-// The last number of a refusal.
-const LAST_NUMBER: usize = 19;
-
-// A row: what is counted, and how often.
-fn line(t: [u64; PLACES], what: &[u8], at: usize) {
-    say(b"  ");
-    say(what);
-    say(b": ");
-    number(counted(t, at));
-    say(b"\n");
-}
-
-fn cases(t: [u64; PLACES]) {
-    say(
-        b"Cases, each with a whole log of plain and numbered instants, a beginning of it, a damaged log, one with a wrong number and a damaged sheet\n",
-    );
-    line(t, b"of at most four clocks", tally::NARROW);
-    line(t, b"of five to eight clocks", tally::WIDE);
-    line(t, b"with a counted line", tally::COUNTED);
-}
-
-fn calls(t: [u64; PLACES]) {
+fn calls(t: Tally) {
     say(b"Calls compared with the judge of the whole run\n");
-    line(t, b"judge_log", tally::JUDGE_LOG);
-    line(t, b"lift_judge", tally::LIFT_JUDGE);
-    line(t, b"lift_watch", tally::LIFT_WATCH);
-    line(t, b"lift_watch, a byte too little room", tally::SHORT);
-    line(t, b"lift_panel", tally::LIFT_PANEL);
-    line(t, b"lift_panel, a tick is owed", tally::OWING);
-    line(
+    rows(
         t,
-        b"lift_panel, a tick is owed, all lines counted",
-        tally::COUNTED_OWING,
+        tally::JUDGE_LOG,
+        b"judge_log\n\
+        lift_judge\n\
+        lift_watch\n\
+        lift_watch, a byte too little room\n\
+        lift_panel\n\
+        lift_panel, a tick is owed\n\
+        lift_panel, a tick is owed, all lines counted\n\
+        lift_sheet_number\n\
+        lift_instant_number\n",
     );
-    line(t, b"lift_sheet_number", tally::SHEET_NUMBER);
-    line(t, b"lift_instant_number", tally::INSTANT_NUMBER);
-}
-
-fn answers(t: [u64; PLACES], at: Answers) {
-    line(t, b"holding, clear", at.clear);
-    line(t, b"holding, owed", at.owed);
-    line(t, b"broken", at.broken);
-    line(t, b"exhausted", at.exhausted);
 }
 
 // A row for each number; 11 and 16 are beyond these logs.
-fn numbers(t: [u64; PLACES]) {
-    let mut n = 1;
-    while n <= LAST_NUMBER {
-        say(b"  ");
-        number(n as u64);
-        say(b": ");
-        number(counted(t, tally::NUMBERS + n));
-        say(b"\n");
-        n += 1;
-    }
-}
-
-pub fn table(t: [u64; PLACES]) {
-    cases(t);
-    calls(t);
-    say(b"Answers of lift_judge\n");
-    answers(t, tally::all_answers());
-    say(b"Answers of lift_judge, all lines counted\n");
-    answers(t, tally::counted_answers());
+fn numbers(t: Tally) {
     say(
         b"Refusals of lift_judge, lift_sheet_number and lift_instant_number, and of a buffer too short\n",
     );
+    rows(
+        t,
+        tally::NUMBERS + 1,
+        b"1\n2\n3\n4\n5\n6\n7\n8\n9\n10\n11\n12\n13\n14\n15\n16\n17\n18\n19\n",
+    );
+}
+
+pub fn table(t: Tally) {
+    say(
+        b"Cases, each with a whole log of plain and numbered instants, a beginning of it, a damaged log, one with a wrong number and a damaged sheet\n",
+    );
+    rows(
+        t,
+        tally::NARROW,
+        b"of at most four clocks\nof five to eight clocks\nwith a counted line\n",
+    );
+    calls(t);
+    say(b"Answers of lift_judge\n");
+    answers(t, tally::ANSWERS);
+    say(b"Answers of lift_judge, all lines counted\n");
+    answers(t, tally::COUNTED_ANSWERS);
     numbers(t);
     say(b"Differences\n");
-    line(
+    rows(
         t,
-        b"calls unlike the judge of the whole run",
         tally::DIFFERENT,
+        b"calls unlike the judge of the whole run\n",
     );
 }

@@ -12,28 +12,15 @@ use cases::numbered::out_of_turn;
 use cases::numbered::with_number;
 use cases::random::below;
 use cases::random::draw;
-use cases::tally::PLACES;
+use cases::tally::Ended;
+use cases::tally::Tally;
 use cases::tally::count;
 use cases::tally::count_if;
 use filler::run::Run;
 use records::instant::Instant;
 
-const CASES: u64 = 4000;
-
 // How many records are sent in a case.
 const SENDS: usize = 16;
-
-// The last number drawn, and a case under way.
-struct Sending {
-    last: u64,
-    trial: Trial,
-}
-
-// The last number drawn, and what was counted.
-struct Ended {
-    last: u64,
-    tally: [u64; PLACES],
-}
 
 // The instant that has a number in the list; for another number any.
 fn instant_of(all: Run, n: u64) -> Instant {
@@ -61,114 +48,72 @@ fn number_of(held: u64, most: u64, d: [u64; 48]) -> u64 {
     }
 }
 
-// Whether a number is the next of the list.
-fn is_next(n: u64, held: u64, most: u64) -> bool {
-    if most < n {
-        return false;
-    }
-    if n <= held {
-        return false;
-    }
-    n - held == 1
-}
-
-// Counts a number, by whether it is the next of the list, held already, too early, or of no record of it.
-fn with_place(t: [u64; PLACES], n: u64, held: u64, most: u64) -> [u64; PLACES] {
+// The place of a number in the tally, by whether it is the next of the list, held already, too early, or of no record of it.
+fn place_of(n: u64, held: u64, most: u64) -> usize {
     if n == 0 {
-        return count(t, tally::NO_NUMBER);
+        return tally::NO_NUMBER;
     }
     if most < n {
-        return count(t, tally::NO_NUMBER);
+        return tally::NO_NUMBER;
     }
     if n <= held {
-        return count(t, tally::REPEATED_NUMBER);
+        return tally::REPEATED_NUMBER;
     }
-    if is_next(n, held, most) {
-        return count(t, tally::NUMBERED);
+    if n - held == 1 {
+        return tally::NEXT_NUMBER;
     }
-    count(t, tally::EARLY_NUMBER)
-}
-
-// A trial with what is counted of a number.
-fn with_number_told(t: Trial, n: u64, most: u64) -> Trial {
-    let run = t.run;
-    let told = t.tally;
-    let more = with_place(told, n, run.count as u64, most);
-    let mut next = t;
-    next.tally = more;
-    next
+    tally::EARLY_NUMBER
 }
 
 // Sends the record with a number: it is taken if it is the next of the list.
-fn send(t: Trial, all: Run, n: u64) -> Trial {
+fn send(t: Trial, all: Run, d: [u64; 48]) -> Trial {
     let sheet = t.sheet;
     let run = t.run;
+    let told = t.tally;
     let held = run.count as u64;
     let most = all.count as u64;
+    let n = number_of(held, most, d);
     let v = instant_of(all, n);
-    let told = with_number_told(t, n, most);
-    if is_next(n, held, most) {
-        return taken(told, with_number(v, n));
+    let place = place_of(n, held, most);
+    let more = count(told, place);
+    let mut next = t;
+    next.tally = more;
+    if place == tally::NEXT_NUMBER {
+        return taken(next, with_number(v, n));
     }
-    refused(told, out_of_turn(v, sheet.clocks, n))
-}
-
-// One record more.
-fn step(s: Sending, all: Run) -> Sending {
-    let drawn = draw(s.last);
-    let d = drawn.numbers;
-    let t = s.trial;
-    let run = t.run;
-    let n = number_of(run.count as u64, all.count as u64, d);
-    Sending {
-        last: drawn.last,
-        trial: send(t, all, n),
-    }
+    refused(next, out_of_turn(v, sheet.clocks, n))
 }
 
 // A case by how much of its list is held, which the monitor must say too.
-fn end(s: Sending, all: Run) -> Ended {
-    let t = s.trial;
+fn counted(t: Trial, all: Run) -> Tally {
     let run = t.run;
     let monitor = t.monitor;
     let told = t.tally;
     let told = count_if(run.count == all.count, told, tally::WHOLE_LIST);
     let told = count_if(run.count < all.count, told, tally::PART_OF_LIST);
-    let tally = count_if(monitor.instants != run.count, told, tally::DIFFERENT);
-    Ended {
-        last: s.last,
-        tally,
-    }
+    count_if(monitor.instants != run.count, told, tally::DIFFERENT)
 }
 
-fn case(number: u64, from: u64, tally: [u64; PLACES]) -> Ended {
+// Runs a case of at most four clocks from a number of the sequence.
+pub fn case(number: u64, from: u64, tally: Tally) -> Ended {
     let drawn = draw(from);
     let d = drawn.numbers;
     let plan = plan_of(false, number, d);
     let listed = run_of(plan, drawn.last);
     let all = listed.run;
     let sheet = plan.sheet;
-    let mut s = Sending {
-        last: listed.last,
-        trial: opened(sheet, 0, tally),
-    };
+    let mut last = listed.last;
+    let mut t = opened(sheet, 0, tally);
     let mut i = 0;
     while i < SENDS {
-        s = step(s, all);
         i += 1;
+        let more = draw(last);
+        let d = more.numbers;
+        t = send(t, all, d);
+        last = more.last;
     }
-    end(s, all)
-}
-
-// So many cases of at most four clocks, from the first number of the sequence.
-pub fn cases(tally: [u64; PLACES]) -> [u64; PLACES] {
-    let mut e = Ended { last: 1, tally };
-    let mut i = 0;
-    while i < CASES {
-        let told = e.tally;
-        e = case(i, e.last, told);
-        i += 1;
+    Ended {
+        last,
+        tally: counted(t, all),
     }
-    let told = e.tally;
-    told
 }

@@ -1,30 +1,28 @@
 // Document 01's lift examples L2 to L11, some at the limits, some of counted lines, and some at the end of the scale; a row each, with the answers of opening and of every instant.
 use crate::text::answer;
-use crate::text::say;
-use crate::trial::Trial;
 use crate::trial::opened;
 use crate::trial::taken;
 use cases::course::idle_instant;
 use cases::course::with_clock;
+use cases::plan::ZERO;
+use cases::plan::byte;
 use cases::plan::counts;
 use cases::plan::delayed;
 use cases::plan::empty_sheet;
 use cases::plan::pair;
 use cases::plan::relation;
 use cases::plan::sporadic;
+use cases::plan::tag_above;
 use cases::plan::with;
-use cases::tally::PLACES;
+use cases::report::say;
+use cases::tally::Tally;
 use records::instant::Instant;
 use records::instant::Tick;
 use records::line::Line;
 use records::sheet::Sheet;
-use records::word::tag_of;
 
-// The tag 0, counted from the least tag.
-const ZERO: u64 = 32768;
-
-// The end of the scale.
-const MOST_TAG: u16 = 32767;
+// The tag 32,640, counted from the least tag: the end of the scale is 127 above.
+const NEAR_END: u64 = 65408;
 
 // A tick byte.
 fn tick_of(x: u8) -> Tick {
@@ -35,63 +33,38 @@ fn tick_of(x: u8) -> Tick {
     }
 }
 
-// A tag of one byte, in two's complement.
-fn tag_of_byte(x: u8) -> i16 {
-    let w = x as u16;
-    if w < 128 {
-        return tag_of(w);
-    }
-    tag_of(w + 65280)
-}
-
-// A tag of one byte: around 0, or so far below the end of the scale.
-fn tag_by(below_end: bool, x: u8) -> i16 {
-    if below_end {
-        return tag_of(MOST_TAG - (x as u16));
-    }
-    tag_of_byte(x)
+// A tag of one byte, in two's complement, around a middle.
+fn tag_by(middle: u64, x: u8) -> i16 {
+    let above = (x as u64 + 128) % 256;
+    tag_above(middle % 65536 + 65408 + above)
 }
 
 // The instant at the front of some bytes: tick and tag of clock 0, then of clock 1.
-fn instant_of(b: &[u8], below_end: bool) -> Instant {
+fn instant_of(b: &[u8], middle: u64) -> Instant {
     if b.len() < 4 {
         return idle_instant();
     }
-    let v = with_clock(idle_instant(), 0, tick_of(b[0]), tag_by(below_end, b[1]));
-    with_clock(v, 1, tick_of(b[2]), tag_by(below_end, b[3]))
+    let v = with_clock(idle_instant(), 0, tick_of(b[0]), tag_by(middle, b[1]));
+    with_clock(v, 1, tick_of(b[2]), tag_by(middle, b[3]))
 }
 
-fn start(name: &[u8], s: Sheet, tally: [u64; PLACES]) -> Trial {
-    let t = opened(s, 0, tally);
+// A sheet and its instants, four bytes each, with tags around a middle.
+fn example_by(name: &[u8], s: Sheet, middle: u64, log: &[u8], tally: Tally) -> Tally {
+    let mut t = opened(s, 0, tally);
     say(b"  ");
     say(name);
     say(b": ");
-    let a = t.answer;
-    answer(a);
-    t
-}
-
-fn then(t: Trial, v: Instant) -> Trial {
-    let next = taken(t, v);
-    say(b", ");
-    let a = next.answer;
-    answer(a);
-    next
-}
-
-// A sheet and its instants, four bytes each.
-fn example_by(
-    name: &[u8],
-    s: Sheet,
-    below_end: bool,
-    log: &[u8],
-    tally: [u64; PLACES],
-) -> [u64; PLACES] {
-    let mut t = start(name, s, tally);
-    let mut at = 0;
-    while at < log.len() {
-        t = then(t, instant_of(&log[at..], below_end));
-        at += 4;
+    let first = t.answer;
+    answer(first);
+    let mut left = log.len();
+    while 3 < left {
+        let at = log.len() - left;
+        left -= 4;
+        let v = instant_of(&log[at..], middle);
+        t = taken(t, v);
+        say(b", ");
+        let next = t.answer;
+        answer(next);
     }
     say(b"\n");
     let told = t.tally;
@@ -99,37 +72,37 @@ fn example_by(
 }
 
 // With tags around 0.
-fn example(name: &[u8], s: Sheet, log: &[u8], t: [u64; PLACES]) -> [u64; PLACES] {
-    example_by(name, s, false, log, t)
+fn example(name: &[u8], s: Sheet, log: &[u8], t: Tally) -> Tally {
+    example_by(name, s, ZERO, log, t)
 }
 
-// With tags below the end of the scale.
-fn near_end(name: &[u8], s: Sheet, log: &[u8], t: [u64; PLACES]) -> [u64; PLACES] {
-    example_by(name, s, true, log, t)
+// With tags up to the end of the scale.
+fn near_end(name: &[u8], s: Sheet, log: &[u8], t: Tally) -> Tally {
+    example_by(name, s, NEAR_END, log, t)
 }
 
 // An example of two clocks and one line.
-fn of_line(name: &[u8], line: Line, log: &[u8], t: [u64; PLACES]) -> [u64; PLACES] {
+fn of_line(name: &[u8], line: Line, log: &[u8], t: Tally) -> Tally {
     example(name, with(empty_sheet(2), line), log, t)
 }
 
-// Ticks of 0 at tags 1 to 8, then one at a tag, where 1 has a tick byte.
-fn nine_ticks(tag: u8, other: u8) -> [u8; 36] {
+// Nine instants where 0 has a tick byte, its tags rising by one from the first.
+fn nine(tick: u8, first: u8) -> [u8; 36] {
     let mut log = [0u8; 36];
     let mut i = 0;
     while i < 9 {
-        log[4 * i] = 1;
-        log[4 * i + 1] = (i + 1) as u8;
+        log[4 * i] = tick;
+        log[4 * i + 1] = byte(first as u64 + i as u64);
         i += 1;
     }
-    log[33] = tag;
-    log[34] = other;
     log
 }
 
-// A sheet and the instants of nine ticks.
-fn ninth(name: &[u8], s: Sheet, tag: u8, other: u8, t: [u64; PLACES]) -> [u64; PLACES] {
-    let log = nine_ticks(tag, other);
+// A sheet and ticks of 0 at tags 1 to 8, then one at a tag, where 1 has a tick byte.
+fn ninth(name: &[u8], s: Sheet, tag: u8, other: u8, t: Tally) -> Tally {
+    let mut log = nine(1, 1);
+    log[33] = tag;
+    log[34] = other;
     example(name, s, &log, t)
 }
 
@@ -138,7 +111,7 @@ fn later(d: u64) -> Sheet {
     with(empty_sheet(2), delayed(0, d, 0, 1))
 }
 
-fn l2_l3(t: [u64; PLACES]) -> [u64; PLACES] {
+fn l2_l3(t: Tally) -> Tally {
     let t = of_line(b"L2 sporadic", sporadic(0, 1, ZERO), b"", t);
     let t = of_line(
         b"L3 0 excludes 0, a tick",
@@ -154,7 +127,7 @@ fn l2_l3(t: [u64; PLACES]) -> [u64; PLACES] {
     )
 }
 
-fn l4_l5(t: [u64; PLACES]) -> [u64; PLACES] {
+fn l4_l5(t: Tally) -> Tally {
     let both = b"\x01\x00\x01\x00";
     let kills = pair(23, 0, 1);
     let t = of_line(b"L4 weakly, both tick", pair(21, 0, 1), both, t);
@@ -163,7 +136,7 @@ fn l4_l5(t: [u64; PLACES]) -> [u64; PLACES] {
     of_line(b"L5 0 kills 1, 1 unseen", kills, b"\x01\x00\x02\x00", t)
 }
 
-fn l6_l7(t: [u64; PLACES]) -> [u64; PLACES] {
+fn l6_l7(t: Tally) -> Tally {
     let times_60 = relation(0, 1, 60, 0);
     let due = sporadic(0, 1, ZERO - 1);
     let t = of_line(b"L6 -60 = 60 x -1", times_60, b"\x00\xC4\x00\xFF", t);
@@ -182,7 +155,7 @@ fn l6_l7(t: [u64; PLACES]) -> [u64; PLACES] {
     )
 }
 
-fn l8_l11(t: [u64; PLACES]) -> [u64; PLACES] {
+fn l8_l11(t: Tally) -> Tally {
     let by_100 = later(100);
     let t = example(b"L8 d = 0, both tick", later(0), b"\x01\x00\x01\x00", t);
     let t = ninth(b"L9 ticks at 1 to 9", by_100, 9, 0, t);
@@ -201,7 +174,7 @@ fn l8_l11(t: [u64; PLACES]) -> [u64; PLACES] {
 }
 
 // 31: a tick of 1 has one of 0 before it. 33: 1 may tick where 0 never did.
-fn lives(t: [u64; PLACES]) -> [u64; PLACES] {
+fn lives(t: Tally) -> Tally {
     let by_100 = later(100);
     let weakly = with(by_100, pair(21, 0, 1));
     let kills = with(with(by_100, delayed(1, 100, 0, 0)), pair(23, 0, 1));
@@ -220,14 +193,14 @@ fn lives(t: [u64; PLACES]) -> [u64; PLACES] {
 }
 
 // A ninth obligation begins where one of eight is met, or is late.
-fn ninths(t: [u64; PLACES]) -> [u64; PLACES] {
+fn ninths(t: Tally) -> Tally {
     let by_8 = later(8);
     let t = ninth(b"a ninth, one met", by_8, 9, 1, t);
     ninth(b"a ninth, one late", by_8, 10, 0, t)
 }
 
 // A count met by its own instant's ticks would be clear; one that an unseen tick may have brought down has two remainders.
-fn counted(t: [u64; PLACES]) -> [u64; PLACES] {
+fn counted(t: Tally) -> Tally {
     let t = of_line(
         b"a count of 1, both tick",
         counts(0, 1, 0, 1),
@@ -249,7 +222,7 @@ fn counted(t: [u64; PLACES]) -> [u64; PLACES] {
 }
 
 // Eight obligations and eight countdowns; then a ninth countdown, with an equal obligation; a ninth obligation, a countdown met; neither; a ninth obligation, a countdown missed.
-fn both(t: [u64; PLACES]) -> [u64; PLACES] {
+fn both(t: Tally) -> Tally {
     let far = counts(0, 255, 0, 1);
     let near = with(later(100), counts(0, 8, 0, 1));
     let t = ninth(b"nine countdowns", with(empty_sheet(2), far), 9, 0, t);
@@ -271,45 +244,33 @@ fn both(t: [u64; PLACES]) -> [u64; PLACES] {
     )
 }
 
-// The nine tags up to the end of the scale, where 0 has a tick byte.
-fn last_nine(tick: u8) -> [u8; 36] {
-    let mut log = [0u8; 36];
-    let mut i = 0;
-    while i < 9 {
-        log[4 * i] = tick;
-        log[4 * i + 1] = (8 - i) as u8;
-        i += 1;
-    }
-    log
-}
-
 // A delay that is due at the end begins an obligation; one that would be due past it begins none.
-fn scale_end(t: [u64; PLACES]) -> [u64; PLACES] {
+fn scale_end(t: Tally) -> Tally {
     let t = near_end(
         b"begun at 32,767, d = 0, met there",
         later(0),
-        b"\x01\x00\x00\x00\x00\x00\x01\x00",
+        b"\x01\x7F\x00\x00\x00\x7F\x01\x00",
         t,
     );
-    let t = near_end(b"begun at 32,767, d = 1", later(1), b"\x01\x00\x00\x00", t);
+    let t = near_end(b"begun at 32,767, d = 1", later(1), b"\x01\x7F\x00\x00", t);
     near_end(
         b"a long lift, d = 100: a tick, its reading, a tick at 32,700",
         later(100),
-        b"\x01\xA7\x00\x00\x00\x43\x01\x00\x01\x43\x00\x00",
+        b"\x01\xD8\x00\x00\x00\x3C\x01\x00\x01\x3C\x00\x00",
         t,
     )
 }
 
-// With d = 8 the first of the nine is due at the end.
-fn nine_at_end(t: [u64; PLACES]) -> [u64; PLACES] {
-    let ticks = last_nine(1);
-    let unseen = last_nine(2);
+// Nine tags up to the end: with d = 8 the first is due there.
+fn nine_at_end(t: Tally) -> Tally {
+    let ticks = nine(1, 119);
+    let unseen = nine(2, 119);
     let t = near_end(b"nine begun past the end", later(100), &ticks, t);
     let t = near_end(b"nine unseen past the end", later(100), &unseen, t);
     near_end(b"one of nine due at the end", later(8), &ticks, t)
 }
 
-pub fn all(t: [u64; PLACES]) -> [u64; PLACES] {
+pub fn all(t: Tally) -> Tally {
     say(b"Lift examples, some at the limits, counted lines, and the end of the scale\n");
     let t = l8_l11(l6_l7(l4_l5(l2_l3(t))));
     let t = both(counted(ninths(lives(t))));

@@ -9,7 +9,6 @@ use crate::trial::opened;
 use crate::trial::refused;
 use crate::trial::taken;
 use cases::course;
-use cases::course::Course;
 use cases::course::unseen_from;
 use cases::damage::DAMAGES;
 use cases::damage::damaged;
@@ -22,21 +21,17 @@ use cases::numbered::next_of;
 use cases::numbered::out_of_turn;
 use cases::numbered::with_number;
 use cases::numbered::wrong_number;
-use cases::plan::Plan;
 use cases::random::below;
 use cases::random::draw;
 use cases::random::one_in;
-use cases::tally::PLACES;
+use cases::tally::Ended;
+use cases::tally::Tally;
 use cases::tally::count;
 use cases::tally::count_if;
 use records::instant::Instant;
 use records::line::Line;
 use records::sheet::Sheet;
 use records::sheet::line_at;
-
-const NARROW_CASES: u64 = 24000;
-
-const WIDE_CASES: u64 = 4800;
 
 // The place of a line's kind in the tally.
 fn kind_place(l: Line) -> usize {
@@ -69,7 +64,7 @@ fn kind_place(l: Line) -> usize {
 }
 
 // The lines of a sheet by their kind.
-fn with_kinds(tally: [u64; PLACES], s: Sheet) -> [u64; PLACES] {
+fn with_kinds(tally: Tally, s: Sheet) -> Tally {
     let n = s.count;
     let mut t = tally;
     let mut i = 0;
@@ -114,27 +109,13 @@ fn with_refusals(t: Trial, v: Instant, d: [u64; 48]) -> Trial {
     t
 }
 
-// A case under way, and the last number drawn.
-struct Stand {
-    trial: Trial,
-    course: Course,
-    last: u64,
-}
-
-// The last number drawn, and what was counted.
-struct Ended {
-    last: u64,
-    tally: [u64; PLACES],
-}
-
 // A sheet by its lines and its clocks.
-fn with_sheet(tally: [u64; PLACES], s: Sheet) -> [u64; PLACES] {
+fn with_sheet(tally: Tally, s: Sheet) -> Tally {
     count_if(s.clocks == 8, with_kinds(tally, s), tally::EIGHT)
 }
 
 // Of one case in eight, where it has a line, the sheet with its lines out of order.
-fn with_disorder(plan: Plan, d: [u64; 48], tally: [u64; PLACES]) -> [u64; PLACES] {
-    let sheet = plan.sheet;
+fn with_disorder(sheet: Sheet, d: [u64; 48], tally: Tally) -> Tally {
     let lines = sheet.count;
     if lines == 0 {
         return tally;
@@ -144,17 +125,6 @@ fn with_disorder(plan: Plan, d: [u64; 48], tally: [u64; PLACES]) -> [u64; PLACES
         return not_opened(out_of_order(sheet, one_in(d, 46, 2), i), tally);
     }
     tally
-}
-
-// A line of the sheet is drawn, to be repeated where the sheet is opened in another order.
-fn begin(plan: Plan, d: [u64; 48], last: u64, tally: [u64; PLACES]) -> Stand {
-    let sheet = plan.sheet;
-    let i = below(d, 44, sheet.count as u64) as usize;
-    Stand {
-        trial: opened(sheet, i, with_sheet(tally, sheet)),
-        course: course::begin(plan),
-        last,
-    }
 }
 
 // An instant by its form, its unseen ticks, and the delays that it may begin.
@@ -172,77 +142,52 @@ fn with_instant(t: Trial, v: Instant) -> Trial {
 }
 
 // One instant more, plain or numbered, and refused calls before it.
-fn step(plan: Plan, s: Stand) -> Stand {
-    let drawn = draw(s.last);
-    let d = drawn.numbers;
-    let before = s.course;
-    let course = course::next(plan, before, d);
-    let t = s.trial;
+fn step(t: Trial, v: Instant, d: [u64; 48]) -> Trial {
     let run = t.run;
-    let v = course.instant;
     let v = next_of(v, run.count, one_in(d, 24, 2));
-    Stand {
-        trial: taken(with_refusals(with_instant(t, v), v, d), v),
-        course,
-        last: drawn.last,
-    }
+    taken(with_refusals(with_instant(t, v), v, d), v)
 }
 
-fn end(s: Stand) -> Ended {
-    let t = s.trial;
+fn ended(t: Trial, last: u64) -> Ended {
     let tally = t.tally;
-    Ended {
-        last: s.last,
-        tally,
-    }
+    Ended { last, tally }
 }
 
 // Whether the last answer was holding.
-fn is_holding(s: Stand) -> bool {
-    let t = s.trial;
+fn is_holding(t: Trial) -> bool {
     let a = t.answer;
     0 < live_of(a)
 }
 
+// Opens a sheet; a line of it is drawn, to be repeated where it is opened in another order.
+fn begin(sheet: Sheet, d: [u64; 48], tally: Tally) -> Trial {
+    let i = below(d, 44, sheet.count as u64) as usize;
+    opened(sheet, i, with_sheet(tally, sheet))
+}
+
 // Runs a case from a number of the sequence; after an answer that isn't holding comes one instant more.
-fn case(is_wide: bool, number: u64, from: u64, tally: [u64; PLACES]) -> Ended {
+pub fn case(is_wide: bool, number: u64, from: u64, tally: Tally) -> Ended {
     let drawn = draw(from);
     let d = drawn.numbers;
     let plan = plan_of(is_wide, number, d);
-    let told = with_disorder(plan, d, tally);
+    let sheet = plan.sheet;
     let n = instants_of(plan);
-    let mut s = begin(plan, d, drawn.last, told);
+    let mut t = begin(sheet, d, with_disorder(sheet, d, tally));
+    let mut c = course::begin(plan);
+    let mut last = drawn.last;
     let mut i = 0;
     while i < n {
-        let held = is_holding(s);
-        s = step(plan, s);
+        i += 1;
+        let held = is_holding(t);
+        let more = draw(last);
+        let e = more.numbers;
+        c = course::next(plan, c, e);
+        let v = c.instant;
+        t = step(t, v, e);
+        last = more.last;
         if !held {
-            return end(s);
+            return ended(t, last);
         }
-        i += 1;
     }
-    end(s)
-}
-
-// So many cases, from the first number of the sequence.
-fn all(is_wide: bool, cases: u64, tally: [u64; PLACES]) -> [u64; PLACES] {
-    let mut e = Ended { last: 1, tally };
-    let mut i = 0;
-    while i < cases {
-        let told = e.tally;
-        e = case(is_wide, i, e.last, told);
-        i += 1;
-    }
-    let told = e.tally;
-    told
-}
-
-// Cases of at most four clocks.
-pub fn narrow(tally: [u64; PLACES]) -> [u64; PLACES] {
-    all(false, NARROW_CASES, tally)
-}
-
-// Cases of five to eight clocks.
-pub fn wide(tally: [u64; PLACES]) -> [u64; PLACES] {
-    all(true, WIDE_CASES, tally)
+    ended(t, last)
 }

@@ -1,6 +1,8 @@
 // The end of the scale: which delays that an instant may begin are due at it, and which past it.
 use crate::tally;
-use cases::tally::PLACES;
+use cases::course::tick_at;
+use cases::plan::ZERO;
+use cases::tally::Tally;
 use cases::tally::count;
 use records::instant::Instant;
 use records::instant::Tick;
@@ -14,29 +16,21 @@ const MOST_TAG: u64 = 65535;
 
 const TAGS: u64 = 65536;
 
-const NEGATIVE_TAGS: u64 = 32768;
-
 // A tag, counted from the least one.
 fn above_least(tag: i16) -> u64 {
-    ((raw_of(tag) as u64) + NEGATIVE_TAGS) % TAGS
+    ((raw_of(tag) as u64) + ZERO) % TAGS
 }
 
 // The clock ticks or is unseen.
 fn may_tick(v: Instant, clock: u8) -> bool {
-    let k = clock as usize;
-    if 7 < k {
-        return false;
-    }
-    let slot = v.ticks[k];
-    let tick = slot.tick;
-    match tick {
+    match tick_at(v, clock as usize) {
         Tick::Idle => false,
         _ => true,
     }
 }
 
 // A delay from a clock's tag, by where that stands to the last tag from which its due is on the scale.
-fn with_due(t: [u64; PLACES], v: Instant, on: u8, by: u16) -> [u64; PLACES] {
+fn with_due(t: Tally, v: Instant, on: u8, by: u16) -> Tally {
     let k = on as usize;
     if 7 < k {
         return t;
@@ -52,7 +46,7 @@ fn with_due(t: [u64; PLACES], v: Instant, on: u8, by: u16) -> [u64; PLACES] {
     count(t, tally::DUE_PAST_END)
 }
 
-fn with_line(t: [u64; PLACES], l: Line, v: Instant) -> [u64; PLACES] {
+fn with_line(t: Tally, l: Line, v: Instant) -> Tally {
     match l {
         Line::Delayed { a, b, d: _, by } => {
             if may_tick(v, a) {
@@ -65,7 +59,7 @@ fn with_line(t: [u64; PLACES], l: Line, v: Instant) -> [u64; PLACES] {
 }
 
 // The delays of a sheet that an instant may begin.
-pub fn with_dues(tally: [u64; PLACES], s: Sheet, v: Instant) -> [u64; PLACES] {
+pub fn with_dues(tally: Tally, s: Sheet, v: Instant) -> Tally {
     let n = s.count;
     let mut t = tally;
     let mut i = 0;

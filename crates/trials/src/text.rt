@@ -1,14 +1,7 @@
-// What a row is made of.
+// An answer in words.
+use cases::report::number;
+use cases::report::say;
 use judge::answer::Answer;
-use libc::STDOUT_FILENO;
-
-pub fn say(words: &[u8]) {
-    io::write_all(STDOUT_FILENO, words);
-}
-
-pub fn number(n: u64) {
-    io::print_decimal(STDOUT_FILENO, n);
-}
 
 // An answer as *watch* prints it.
 pub fn answer(a: Answer) {

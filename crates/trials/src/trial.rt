@@ -7,13 +7,15 @@ use crate::reply::is_refused;
 use crate::reply::is_verdict;
 use crate::reply::live_of;
 use crate::tally;
+use cases::course::tick_at;
 use cases::damage::Record;
 use cases::damage::whole;
 use cases::disorder::Disordered;
 use cases::plan::all_counted;
 use cases::plan::has_counted;
-use cases::tally::PLACES;
+use cases::tally::Tally;
 use cases::tally::count;
+use cases::tally::count_answer;
 use cases::tally::count_if;
 use cases::tape::front;
 use cases::tape::sheet_tape;
@@ -27,6 +29,8 @@ use judge::monitor::CallResult;
 use judge::monitor::Monitor;
 use judge::monitor::observe;
 use judge::monitor::open;
+use logs::entry::answer_code;
+use logs::entry::clear_code;
 use records::instant::Instant;
 use records::instant::Tick;
 use records::number;
@@ -41,31 +45,23 @@ pub struct Trial {
     pub monitor: Monitor,
     pub others: Others,
     pub answer: Answer,
-    pub tally: [u64; PLACES],
+    pub tally: Tally,
 }
 
 // An answer by its kind.
-fn counted(t: [u64; PLACES], a: Answer) -> [u64; PLACES] {
-    match a {
-        Answer::Exhausted => count(t, tally::EXHAUSTED),
-        Answer::Broken => count(t, tally::BROKEN),
-        Answer::Holding { live: _, clear } => {
-            if clear {
-                return count(t, tally::CLEAR);
-            }
-            count(t, tally::OWED)
-        }
-    }
+fn counted(t: Tally, a: Answer) -> Tally {
+    let answer = answer_code(a) as u64;
+    count_answer(t, tally::ANSWERS, answer, clear_code(a) as u64)
 }
 
 // A ninth owed by its sort, where the sheet has lines of one sort alone.
-fn with_ninth(t: [u64; PLACES], s: Sheet) -> [u64; PLACES] {
+fn with_ninth(t: Tally, s: Sheet) -> Tally {
     let t = count_if(all_counted(s), t, tally::NINTH_COUNTDOWN);
     count_if(!has_counted(s), t, tally::NINTH_OBLIGATION)
 }
 
 // Cases that became exhausted. Of at most four clocks an instant has at most 16 fillings: where live was 1, it was nine owed.
-fn counted_end(t: [u64; PLACES], before: usize, a: Answer, s: Sheet) -> [u64; PLACES] {
+fn counted_end(t: Tally, before: usize, a: Answer, s: Sheet) -> Tally {
     match a {
         Answer::Exhausted => {
             let t = count_if(17 <= before, t, tally::BY_LIVE);
@@ -85,7 +81,7 @@ fn first_of(m: Monitor) -> Remainder {
 }
 
 // A remainder by its eight obligations, its eight countdowns.
-fn with_full(t: [u64; PLACES], r: Remainder) -> [u64; PLACES] {
+fn with_full(t: Tally, r: Remainder) -> Tally {
     let owes = r.owed == number::MAX_OWED;
     let counts = r.counting == number::MAX_OWED;
     let t = count_if(owes, t, tally::FULL);
@@ -94,7 +90,7 @@ fn with_full(t: [u64; PLACES], r: Remainder) -> [u64; PLACES] {
 }
 
 // What is counted of an answer.
-fn tallied(t: [u64; PLACES], before: usize, a: Answer, m: Monitor) -> [u64; PLACES] {
+fn tallied(t: Tally, before: usize, a: Answer, m: Monitor) -> Tally {
     let live = live_of(a);
     let sheet = m.sheet;
     let t = counted_end(counted(t, a), before, a, sheet);
@@ -107,13 +103,7 @@ fn tallied(t: [u64; PLACES], before: usize, a: Answer, m: Monitor) -> [u64; PLAC
 }
 
 fn is_unseen(v: Instant, clock: u8) -> bool {
-    let k = clock as usize;
-    if 7 < k {
-        return false;
-    }
-    let slot = v.ticks[k];
-    let tick = slot.tick;
-    match tick {
+    match tick_at(v, clock as usize) {
         Tick::Unseen => true,
         _ => false,
     }
@@ -147,31 +137,60 @@ pub fn is_on_unseen(t: Trial, v: Instant) -> bool {
     waits_unseen(r.counting, countdowns, v)
 }
 
-// A trial with a reply that is due an answer, the others having been called too.
-fn answered(t: Trial, run: Run, g: CallResult, others: Others) -> Trial {
-    let sheet = t.sheet;
-    let before = t.answer;
-    let told = t.tally;
-    let told = both_counted(told, others);
+// What is due of a call: an answer, as the judge of the whole run gives it, or the refusal of a number.
+enum Due {
+    Answer,
+    Refusal(u8),
+}
+
+// What a call gave: the answer, the last one where it was refused, and what was counted.
+struct Outcome {
+    answer: Answer,
+    tally: Tally,
+}
+
+// What is counted of a refusal by a number.
+fn refusal_counted(t: Tally, n: u8, due: Due) -> Tally {
+    match due {
+        Due::Answer => count(t, tally::DIFFERENT),
+        Due::Refusal(wanted) => {
+            let t = count_if(wanted == number::NOT_NEXT, t, tally::BY_NUMBER);
+            if n == wanted {
+                return count(t, tally::REFUSED);
+            }
+            count(t, tally::DIFFERENT)
+        }
+    }
+}
+
+// Whether an answer is due, and this one.
+fn is_due(a: Answer, due: Due, sheet: Sheet, run: Run) -> bool {
+    match due {
+        Due::Answer => is_verdict(a, verdict_of(sheet, run)),
+        Due::Refusal(_) => false,
+    }
+}
+
+// What a call gave to a run of a sheet, after an answer.
+fn outcome_of(
+    sheet: Sheet,
+    run: Run,
+    before: Answer,
+    t: Tally,
+    g: CallResult,
+    due: Due,
+) -> Outcome {
     let reply = g.reply;
     let monitor = g.monitor;
     match reply {
-        Reply::Refused(_) => Trial {
-            sheet,
-            run,
-            monitor,
-            others,
+        Reply::Refused(n) => Outcome {
             answer: before,
-            tally: count(told, tally::DIFFERENT),
+            tally: refusal_counted(t, n, due),
         },
         Reply::Answered(answer) => {
-            let told = tallied(told, live_of(before), answer, monitor);
-            let differs = !is_verdict(answer, verdict_of(sheet, run));
-            Trial {
-                sheet,
-                run,
-                monitor,
-                others,
+            let told = tallied(t, live_of(before), answer, monitor);
+            let differs = !is_due(answer, due, sheet, run);
+            Outcome {
                 answer,
                 tally: count_if(differs, told, tally::DIFFERENT),
             }
@@ -179,79 +198,79 @@ fn answered(t: Trial, run: Run, g: CallResult, others: Others) -> Trial {
     }
 }
 
-// Opens a sheet, in another order with the line at a place repeated; one that can't be written counts as a difference.
-pub fn opened(sheet: Sheet, i: usize, tally: [u64; PLACES]) -> Trial {
-    let tape = sheet_tape(sheet);
-    let bytes = tape.bytes;
-    let run = no_instants();
-    let g = open(front(&bytes, tape.len));
-    let monitor = g.monitor;
-    let others = both_opened(sheet, i, g);
-    let t = Trial {
-        sheet,
-        run,
-        monitor,
-        others,
-        answer: Answer::Broken,
-        tally: count(tally, tally::CASES),
-    };
-    answered(t, run, g, others)
-}
-
-// Hands an instant over.
-pub fn taken(t: Trial, v: Instant) -> Trial {
-    let sheet = t.sheet;
-    let monitor = t.monitor;
-    let others = t.others;
-    let run = t.run;
-    let r = whole(v, sheet.clocks);
-    let bytes = r.bytes;
-    let g = observe(monitor, front(&bytes, r.len));
-    let reply = g.reply;
-    let others = both_next(others, front(&bytes, r.len), reply);
-    answered(t, with_instant(run, v), g, others)
-}
-
-// What is counted of a call that is due a refusal, the others having been called too.
-fn refusal_counted(t: [u64; PLACES], others: Others, reply: Reply, due: u8) -> [u64; PLACES] {
-    let t = both_counted(t, others);
-    let t = count_if(due == number::NOT_NEXT, t, tally::BY_NUMBER);
-    if is_refused(reply, due) {
-        return count(t, tally::REFUSED);
-    }
-    count(t, tally::DIFFERENT)
-}
-
-// Hands bytes over that are due a refusal by a number; the case goes on with the monitor given back.
-fn refused_by(t: Trial, bytes: &[u8], due: u8) -> Trial {
-    let sheet = t.sheet;
-    let run = t.run;
-    let answer = t.answer;
-    let told = t.tally;
-    let before = t.monitor;
-    let others = t.others;
-    let g = observe(before, bytes);
+// A trial after a call, the others having been called too.
+fn after(
+    sheet: Sheet,
+    run: Run,
+    others: Others,
+    before: Answer,
+    t: Tally,
+    g: CallResult,
+    due: Due,
+) -> Trial {
     let monitor = g.monitor;
     let reply = g.reply;
-    let others = both_next(others, bytes, reply);
+    let h = outcome_of(sheet, run, before, both_counted(t, others, reply), g, due);
+    let answer = h.answer;
+    let tally = h.tally;
     Trial {
         sheet,
         run,
         monitor,
         others,
         answer,
-        tally: refusal_counted(told, others, reply, due),
+        tally,
     }
+}
+
+// Opens a sheet, in another order with the line at a place repeated; one that can't be written counts as a difference.
+pub fn opened(sheet: Sheet, i: usize, tally: Tally) -> Trial {
+    let tape = sheet_tape(sheet);
+    let bytes = tape.bytes;
+    let g = open(front(&bytes, tape.len));
+    let others = both_opened(sheet, i, g);
+    let told = count(tally, tally::CASES);
+    after(
+        sheet,
+        no_instants(),
+        others,
+        Answer::Broken,
+        told,
+        g,
+        Due::Answer,
+    )
+}
+
+// Hands bytes over; the case goes on with the monitor given back and a run.
+fn called(t: Trial, run: Run, bytes: &[u8], due: Due) -> Trial {
+    let sheet = t.sheet;
+    let monitor = t.monitor;
+    let others = t.others;
+    let before = t.answer;
+    let told = t.tally;
+    let g = observe(monitor, bytes);
+    let others = both_next(others, bytes);
+    after(sheet, run, others, before, told, g, due)
+}
+
+// Hands an instant over.
+pub fn taken(t: Trial, v: Instant) -> Trial {
+    let sheet = t.sheet;
+    let run = t.run;
+    let r = whole(v, sheet.clocks);
+    let bytes = r.bytes;
+    called(t, with_instant(run, v), front(&bytes, r.len), Due::Answer)
 }
 
 // Hands a record over that is due a refusal.
 pub fn refused(t: Trial, r: Record) -> Trial {
+    let run = t.run;
     let bytes = r.bytes;
-    refused_by(t, front(&bytes, r.len), r.refusal)
+    called(t, run, front(&bytes, r.len), Due::Refusal(r.refusal))
 }
 
 // Opens a sheet with its lines out of order, which is refused.
-pub fn not_opened(x: Disordered, told: [u64; PLACES]) -> [u64; PLACES] {
+pub fn not_opened(x: Disordered, told: Tally) -> Tally {
     let tape = x.tape;
     let bytes = tape.bytes;
     let due = x.refusal;

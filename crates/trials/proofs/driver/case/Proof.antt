@@ -5,12 +5,13 @@ use Rattle.trials.proofs.driver.case.Statement.{statement}
 use Rattle.trials.proofs.driver.case.Tie as tie
 
 abbrev Inv-loop : tie.InvT-loop
-Inv-loop number from all s₀ i₀ s i = Unit
+Inv-loop number from all last₀ t₀ i₀ last t i = Unit
 
 abbrev μ-loop : tie.MeasureT-loop
-μ-loop number from all s₀ i₀ s i = 16 - i
+μ-loop number from all last₀ t₀ i₀ last t i = 16 - i
 
 pub case-spec : {M : Type 1} → statement M
 case-spec =
-    tie.close (tie.spec Inv-loop μ-loop (λ c κs. search needs) (λ c κs. search needs) (λ c κs. search needs) (λ c κs. search needs) (λ c. search needs)
-    (λ c κs. search needs) (λ c. search needs) (λ c. search needs) (λ c. search needs) (λ c κs. search needs) (λ c. search needs))
+    tie.close (tie.spec Inv-loop μ-loop (λ c κs. search needs) (λ c κs. search needs) (λ c κs. search needs) (λ c κs. search needs)
+    (λ c. search needs) (λ c. search needs) (λ c κs. search needs) (λ c κs. search needs) (λ c. search needs) (λ c. search needs)
+    (λ c κs. search needs) (λ c. search needs))
