@@ -10,7 +10,7 @@ use Rattle.records.specs.Word.{rawOf}
 use Rattle.tesl.specs.Answer.{mostLive}
 use Rattle.judge.specs.declared.progress.Progress.{Progress}
 use Rattle.lines.specs.declared.plan.Plan.{Plan}
-use Rattle.lent.specs.declared.live.Found.{Found}
+use Rattle.lent.specs.declared.live.FoundState.{FoundState}
 use Rattle.remainders.specs.View.{liveCount}
 use Rattle.lines.specs.Plan.{PlanFits, Planned}
 use Rattle.remainders.specs.Rows.{words, headRows, width, sides, word, RowsStay}
@@ -23,13 +23,13 @@ use Rattle.lent.specs.State.{isState, stateSheet, stateProgress}
 use Rattle.lent.specs.Live.{stateWithin}
 
 -- no monitor, beside what is kept
-pub record NothingFound (k : Progress) (f : Found) : Type 0 where
+pub record NothingFound (k : Progress) (f : FoundState) : Type 0 where
   pub ok : f .ok ≡ false
   pub progress : f .progress ≡ k
   pub plan : PlanFits (f .plan)
 
 -- whether the words are a monitor within its limits; where they are, what is found out about its sheet once
-pub record FoundIn (w : List ℕ) (f : Found) (lines : List ℕ) : Type 0 where
+pub record FoundIn (w : List ℕ) (f : FoundState) (lines : List ℕ) : Type 0 where
   -- an array has as many words as its type says
   pub size : length w ≡ words
   pub ok : f .ok ≡ stateWithin w

@@ -51,7 +51,7 @@ pub struct Replied {
 }
 
 // ok: the words are a monitor within its limits; then what it keeps beside its sheet and its rows, and its plan.
-pub struct Found {
+pub struct FoundState {
     pub ok: bool,
     pub progress: Progress,
     pub plan: Plan,
@@ -83,11 +83,11 @@ fn no_plan() -> Plan
 }
 
 // No monitor within its limits.
-fn nothing_found(progress: Progress) -> Found
+fn nothing_found(progress: Progress) -> FoundState
     ensures { λ r. ⌜ NothingFound progress r ⌝ }
 {
     let plan = no_plan();
-    Found {
+    FoundState {
         ok: false,
         progress,
         plan,
@@ -95,7 +95,7 @@ fn nothing_found(progress: Progress) -> Found
 }
 
 // Whether the words are a monitor within its limits, and what is found out about its sheet: its lines go to `lines`.
-fn find_state(state: &[u32; SIZE], lines: &mut [u32; NUMBERS]) -> Found
+fn find_state(state: &[u32; SIZE], lines: &mut [u32; NUMBERS]) -> FoundState
     requires { ⌜ length (now lines) ≡ numbers ⌝ }
     ensures { λ r. ⌜ FoundIn (now (state .entry)) r (now (lines .exit)) ⌝ }
 {
@@ -116,7 +116,7 @@ fn find_state(state: &[u32; SIZE], lines: &mut [u32; NUMBERS]) -> Found
             let from = progress.from;
             let count = progress.count;
             let ok = rows_within(state, from, count, plan, instants);
-            Found { ok, progress, plan }
+            FoundState { ok, progress, plan }
         }
     }
 }

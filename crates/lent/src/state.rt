@@ -40,7 +40,7 @@ const LINES_ROW: usize = 1;
 
 const NUMBERS_ROW: usize = 2;
 
-const PLACES: usize = 16;
+const LINE_PLACES: usize = 16;
 
 // Kinds of lines, from sporadic to counted.
 const FIRST_KIND: u32 = 16;
@@ -142,7 +142,7 @@ fn kinds_below(state: &[u32; SIZE], n: usize) -> bool
     ensures { λ r. ⌜ r ≡ kindsBelow n (now (state .entry)) ⌝ }
 {
     let mut k = 0;
-    while k < PLACES {
+    while k < LINE_PLACES {
         if has_kind(k < n, word_at(state, LINES_ROW, k)) {
             k += 1;
         } else {
@@ -175,26 +175,26 @@ fn has_lines(state: &[u32; SIZE]) -> bool
 pub(crate) fn is_state(state: &[u32; SIZE]) -> bool
     ensures { λ r. ⌜ r ≡ isState (now (state .entry)) ⌝ }
 {
-    let from = count_in(word_at(state, TOP, SIDE_AT));
+    let side = count_in(word_at(state, TOP, SIDE_AT));
     let case = word_at(state, TOP, CASE_AT);
     if has_lines(state) {
-        if is_side(from) { is_case(case) } else { false }
+        if is_side(side) { is_case(case) } else { false }
     } else {
         false
     }
 }
 
 // The six words of line k.
-fn words_at(state: &[u32; SIZE], k: usize) -> LineWords
+fn line_words_at(state: &[u32; SIZE], k: usize) -> LineWords
     requires { ⌜ k < 16 ⌝ }
     ensures { λ r. ⌜ r ≡ stateWords (now (state .entry)) k ⌝ }
 {
     let kind = word_at(state, LINES_ROW, k);
-    let a = word_at(state, LINES_ROW, PLACES + k);
-    let b = word_at(state, LINES_ROW, 2 * PLACES + k);
-    let d = word_at(state, LINES_ROW, 3 * PLACES + k);
+    let a = word_at(state, LINES_ROW, LINE_PLACES + k);
+    let b = word_at(state, LINES_ROW, 2 * LINE_PLACES + k);
+    let d = word_at(state, LINES_ROW, 3 * LINE_PLACES + k);
     let x = word_at(state, NUMBERS_ROW, k);
-    let y = word_at(state, NUMBERS_ROW, PLACES + k);
+    let y = word_at(state, NUMBERS_ROW, LINE_PLACES + k);
     LineWords {
         kind,
         a,
@@ -217,7 +217,7 @@ fn slot_line(state: &[u32; SIZE], n: usize, k: usize) -> Line
     ensures { λ r. ⌜ r ≡ stateSlot n (now (state .entry)) k .line ⌝ }
 {
     if k < n {
-        line_of_words(words_at(state, k))
+        line_of_words(line_words_at(state, k))
     } else {
         blank_line()
     }
@@ -230,7 +230,7 @@ fn lines_in(state: &[u32; SIZE], n: usize) -> [Slot; 16]
     let blank = blank_line();
     let mut lines = [Slot { line: blank }; 16];
     let mut k = 0;
-    while k < PLACES {
+    while k < LINE_PLACES {
         let line = slot_line(state, n, k);
         lines[k] = Slot { line };
         k += 1;
@@ -335,7 +335,7 @@ pub(crate) fn put_progress(state: &mut [u32; SIZE], progress: Progress)
 }
 
 // Stores six words in the places of line k.
-fn put_words(state: &mut [u32; SIZE], k: usize, w: LineWords)
+fn put_line_words(state: &mut [u32; SIZE], k: usize, w: LineWords)
     requires { ⌜ (length (now state) ≡ words) × (k < 16) ⌝ }
     ensures { λ _. ⌜ PutWords k w (now (state .entry)) (now (state .exit)) ⌝ }
 {
@@ -346,14 +346,14 @@ fn put_words(state: &mut [u32; SIZE], k: usize, w: LineWords)
     let x = w.x;
     let y = w.y;
     put_word(state, LINES_ROW, k, kind);
-    put_word(state, LINES_ROW, PLACES + k, a);
-    put_word(state, LINES_ROW, 2 * PLACES + k, b);
-    put_word(state, LINES_ROW, 3 * PLACES + k, d);
+    put_word(state, LINES_ROW, LINE_PLACES + k, a);
+    put_word(state, LINES_ROW, 2 * LINE_PLACES + k, b);
+    put_word(state, LINES_ROW, 3 * LINE_PLACES + k, d);
     put_word(state, NUMBERS_ROW, k, x);
-    put_word(state, NUMBERS_ROW, PLACES + k, y);
+    put_word(state, NUMBERS_ROW, LINE_PLACES + k, y);
 }
 
-fn no_words() -> LineWords
+fn no_line_words() -> LineWords
     ensures { λ r. ⌜ r ≡ noWords ⌝ }
 {
     LineWords {
@@ -374,7 +374,7 @@ fn slot_words(s: Sheet, k: usize) -> LineWords
     if k < n {
         words_of_line(line_at(s, k))
     } else {
-        no_words()
+        no_line_words()
     }
 }
 
@@ -384,9 +384,9 @@ fn put_lines(state: &mut [u32; SIZE], sheet: Sheet)
     ensures { λ _. ⌜ PutLines sheet (now (state .entry)) (now (state .exit)) ⌝ }
 {
     let mut k = 0;
-    while k < PLACES {
+    while k < LINE_PLACES {
         let w = slot_words(sheet, k);
-        put_words(state, k, w);
+        put_line_words(state, k, w);
         k += 1;
     }
 }

@@ -17,7 +17,7 @@ use Rattle.records.proofs.Lists.{both}
 use Rattle.tesl.proofs.Tests.{≡→T}
 use Rattle.judge.specs.declared.progress.Progress.{Progress}
 use Rattle.lines.specs.declared.plan.Plan.{Plan}
-use Rattle.lent.specs.declared.live.Found.{Found}
+use Rattle.lent.specs.declared.live.FoundState.{FoundState}
 use Rattle.judge.specs.Limits.{monitorWithin, Limited}
 use Rattle.lines.specs.Plan.{numbers, Preparing, PlanOf, Planned}
 use Rattle.remainders.specs.Rows.{words, word}
@@ -35,7 +35,7 @@ unfolding isState
 state-side w e = ≡→T (both (isSide (word w 0 4)) (both (hasFormat w && hasKinds w) e .1) .0)
 
 module _ (w : List ℕ) (size : length w ≡ words) {k : Progress} (kept : k ≡ stateProgress w) where
-  none : {f : Found} {lines : List ℕ} → NothingFound k f → stateWithin w ≡ false → FoundIn w f lines
+  none : {f : FoundState} {lines : List ℕ} → NothingFound k f → stateWithin w ≡ false → FoundIn w f lines
   none n e = record {
     size = size;
     ok = n .ok ∙ sym e;
@@ -44,11 +44,11 @@ module _ (w : List ℕ) (size : length w ≡ words) {k : Progress} (kept : k ≡
     ready = λ t. let y : false ≡ true = sym (n .ok) ∙ t in let z : _≡_ {A = ℕ} 0 1 = cc in absurd (omega arith);
   }
 
-  pub found-none : {b : Bool} → b ≡ isState w → not b ≡ true → {f : Found} {lines : List ℕ} → NothingFound k f → FoundIn w f lines
+  pub found-none : {b : Bool} → b ≡ isState w → not b ≡ true → {f : FoundState} {lines : List ℕ} → NothingFound k f → FoundIn w f lines
   unfolding stateWithin
   found-none {b} e t n = none n (ap (λ (x : Bool). x && monitorWithin (stateMonitor w)) (sym e ∙ not-true b t))
 
-  outside : Limited (stateMonitor w) false → {f : Found} {lines : List ℕ} → NothingFound k f → FoundIn w f lines
+  outside : Limited (stateMonitor w) false → {f : FoundState} {lines : List ℕ} → NothingFound k f → FoundIn w f lines
   unfolding stateWithin
   outside l n = none n (ap (λ (x : Bool). isState w && x) (sym (l .answer)) ∙ and-false (isState w))
 
@@ -56,11 +56,11 @@ module _ (w : List ℕ) (size : length w ≡ words) {k : Progress} (kept : k ≡
     here : Checked Any (stateSheet w) a
     here = subst (λ (x : Sheet). Checked Any x a) sheet checked
 
-    pub found-refused : {n : ℕ} → a ≡ Refused n → {f : Found} {lines : List ℕ} → NothingFound k f → FoundIn w f lines
+    pub found-refused : {n : ℕ} → a ≡ Refused n → {f : FoundState} {lines : List ℕ} → NothingFound k f → FoundIn w f lines
     found-refused e n = outside (within-not (stateMonitor w) a here e) n
 
     module _ (done : a ≡ Done) where
-      pub found-many : 4000 < k .instants → {f : Found} {lines : List ℕ} → NothingFound k f → FoundIn w f lines
+      pub found-many : 4000 < k .instants → {f : FoundState} {lines : List ℕ} → NothingFound k f → FoundIn w f lines
       found-many h n = outside (within-many (stateMonitor w) a here done (rw kept at h)) n
 
       pub found-prepares : {lines : List ℕ} → length lines ≡ numbers → Preparing s lines

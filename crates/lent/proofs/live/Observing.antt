@@ -21,7 +21,7 @@ use Rattle.judge.specs.declared.answer.Reply.the-variants.{Answered, Refused}
 use Rattle.remainders.specs.declared.held.Held.{Held}
 use Rattle.judge.specs.declared.progress.Progress.{Progress}
 use Rattle.judge.specs.declared.progress.InstantResult.{InstantResult}
-use Rattle.lent.specs.declared.live.Found.{Found}
+use Rattle.lent.specs.declared.live.FoundState.{FoundState}
 use Rattle.lent.specs.declared.live.Replied.{Replied}
 use Rattle.judge.specs.declared.monitor.Monitor.{Monitor}
 use Rattle.judge.specs.declared.monitor.CallResult.{CallResult}
@@ -79,7 +79,7 @@ module _ (w : List ℕ) where
       by-state false e = rw e
       by-state true e = let o : monitorWithin (stateMonitor w) ≡ false = ap (λ (x : Bool). x && monitorWithin (stateMonitor w)) (sym e) ∙ f in rw (e, o)
 
-module _ {w : List ℕ} {f : Found} {lines : List ℕ} (found : FoundIn w f lines) where
+module _ {w : List ℕ} {f : FoundState} {lines : List ℕ} (found : FoundIn w f lines) where
   -- ---- none is found
   pub none-within : not (f .ok) ≡ true → stateWithin w ≡ false
   none-within e = sym (found .ok) ∙ not-true (f .ok) e

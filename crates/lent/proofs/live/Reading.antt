@@ -10,7 +10,7 @@ use Rattle.records.specs.Sheet.{SheetValue, sheetValue, sheetOf}
 use Rattle.judge.specs.declared.answer.Answer as code
 use Rattle.judge.specs.declared.answer.Reply.the-variants.{Answered, Refused}
 use Rattle.judge.specs.declared.progress.Progress.{Progress}
-use Rattle.lent.specs.declared.live.Found.{Found}
+use Rattle.lent.specs.declared.live.FoundState.{FoundState}
 use Rattle.judge.specs.declared.monitor.Monitor.{Monitor}
 use Rattle.judge.specs.declared.monitor.CallResult.{CallResult}
 use Rattle.judge.specs.Answer.{answerOf, replyOf, saidBy}
@@ -29,7 +29,7 @@ use Rattle.lent.proofs.live.Observing.{none-within, one-within, ready, 
 false-true : {X : Type 0} → false ≡ true → X
 false-true e = let z : _≡_ {A = ℕ} 0 1 = cc in absurd (omega arith)
 
-module _ {w : List ℕ} {f : Found} {lines : List ℕ} (found : FoundIn w f lines) where
+module _ {w : List ℕ} {f : FoundState} {lines : List ℕ} (found : FoundIn w f lines) where
   pub said-none : not (f .ok) ≡ true → SaidIn (record { reply = Refused 11; instants = 0 }) w
   said-none out = record {
     outside = λ e. refl;

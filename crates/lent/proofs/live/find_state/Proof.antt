@@ -31,7 +31,7 @@ returns-2 c =
     let e = t .before in
     let h = e .before .before in
     let i = test h .before in
-    found-many (start i .args .state .now) (long i) (i .before .progress-in .ensures) (h .before .sheet-in .ensures) (h .check-sheet .ensures) (e .enum-told2 .given .1) (t .if2 .taken) (c .nothing-found3 .ensures)
+    found-many (start i .args .state .now) (long i) (i .before .progress-in .ensures) (h .before .sheet-in .ensures) (h .check-sheet .ensures) (e .enum-told2 .given .1) (omega (arith, t .if2 .taken)) (c .nothing-found3 .ensures)
 
 returns-3 : tie.Need-returns-3
 returns-3 c =

@@ -12,7 +12,7 @@ unfolding leastDue mostDue dueNumber
 returns c =
     let w = c .before in
     let a = w .before .before .args in
-    row-owed (a .instants) (a .rows .now) (a .i) (w .row-set-within .ensures) (not-true _ (c .if1 .taken))
+    row-owed {p = a .plan} (a .instants) (a .rows .now) (a .i) (w .row-set-within .ensures) (not-true _ (c .if1 .taken))
 
 returns-2 : tie.Need-returns-2
 unfolding leastDue mostDue dueNumber
@@ -21,7 +21,7 @@ returns-2 c =
     let t = k .before in
     let w = t .before in
     let a = w .before .before .args in
-    row-counted (a .instants) (a .rows .now) (a .i) (w .row-set-within .ensures) (not-false _ (t .if1 .left)) (k .row-set-within2 .ensures) (not-true _ (c .if2 .taken))
+    row-counted {p = a .plan} (a .instants) (a .rows .now) (a .i) (w .row-set-within .ensures) (not-false _ (t .if1 .left)) (k .row-set-within2 .ensures) (not-true _ (c .if2 .taken))
 
 returns-3 : tie.Need-returns-3
 unfolding leastDue mostDue dueNumber
@@ -31,7 +31,7 @@ returns-3 c =
     let t = k .before in
     let w = t .before in
     let a = w .before .before .args in
-    row-leads (a .instants) (a .rows .now) (a .i) (w .row-set-within .ensures) (not-false _ (t .if1 .left)) (k .row-set-within2 .ensures) (not-false _ (e .if2 .left)) (c .row-leads-within .ensures)
+    row-leads {p = a .plan} (a .instants) (a .rows .now) (a .i) (w .row-set-within .ensures) (not-false _ (t .if1 .left)) (k .row-set-within2 .ensures) (not-false _ (e .if2 .left)) (c .row-leads-within .ensures)
 
 pub row-within-spec : {M : Type 1} → statement M
 row-within-spec = tie.close (tie.spec (λ c. search needs) (λ c κs. search needs) returns (λ c κs. search needs) returns-2 (λ c κs. search needs) returns-3)

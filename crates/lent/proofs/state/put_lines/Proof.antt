@@ -13,14 +13,14 @@ Inv-loop was sheet k₀ state k = (k ≤ 16) × Lining sheet was state k
 abbrev μ-loop : tie.MeasureT-loop
 μ-loop was sheet k₀ state k = 16 - k
 
-put-words-requires : tie.Need-put-words-requires Inv-loop μ-loop
-put-words-requires c κs = let at = c .before .before .before in (at .loop .inv .1 .size ∙ at .before .pre, omega arith)
+put-line-words-requires : tie.Need-put-line-words-requires Inv-loop μ-loop
+put-line-words-requires c κs = let at = c .before .before .before in (at .loop .inv .1 .size ∙ at .before .pre, omega arith)
 
 loop-again : tie.Need-loop-again Inv-loop μ-loop
 loop-again c =
     let w = c .before .before in
     let at = w .before .before in
-    (omega arith, lining-more _ _ (at .loop .inv .1) (omega arith) (w .slot-words .ensures) (c .put-words .ensures))
+    (omega arith, lining-more _ _ (at .loop .inv .1) (omega arith) (w .slot-words .ensures) (c .put-line-words .ensures))
 
 returns : tie.Need-returns Inv-loop μ-loop
 returns c =
@@ -30,4 +30,4 @@ returns c =
 pub put-lines-spec : {M : Type 1} → statement M
 put-lines-spec =
     tie.close (tie.spec Inv-loop μ-loop
-    (λ c. (omega arith, lining-start _ _)) (λ c κs. search needs) put-words-requires (λ c. search needs) (λ c. search needs) loop-again returns)
+    (λ c. (omega arith, lining-start _ _)) (λ c κs. search needs) put-line-words-requires (λ c. search needs) (λ c. search needs) loop-again returns)

@@ -7,7 +7,7 @@ use Rattle.lent.proofs.state.slot_line.Statement.{statement}
 use Rattle.lent.proofs.state.slot_line.Tie as tie
 
 returns : tie.Need-returns
-returns c = rw (lt-ltb _ _ (c .before .before .if1 .taken)) (c .line-of-words .ensures ∙ ap lineOfWords (c .before .words-at .ensures))
+returns c = rw (lt-ltb _ _ (c .before .before .if1 .taken)) (c .line-of-words .ensures ∙ ap lineOfWords (c .before .line-words-at .ensures))
 
 returns-2 : tie.Need-returns-2
 returns-2 c = rw (le-ltb _ _ (c .before .if1 .left)) (c .blank-line .ensures)
