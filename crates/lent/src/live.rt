@@ -15,9 +15,8 @@ use judge::monitor::CallResult;
 use judge::monitor::blank_monitor;
 use judge::monitor::refuse;
 use judge::progress::Progress;
-use judge::progress::first_progress;
 use judge::progress::observe_rows;
-use judge::start::begin_rows;
+use judge::start::begin;
 use judge::stored::read_back;
 use lines::plan::NUMBERS;
 use lines::plan::Plan;
@@ -144,16 +143,17 @@ pub fn open_state(bytes: &[u8], state: &mut [u32; SIZE]) -> Reply
         Decision::Refused(n) => Reply::Refused(n),
         Decision::Done => {
             let _all = lent_words(state);
-            let mut lines = [0u32; NUMBERS];
-            let plan = plan_of(sheet, &mut lines);
             clear_rows(state, 0, HEAD + 1);
-            begin_rows(state, sheet);
-            let count = Status::Live(1);
-            clear_beside(state, HEAD, count, plan);
+            let mut lines = [0u32; NUMBERS];
+            let begun = begin(sheet, &mut lines, state);
+            let plan = begun.plan;
+            let first = begun.progress;
+            let opening = begun.said;
+            clear_beside(state, HEAD, Status::Live(1), plan);
             put_format(state);
             put_sheet(state, sheet);
-            put_progress(state, first_progress());
-            Reply::Answered(say_rows(state, HEAD, count))
+            put_progress(state, first);
+            Reply::Answered(opening)
         }
     }
 }

@@ -86,7 +86,7 @@ module _ (bytes : List ℕ) (x : SheetRead) (e : x ≡ sheetRead (readSheet byte
     same-rows : SameRows d b headRows 1
     same-rows i j l m = behind (6 + i) j (omega arith) m
 
-    pub small-opened : FewOwedIn (Live 1) b headRows
+    small-opened : FewOwedIn (Live 1) b headRows
     small-opened = small-same d b headRows (Live 1) same-rows (cleared .small)
 
     abbrev first-in : List ℕ → Held
@@ -159,13 +159,13 @@ module _ (bytes : List ℕ) (x : SheetRead) (e : x ≡ sheetRead (readSheet byte
         (numbers-stored b (stateSheet b) places (λ j l m. put .stays .same 2 j m (λ y u w. omega arith) ∙ sheet .free j l m ∙ format .stays .same 2 j m (λ y u w. omega arith) ∙ blank 2 j (omega arith) m))
         (λ i j l m n. put .stays .same i j n (λ y u w. omega arith) ∙ sheet .rows i j l n ∙ format .stays .same i j n (λ y u w. omega arith) ∙ blank i j m n)
 
-    pub opened-state : IsBytes bytes → x .answer ≡ told.Done → {y : code.Answer} → ((v : SheetValue) → answerOf y ≡ saidBy (foundIn v (Live 1) b headRows)) → OpenedIn readSheet bytes (Answered y) a b
+    pub opened-state : IsBytes bytes → x .answer ≡ told.Done → {y : code.Answer} → ((v : SheetValue) → answerOf y ≡ saidBy (foundIn v (Live 1) g headRows)) → OpenedIn readSheet bytes (Answered y) a b
     opened-state is q {y} says = by-outcome (readSheet bytes) refl (ap (λ (w : SheetRead). w .answer) (sym e) ∙ q)
       where
         by-outcome : (o : Outcome SheetValue) → readSheet bytes ≡ o → sheetRead o .answer ≡ told.Done → OpenedIn readSheet bytes (Answered y) a b
         by-outcome (refused n) i j = refused-done j
         by-outcome (taken s) i j = record {
           refuses = λ n r. refused-taken (sym r ∙ i);
-          opens = λ v r. (ap taken (says (sheetValue (stateSheet b)) ∙ ap saidBy (sym (held-rows b headRows (sheetValue (stateSheet b)) (Live 1))) ∙ follows is r .said), follows-opened is r);
+          opens = λ v r. (ap taken (says (sheetValue (stateSheet b)) ∙ ap saidBy (sym (held-rows g headRows (sheetValue (stateSheet b)) (Live 1)) ∙ sym same) ∙ follows is r .said), follows-opened is r);
           stored = λ v r. stored;
         }

@@ -9,7 +9,7 @@ use Rattle.lines.specs.Plan.{numbers, Preparing}
 use Rattle.remainders.specs.Rows.{words}
 use Rattle.records.proofs.word.Bytes.{each-byte}
 use Rattle.judge.proofs.monitor.Opened.{prepares-read}
-use Rattle.lent.proofs.live.Opening.{blank-row, one-held, first-put, opened-refused, small-opened, opened-state}
+use Rattle.lent.proofs.live.Opening.{blank-row, one-held, first-put, opened-refused, opened-state}
 use Rattle.lent.proofs.live.open_state.Statement.{statement}
 use Rattle.lent.proofs.live.open_state.Tie as tie
 
@@ -29,41 +29,38 @@ returns c =
     let r = c .before .before .before .before in
     opened-refused (start r .args .bytes .now) (r .read-sheet .result) (r .read-sheet .ensures) (c .before .answer .given .1) (start r .args .state .now)
 
--- ---- the places: what was read, and its plan
-abbrev told : tie.After-lines → tie.After-enum-told
-told l = l .before .before .before .before
+-- ---- the places: what was read, and the words cleared
+abbrev told : tie.After-lent-words → tie.After-enum-told
+told l = l .before .before .before
 
-abbrev read : tie.After-lines → tie.After-read-sheet
+abbrev read : tie.After-lent-words → tie.After-read-sheet
 read l = told l .before .before .before
 
-plan-of-requires : tie.Need-plan-of-requires
-plan-of-requires c κs = prepared (read c)
+abbrev lent : tie.After-clear-rows → tie.After-lent-words
+lent z = z .before .before
 
-long : (p : tie.After-plan-of) → length (start (read (p .before)) .args .state .now) ≡ words
-long p = search needs
+long : (z : tie.After-clear-rows) → length (start (read (lent z)) .args .state .now) ≡ words
+long z = search needs
 
--- ---- the words cleared, and the remainder of no instant begun
-abbrev planned : tie.After-clear-rows → tie.After-plan-of
-planned z = z .before .before
+-- ---- the monitor of no instant begun, and every word that it doesn't use cleared
+begin-requires : tie.Need-begin-requires
+begin-requires c κs = let z = c .before .before in (prepared (read (lent z)), blank-row (long z) (z .clear-rows .ensures))
 
-begin-rows-requires : tie.Need-begin-rows-requires
-begin-rows-requires c κs = let z = c .before in blank-row (long (planned z)) (z .clear-rows .ensures)
-
-abbrev cleared : tie.After-begin-rows → tie.After-clear-rows
-cleared g = g .before .before
+abbrev cleared : tie.After-begin → tie.After-clear-rows
+cleared g = g .before .before .before
 
 clear-beside-requires : tie.Need-clear-beside-requires
-clear-beside-requires c κs = let g = c .before in one-held (planned (cleared g) .plan-of .ensures .fits) (g .begin-rows .ensures)
+clear-beside-requires c κs = let g = c .before .before .before .begin .ensures in one-held (g .plan .fits) (g .rows)
 
-abbrev begun : tie.After-clear-beside → tie.After-begin-rows
-begun d = d .before .before
+abbrev begun : tie.After-clear-beside → tie.After-begin
+begun d = d .before .before .before .before
 
 -- ---- as many words as at first
 long-cleared : (d : tie.After-clear-beside) → length (d .clear-beside .last .0) ≡ words
 long-cleared d =
     let g = begun d in
     let z = cleared g in
-    d .clear-beside .ensures .size ∙ g .begin-rows .ensures .stays .size ∙ z .clear-rows .ensures .stays .size ∙ long (planned z)
+    d .clear-beside .ensures .size ∙ g .begin .ensures .rows .stays .size ∙ z .clear-rows .ensures .stays .size ∙ long z
 
 put-format-requires : tie.Need-put-format-requires
 put-format-requires c κs = long-cleared (c .before)
@@ -75,43 +72,29 @@ long-formatted : (f : tie.After-put-format) → length (f .put-format .last .0) 
 long-formatted f = f .put-format .ensures .stays .size ∙ long-cleared (besides f)
 
 put-sheet-requires : tie.Need-put-sheet-requires
-put-sheet-requires c κs = let f = c .before in (long-formatted f, prepared (read (planned (cleared (begun (besides f))) .before)) .few-lines)
+put-sheet-requires c κs = let f = c .before in (long-formatted f, prepared (read (lent (cleared (begun (besides f))))) .few-lines)
 
 abbrev formatted : tie.After-put-sheet → tie.After-put-format
 formatted h = h .before .before
 
 put-progress-requires : tie.Need-put-progress-requires
-put-progress-requires c κs = let h = c .before .before in first-put (c .first-progress .ensures) (h .put-sheet .ensures .size ∙ long-formatted (formatted h))
+put-progress-requires c κs =
+    let h = c .before in
+    let f = formatted h in
+    first-put (begun (besides f) .begin .ensures .progress) (h .put-sheet .ensures .size ∙ long-formatted f)
 
 -- ---- all stored
-abbrev sheeted : tie.After-put-progress → tie.After-put-sheet
-sheeted b = b .before .before .before
-
-say-rows-requires : tie.Need-say-rows-requires
-say-rows-requires c κs =
-    let b = c .before in
-    let h = sheeted b in
-    let f = formatted h in
-    let d = besides f in
-    let g = begun d in
-    let z = cleared g in
-    let p = planned z in
-    let r = read (p .before) in
-    (omega arith, small-opened (start r .args .bytes .now) (r .read-sheet .result) (r .read-sheet .ensures) (p .plan-of .ensures) (z .clear-rows .ensures) (g .begin-rows .ensures) (d .clear-beside .ensures) (f .put-format .ensures) (h .put-sheet .ensures) (b .before .first-progress .ensures) (b .put-progress .ensures))
-
 returns-2 : tie.Need-returns-2
 returns-2 c =
-    let b = c .before .before in
-    let h = sheeted b in
+    let h = c .before .before in
     let f = formatted h in
     let d = besides f in
-    let g = begun d in
-    let z = cleared g in
-    let p = planned z in
-    let r = read (p .before) in
-    opened-state (start r .args .bytes .now) (r .read-sheet .result) (r .read-sheet .ensures) (p .plan-of .ensures) (z .clear-rows .ensures) (g .begin-rows .ensures) (d .clear-beside .ensures) (f .put-format .ensures) (h .put-sheet .ensures) (b .before .first-progress .ensures) (b .put-progress .ensures)
-    (read-bytes r) (told (p .before) .enum-told .given .1) (c .say-rows .ensures)
+    let g = begun d .begin .ensures in
+    let z = cleared (begun d) in
+    let r = read (lent z) in
+    opened-state (start r .args .bytes .now) (r .read-sheet .result) (r .read-sheet .ensures) (g .plan) (z .clear-rows .ensures) (g .rows) (d .clear-beside .ensures) (f .put-format .ensures) (h .put-sheet .ensures) (g .progress) (c .put-progress .ensures)
+    (read-bytes r) (told (lent z) .enum-told .given .1) (g .said)
 
 pub open-state-spec : {M : Type 1} → statement M
 open-state-spec =
-    tie.close (tie.spec (λ c κs. search needs) (λ c. search needs) (λ c. search needs) (λ c κs. search needs) plan-of-requires (λ c. search needs) (λ c κs. search needs) begin-rows-requires clear-beside-requires put-format-requires put-sheet-requires (λ c κs. search needs) put-progress-requires say-rows-requires returns returns-2)
+    tie.close (tie.spec (λ c κs. search needs) (λ c. search needs) (λ c. search needs) (λ c κs. search needs) (λ c. search needs) (λ c κs. search needs) begin-requires clear-beside-requires put-format-requires put-sheet-requires put-progress-requires returns returns-2)
