@@ -4,3 +4,4 @@ pub mod Keeping
 pub mod Observing
 pub mod Opening
 pub mod Reading
+pub mod Spare

@@ -1,4 +1,4 @@
--- Each word of a state is the one that storing the monitor it reads as writes: so beside its remainders a state keeps of the instants only their number, the last tags and the last answer, and no bit of it is spare.
+-- Each word of a state is the one that storing the monitor it reads as writes: so beside its remainders a state keeps of the instants only their number, the last tags and the last answer, and no bit of it is spare: `NoneSpare`.
 use mathlib.Core.List.{List, [], _∷_, _++_, map}
 use mathlib.Core.Path.{_≡_}
 use Prim.Native.Nat.{ℕ, _+_, _*_, _≤_, _<_}
@@ -14,10 +14,11 @@ use Rattle.remainders.specs.declared.held.Status.{Status}
 use Rattle.remainders.specs.declared.held.Status.the-variants.{Exhausted, Live}
 use Rattle.lines.specs.declared.line_words.LineWords.{LineWords}
 use Rattle.judge.specs.declared.progress.Progress.{Progress}
+use Rattle.judge.specs.Monitor.{heldBy}
 use Rattle.remainders.specs.Word.{dueNumber, flagWord}
 use Rattle.remainders.specs.View.{liveCount}
-use Rattle.remainders.specs.Rows.{width, height, word, rowOf}
-use Rattle.lent.specs.State.{format, stateSheet, stateProgress, slotWords}
+use Rattle.remainders.specs.Rows.{width, height, words, word, rowOf}
+use Rattle.lent.specs.State.{format, stateSheet, stateProgress, stateMonitor, slotWords}
 
 -- ---- the words of a state's rows; behind them a row has zeros
 
@@ -76,3 +77,8 @@ pub record AsStored (w : List ℕ) : Type 0 where
   pub held : (k : ℕ) → k < liveCount (stateProgress w .count) → RowIs w (stateProgress w .from + k) (remainderWords (usedPart (sheetValue (stateSheet w)) (rowOf w (stateProgress w .from + k))))
   -- no word in any other row; once exhausted or broken, in none
   pub others : (h : ℕ) → 2 < h → h < height → (stateProgress w .from ≤ h → h < stateProgress w .from + liveCount (stateProgress w .count) → ⊥) → RowIs w h []
+
+-- so no bit is spare: such words that read as the same sheet, the same monitor beside it and the same remainders are the same words
+abbrev pub NoneSpare : Type 0
+NoneSpare = (a b : List ℕ) → length a ≡ words → length b ≡ words → AsStored a → AsStored b
+    → stateSheet a ≡ stateSheet b → stateProgress a ≡ stateProgress b → heldBy (stateMonitor a) ≡ heldBy (stateMonitor b) → a ≡ b

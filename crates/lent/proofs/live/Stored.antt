@@ -31,7 +31,7 @@ use Rattle.remainders.specs.declared.held.Status.the-variants.{Exhausted, Live}
 use Rattle.remainders.specs.Word.{flagWord}
 use Rattle.remainders.specs.Unused.{BlankFrom}
 use Rattle.remainders.specs.View.{obligationOf, countdownOf, liveCount}
-use Rattle.remainders.specs.Rows.{parts, partWords, leadsPart, stoppedPart, headRows, height, width, word, storedIn, rowCount, rowObligation, rowSet, rowLead, rowLeads, rowStop, rowStopped, rowOf, FewInRow, NothingInParts, FlagsStored}
+use Rattle.remainders.specs.Rows.{parts, partWords, stoppedPart, headRows, height, width, word, storedIn, rowCount, rowObligation, rowSet, rowLead, rowLeads, rowStop, rowStopped, rowOf, FewInRow, NothingInParts, FlagsStored}
 use Rattle.remainders.proofs.obligation.Laws.{number-due}
 use Rattle.remainders.proofs.rows.Flags.{flag-stored}
 use Rattle.step.specs.Apply.{FewOwedIn}
@@ -78,9 +78,6 @@ obligation-back x = ap (placeWord (x % 256) (x / 256 % 256)) (number-due (x / 65
 module _ (rows : List ℕ) (i part : ℕ) (inside : part < parts) (few : rowCount rows i part ≤ 8) (nothing : NothingInParts rows i) {A : Type 0} (read : code.Obligation → A) (back : A → ℕ) (same : (x : ℕ) → back (read (storedIn x)) ≡ x) where
   abbrev ws : List ℕ
   ws = map back (map read (rowSet rows i part))
-
-  place : ℕ → ℕ
-  place j = word rows i (partWords * part + 1 + j)
 
   as-listed : ws ≡ listed (λ j. word rows i (partWords * part + 1 + j)) (rowCount rows i part)
   as-listed =
