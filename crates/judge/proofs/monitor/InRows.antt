@@ -25,7 +25,7 @@ use Rattle.judge.specs.Stored.{StoredHeld, FindingRows, FromRows}
 use Rattle.judge.specs.Monitor.{refusal}
 use Rattle.judge.specs.Progress.{rowsMonitor, progressOf, given, readBack, ReadBack, Ready, Takes}
 use Rattle.judge.specs.Promises.{observes, Called, Observed}
-use Rattle.judge.proofs.progress.Laws.{same-back, within-back, follows-back, nothing-back, within-stored, follows-stored, ready-stored}
+use Rattle.judge.proofs.progress.Laws.{same-back, within-back, follows-back, nothing-back, within-stored, follows-stored, ready-stored, found-working}
 
 -- an answer is no refusal
 pub answered-refused : {X : Type 0} {a : code.Answer} {n : ℕ} → reply.Answered a ≡ reply.Refused n → X
@@ -76,7 +76,7 @@ module _ (m : Monitor) (l : Limited m true) {p : Plan} {lines : List ℕ} (plan 
     }
 
     pub found-next : FindingRows out (next .count) (next .from) p
-    found-next = record { side = o .room .side .one; small = o .room .small; plan = o .room .plan }
+    found-next = found-working (o .room)
 
     -- read back
     module _ {a : code.Answer} (q : t .reply ≡ reply.Answered a) {n : Monitor} (back : ReadBack (m .sheet) next p n out) where

@@ -44,7 +44,7 @@ use Rattle.judge.specs.Limits.{sheetWithin, monitorWithin, Limited}
 use Rattle.lines.specs.Plan.{numbers, Preparing, PlanOf}
 use Rattle.remainders.specs.Rows.{words, rowCount, rowObligation, rowOwed, rowCountdowns, rowLeads, rowStopped, rowOf, FewInRow}
 use Rattle.step.specs.Apply.{Side, foundIn, FewOwedIn}
-use Rattle.judge.specs.Stored.{StoringHeld, StoredHeld, FromRows}
+use Rattle.judge.specs.Stored.{StoringHeld, StoredHeld, FindingRows, FromRows}
 use Rattle.judge.specs.Monitor.{KeepsNothing, sheetBy, heldBy, Accepts}
 use Rattle.step.specs.Fill.{Working}
 use Rattle.judge.specs.Progress.{rowRemainder, rowsHeld, rowsMonitor, progressOf, given, readBack, Ready}
@@ -216,6 +216,10 @@ module _ (m : Monitor) {blank rows : List ℕ} (storing : StoredHeld (m .held .c
     plan = plan .fits;
     lists = lists;
   }
+
+-- where there is room to work, those held are found
+pub found-working : {rows : List ℕ} {from : ℕ} {count : Status} {p : Plan} {list : List Bool} → Working rows from count p list → FindingRows rows count from p
+found-working w = record { side = w .side .one; small = w .small; plan = w .plan }
 
 -- ---- what is within the limits of a monitor
 pub inside : {m : Monitor} {b : Bool} → Limited m b → not b ≡ false → Limited m true

@@ -1,4 +1,5 @@
 -- `panel_count` meets its contract: the limits are tested, and within them no more are live than the array has. Assumes nothing.
+use native.Mathlib.Omega.{arith}
 use borrow.Author.Needs.{needs}
 use Rattle.panel.proofs.Laws.{shows-refused, live-few, shows-none, shows-live}
 use Rattle.panel.proofs.panel_count.Statement.{statement}
@@ -10,7 +11,7 @@ returns c = shows-refused (c .before .before .args .monitor) (c .before .within-
 owing-lent-requires : tie.Need-owing-lent-requires
 owing-lent-requires c κs =
     let at = c .before .before .before .before .before in
-    live-few (at .before .before .args .monitor) (at .before .within-limits .ensures) (at .if1 .left) _ (c .before .before .count .given .1)
+    omega (arith, live-few (at .before .before .args .monitor) (at .before .within-limits .ensures) (at .if1 .left) _ (c .before .before .count .given .1))
 
 returns-2 : tie.Need-returns-2
 returns-2 c =

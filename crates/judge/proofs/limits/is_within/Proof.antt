@@ -15,7 +15,7 @@ enum-told-2 : tie.Need-enum-told-2
 enum-told-2 c = search needs
 
 returns : tie.Need-returns
-returns c = within-many (c .before .before .before .before .before .args .m) (c .before .before .before .check-sheet .result) (c .before .before .before .check-sheet .ensures) (search needs) (c .if1 .taken)
+returns c = within-many (c .before .before .before .before .before .args .m) (c .before .before .before .check-sheet .result) (c .before .before .before .check-sheet .ensures) (search needs) (omega arith)
 
 held-within-requires : tie.Need-held-within-requires
 held-within-requires c κs = few-lines (c .before .before .before .before .before .before .args .m) (c .before .before .before .before .check-sheet .result) (c .before .before .before .before .check-sheet .ensures) (search needs)

@@ -7,6 +7,7 @@ use Rattle.records.specs.Types.{IsBytes}
 use Rattle.lines.specs.Plan.{numbers}
 use Rattle.remainders.specs.Rows.{words}
 use Rattle.records.proofs.word.Bytes.{each-byte}
+use Rattle.judge.proofs.progress.Laws.{found-working}
 use Rattle.judge.proofs.monitor.Opened.{prepares-read, opened-rows, fresh-rows, room-begun}
 use Rattle.logs.proofs.log.Opening.{log-refused, log-observed}
 use Rattle.logs.proofs.log.observe_log.Statement.{statement}
@@ -41,7 +42,7 @@ abbrev records : tie.After-rows3 → tie.After-observe-records
 records c = c .before .before .before .before .before
 
 read-back-requires : tie.Need-read-back-requires
-read-back-requires c κs = let r = records c .observe-records .ensures .room in record { side = r .side .one; small = r .small; plan = r .plan }
+read-back-requires c κs = found-working (records c .observe-records .ensures .room)
 
 returns-2 : tie.Need-returns-2
 returns-2 c =
