@@ -1,4 +1,4 @@
--- The calls on a state of words pack what `judge` replies: it has room in a result; the panel counts what the words hold; and so every list of calls returns what the plain machine replies, packed. Assumes nothing.
+-- The calls on a state of words pack what `lent` replies: it has room in a result; the panel counts what the words hold; and so every list of calls returns what the plain machine replies, packed. Assumes nothing.
 use mathlib.Core.Bool.{Bool, true, false, _&&_}
 use mathlib.Core.List.{List, [], _∷_}
 use mathlib.Core.Option.{Option}

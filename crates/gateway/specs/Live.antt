@@ -1,4 +1,4 @@
--- What the calls on a state of words return, and demand 3 of exactly these calls. Words are read as `judge` reads them (its specs/State.antt and Live.antt).
+-- What the calls on a state of words return, and demand 3 of exactly these calls. Words are read as `lent` reads them (its specs/State.antt and Live.antt).
 use mathlib.Core.Bool.{cond}
 use mathlib.Core.List.{List, [], _∷_}
 use mathlib.Core.Option.{some}

@@ -1,4 +1,4 @@
--- Demands 2 and 3: `open`, `open_unordered` and `observe` meet their promises, so their calls follow the plain machine, call by call, and so does every list of calls. Assumes nothing.
+-- Demands 2 and 3: `open`, `open_base` and `observe` meet their promises, so their calls follow the plain machine, call by call, and so does every list of calls. Assumes nothing.
 use mathlib.Core.List.{List}
 use mathlib.Core.Option.{Option}
 use mathlib.Core.Path.{_≡_, refl, sym, ap, _∙_, subst}

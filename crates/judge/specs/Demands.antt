@@ -1,5 +1,5 @@
 -- Demand 3, one statement about the list of calls, as the machine has it and in document 01's words; demand 2 for the program; the same sheet in another order; and numbered instants. Each hypothesis is what a call ensures;
--- `read` is how the sheet's bytes are read, by `open` as `readSheet`, by `open_unordered` as `readBase`.
+-- `read` is how the sheet's bytes are read, by `open` as `readSheet`, by `open_base` as `readBase`.
 use mathlib.Core.List.{List, _∷_, _++_, List·Permᴰ}
 use mathlib.Core.Option.{Option}
 use mathlib.Core.Path.{_≡_}

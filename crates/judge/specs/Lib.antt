@@ -7,7 +7,7 @@ pub mod Answer
 pub mod Limits
 -- what a monitor keeps: `sheetBy`, `heldBy`, `lastBy`, and nothing in unused places, `KeepsNothing`; `refusal`; the records after them are inner promises
 pub mod Monitor
--- the promises of `open`, `open_unordered` and `observe`
+-- the promises of `open`, `open_base` and `observe`
 pub mod Promises
 -- demands 2 and 3; the same sheet in another order
 pub mod Demands

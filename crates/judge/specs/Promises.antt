@@ -1,4 +1,4 @@
--- What `open`, `open_unordered` and `observe` promise, whole: these are their `ensures`, and what demand 3 is proved from.
+-- What `open`, `open_base` and `observe` promise, whole: these are their `ensures`, and what demand 3 is proved from.
 use mathlib.Core.Bool.{true, cond}
 use mathlib.Core.List.{List, [], _∷_, _++_, map}
 use mathlib.Core.Logic.{_≢_}

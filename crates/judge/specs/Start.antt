@@ -12,7 +12,7 @@ use Rattle.tesl.specs.Fits.{Obligation, owedAtStart}
 use Rattle.tesl.specs.Remainder.{remainder}
 use Rattle.work.specs.Owed.{owing, addedAll}
 use Rattle.remainders.specs.declared.held.Status.the-variants.{Live}
-use Rattle.remainders.specs.Rows.{width, words, headRows, word, rowCount, rowOwed, rowsOf, provided, PartStays}
+use Rattle.remainders.specs.Rows.{width, allWords, headRows, word, rowCount, rowOwed, rowsOf, provided, PartStays}
 use Rattle.lines.specs.Plan.{PlanOf}
 use Rattle.step.specs.Apply.{foundIn, FewOwedIn}
 use Rattle.judge.specs.declared.start.Begun.{Begun}
@@ -21,7 +21,7 @@ use Rattle.judge.specs.Progress.{firstProgress}
 
 -- row i, all words of it 0
 pub record BlankRow (rows : List ℕ) (i : ℕ) : Type 0 where
-  pub size : length rows ≡ words
+  pub size : length rows ≡ allWords
   pub blank : (p : ℕ) → p < width → word rows i p ≡ 0
 
 -- row i with what lines owe from the start, unless a ninth has no room

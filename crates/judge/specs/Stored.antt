@@ -2,7 +2,7 @@
 use mathlib.Core.Bool.{Bool, false, cond}
 use mathlib.Core.List.{List, map}
 use mathlib.Core.Path.{_≡_}
-use Prim.Native.Nat.{ℕ, _+_, _%_, _≤_, _<_}
+use Prim.Native.Nat.{ℕ, _+_, _≤_, _<_}
 use lib.Dec.{T}
 use lib.ListN.{length, getD, take}
 use Rattle.records.specs.Sheet.{SheetValue}
@@ -13,17 +13,18 @@ use Rattle.remainders.specs.declared.obligation.Obligation as code
 use Rattle.lines.specs.declared.plan.Plan.{Plan}
 use Rattle.remainders.specs.declared.remainder.Remainder as arrays
 use Rattle.remainders.specs.declared.held.Status.{Status}
+use Rattle.remainders.specs.Word.{numberIn}
 use Rattle.remainders.specs.View.{remainderOf, blankRemainder, viewOf, liveCount, heldIn, fewOwed, sizedIn}
 use Rattle.remainders.specs.Unused.{BlankFrom, NothingUnused}
 use Rattle.lines.specs.Plan.{PlanFits, Planned}
-use Rattle.remainders.specs.Rows.{leadsPart, stoppedPart, partsEnd, secondSide, headRows, height, words, rowCount, rowSet, rowLead, rowLeads, rowStop, rowStopped, rowOf, rowsOf, FewInRow, FewOwed, Stays, PartStays, HeadStays}
+use Rattle.remainders.specs.Rows.{leadsPart, stoppedPart, partsEnd, secondSide, headRows, height, allWords, rowCount, rowSet, rowLead, rowLeads, rowStop, rowStopped, rowOf, rowsOf, FewInRow, FewOwed, Stays, PartStays, HeadStays}
 use Rattle.step.specs.Apply.{foundIn, FewOwedIn}
 
 -- ---- stored
 
 -- row i of the array
 pub record Place (rows : List ℕ) (i : ℕ) : Type 0 where
-  pub size : length rows ≡ words
+  pub size : length rows ≡ allWords
   pub row : i < height
 
 -- a set, the leads and the stopped clocks of a remainder, in row i
@@ -50,7 +51,7 @@ pub record PutRemainder (i : ℕ) (r : arrays.Remainder) (a b : List ℕ) : Type
 
 -- 16 bits of the leads of precedes lines, and nothing else
 pub record LeadsAt (leaders : ℕ) (precede : List Bool) (i : ℕ) (xs : List ℕ) (rows : List ℕ) : Type 0 where
-  pub first : (k : ℕ) → k < leaders → getD xs k 0 ≡ cond (getD precede k false) (rowLead rows i k % 65536) 0
+  pub first : (k : ℕ) → k < leaders → getD xs k 0 ≡ cond (getD precede k false) (numberIn (rowLead rows i k)) 0
   pub rest : BlankFrom leaders 0 xs
 
 -- the stopped ones of the sheet's clocks, and no other
@@ -75,25 +76,25 @@ pub record RemainderAt (p : Plan) (i : ℕ) (r : arrays.Remainder) (rows : List 
 
 -- n remainders that a side has room for
 pub record Storing (rows : List ℕ) (n : ℕ) (rs : List arrays.Remainder) : Type 0 where
-  pub size : length rows ≡ words
+  pub size : length rows ≡ allWords
   pub held : n ≤ 32
   pub few : T (all fewOwed (take n rs))
 
 -- each in its row; the head stays
 pub record ToRows (n : ℕ) (rs : List arrays.Remainder) (a b : List ℕ) : Type 0 where
-  pub size : length b ≡ words
+  pub size : length b ≡ allWords
   pub head : HeadStays a b
   pub small : FewOwed b headRows n
   pub rows : (v : SheetValue) → rowsOf v b headRows n ≡ map (viewOf v) (take n rs)
 
 -- a count that the arrays have room for
 pub record StoringHeld (rows : List ℕ) (count : Status) (rs : List arrays.Remainder) : Type 0 where
-  pub size : length rows ≡ words
+  pub size : length rows ≡ allWords
   pub fits : T (sizedIn count rs)
 
 -- those held, in rows; the head stays
 pub record StoredHeld (count : Status) (rs : List arrays.Remainder) (a b : List ℕ) : Type 0 where
-  pub size : length b ≡ words
+  pub size : length b ≡ allWords
   pub head : HeadStays a b
   pub small : FewOwedIn count b headRows
   pub held : (v : SheetValue) → foundIn v count b headRows ≡ heldIn v count rs

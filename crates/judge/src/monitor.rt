@@ -90,7 +90,7 @@ pub fn open(bytes: &[u8]) -> CallResult
 }
 
 // Opens a sheet by document 01's rules: its lines in any order, repeats allowed, of kinds 16 to 23.
-pub fn open_unordered(bytes: &[u8]) -> CallResult
+pub fn open_base(bytes: &[u8]) -> CallResult
     ensures { λ r. ⌜ Opened readBase (now (bytes .entry)) r ⌝ }
 {
     open_by(bytes, Order::Any, number::LAST_BASE_LINE)

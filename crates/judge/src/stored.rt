@@ -27,9 +27,10 @@ use remainders::word::lead_word;
 use remainders::word::number_in;
 ghost use mathlib.Core.Path.{_≡_};
 ghost use mathlib.Core.Bool.{cond};
-ghost use Prim.Native.Nat.{_%_, _<_, _≤_};
+ghost use Prim.Native.Nat.{_<_, _≤_};
 ghost use lib.Dec.{T};
 ghost use lib.ListN.{take};
+ghost use Rattle.remainders.specs.Word.{numberIn};
 ghost use Rattle.remainders.specs.View.{fewOwed};
 ghost use Rattle.judge.specs.Stored.{Place, PutObligations, PutLeads, PutStopped, PutRemainder, LeadsAt, StoppedAt, Reading, RemainderAt, Storing, ToRows, StoringHeld, StoredHeld, Copying, CopiedRows, FindingRows, FromRows};
 ghost use Rattle.remainders.specs.Rows.{height, parts};
@@ -96,7 +97,7 @@ fn put_remainder(rows: &mut [u32; SIZE], i: usize, r: Remainder)
 
 // The lead of a word, where it is in use.
 fn lead_used(used: bool, w: u32) -> u16
-    ensures { λ r. ⌜ r ≡ cond used (w % 65536) 0 ⌝ }
+    ensures { λ r. ⌜ r ≡ cond used (numberIn w) 0 ⌝ }
 {
     if used { number_in(w) } else { 0 }
 }

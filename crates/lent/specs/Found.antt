@@ -13,7 +13,7 @@ use Rattle.lines.specs.declared.plan.Plan.{Plan}
 use Rattle.lent.specs.declared.live.FoundState.{FoundState}
 use Rattle.remainders.specs.View.{liveCount}
 use Rattle.lines.specs.Plan.{PlanFits, Planned}
-use Rattle.remainders.specs.Rows.{words, headRows, width, sides, word, RowsStay}
+use Rattle.remainders.specs.Rows.{allWords, headRows, width, sides, word, RowsStay}
 use Rattle.step.specs.Apply.{Side, foundIn, FewOwedIn}
 use Rattle.step.specs.Fill.{workedRows}
 use Rattle.lent.specs.UnusedWords.{NothingElse, NothingBeside}
@@ -31,7 +31,7 @@ pub record NothingFound (k : Progress) (f : FoundState) : Type 0 where
 -- whether the words are a monitor within its limits; where they are, what is found out about its sheet once
 pub record FoundIn (w : List ℕ) (f : FoundState) (lines : List ℕ) : Type 0 where
   -- an array has as many words as its type says
-  pub size : length w ≡ words
+  pub size : length w ≡ allWords
   pub ok : f .ok ≡ stateWithin w
   pub progress : f .progress ≡ stateProgress w
   pub plan : PlanFits (f .plan)
@@ -41,7 +41,7 @@ pub record FoundIn (w : List ℕ) (f : FoundState) (lines : List ℕ) : Type 0 w
 
 -- those held before it, kept by k, on one side; those found on the other, to be kept by next
 pub record KeepingNext (rows : List ℕ) (k next : Progress) (p : Plan) : Type 0 where
-  pub size : length rows ≡ words
+  pub size : length rows ≡ allWords
   pub side : Side (k .from)
   pub to : next .from ≡ sides - k .from
   pub held : liveCount (k .count) ≤ mostLive

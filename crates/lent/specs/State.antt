@@ -4,7 +4,7 @@
 use mathlib.Core.Bool.{Bool, true, cond, not, _&&_, _||_}
 use mathlib.Core.List.{List}
 use mathlib.Core.Path.{_≡_}
-use Prim.Native.Nat.{ℕ, _+_, _%_, _≤_, _<_}
+use Prim.Native.Nat.{ℕ, _+_, _≤_, _<_}
 use lib.Dec.{T, eqb, leb, ltb}
 use lib.IntN.{ℤ, pos}
 use lib.ListN.{length, getD}
@@ -22,8 +22,9 @@ use Rattle.judge.specs.declared.progress.Progress.{Progress}
 use Rattle.lines.specs.declared.line_words.LineWords.{LineWords}
 use Rattle.judge.specs.declared.monitor.Monitor.{Monitor}
 use Rattle.lines.specs.LineWords.{lineOfWords, wordsOf}
+use Rattle.remainders.specs.Word.{byteValues, numberIn}
 use Rattle.remainders.specs.View.{liveCount}
-use Rattle.remainders.specs.Rows.{headRows, secondSide, width, words, word, Stays}
+use Rattle.remainders.specs.Rows.{headRows, secondSide, width, allWords, word, Stays}
 use Rattle.judge.specs.Progress.{rowsMonitor}
 
 -- what word 0 of row 0 is in a state: the format and its version, 0x4C460003
@@ -49,7 +50,7 @@ stateLine w k = lineOfWords (stateWords w k)
 
 -- clocks that no byte holds read as 255, which is outside the limits too
 abbrev pub clocksBy : ℕ → ℕ
-clocksBy w = cond (ltb w 256) w 255
+clocksBy w = cond (ltb w byteValues) w 255
 
 -- place k of sixteen: a line below the count n, the blank line past it
 abbrev pub stateSlot : ℕ → List ℕ → ℕ → Slot
@@ -69,7 +70,7 @@ stateCount w = countBy (word w 0 5) (word w 0 6)
 
 -- the last tag of clock k: 16 bits of its word
 abbrev pub stateTag : List ℕ → ℕ → ℤ
-stateTag w k = tagOf (word w 0 (8 + k) % 65536)
+stateTag w k = tagOf (numberIn (word w 0 (8 + k)))
 
 -- beside the sheet and the rows
 abbrev pub stateProgress : List ℕ → Progress
@@ -134,7 +135,7 @@ pub record PutLastTags (ts : List ℤ) (a b : List ℕ) : Type 0 where
 
 -- what a monitor in rows within its limits has beside its sheet
 pub record PuttingProgress (rows : List ℕ) (k : Progress) : Type 0 where
-  pub size : length rows ≡ words
+  pub size : length rows ≡ allWords
   pub instants : k .instants ≤ 4000
   pub few : FewIn (k .count)
   pub side : T (isSide (k .from))

@@ -15,9 +15,9 @@ use Rattle.remainders.specs.declared.held.Status.the-variants.{Exhausted, Live}
 use Rattle.lines.specs.declared.line_words.LineWords.{LineWords}
 use Rattle.judge.specs.declared.progress.Progress.{Progress}
 use Rattle.judge.specs.Monitor.{heldBy}
-use Rattle.remainders.specs.Word.{dueNumber, flagWord}
+use Rattle.remainders.specs.Word.{byteValues, halfValues, dueNumber, flagWord}
 use Rattle.remainders.specs.View.{liveCount}
-use Rattle.remainders.specs.Rows.{width, height, words, word, rowOf}
+use Rattle.remainders.specs.Rows.{width, height, allWords, word, rowOf}
 use Rattle.lent.specs.State.{format, stateSheet, stateProgress, stateMonitor, slotWords}
 
 -- ---- the words of a state's rows; behind them a row has zeros
@@ -42,7 +42,7 @@ numbersRow s = columnOf (λ w. w .x) s ++ columnOf (λ w. w .y) s
 
 -- a place of a set: a clock, an on-clock, a byte each, and a number
 abbrev pub placeWord : ℕ → ℕ → ℕ → ℕ
-placeWord clock on number = clock + 256 * on + 65536 * number
+placeWord clock on number = clock + byteValues * on + halfValues * number
 
 abbrev pub obligationWord : Obligation → ℕ
 obligationWord o = placeWord (o .clock) (o .on) (dueNumber (o .due))
@@ -80,5 +80,5 @@ pub record AsStored (w : List ℕ) : Type 0 where
 
 -- so no bit is spare: such words that read as the same sheet, the same monitor beside it and the same remainders are the same words
 abbrev pub NoneSpare : Type 0
-NoneSpare = (a b : List ℕ) → length a ≡ words → length b ≡ words → AsStored a → AsStored b
+NoneSpare = (a b : List ℕ) → length a ≡ allWords → length b ≡ allWords → AsStored a → AsStored b
     → stateSheet a ≡ stateSheet b → stateProgress a ≡ stateProgress b → heldBy (stateMonitor a) ≡ heldBy (stateMonitor b) → a ≡ b

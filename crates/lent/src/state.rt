@@ -19,12 +19,13 @@ use remainders::word::count_in;
 use remainders::word::number_in;
 ghost use mathlib.Core.Path.{_≡_};
 ghost use mathlib.Core.Bool.{_&&_, _||_, not};
-ghost use Prim.Native.Nat.{_%_, _≤_, _<_};
+ghost use Prim.Native.Nat.{_≤_, _<_};
 ghost use lib.ListN.{length};
 ghost use Rattle.records.specs.Lists.{listed};
 ghost use Rattle.records.specs.Line.{blankLine};
 ghost use Rattle.records.specs.Word.{tagOf, rawOf};
-ghost use Rattle.remainders.specs.Rows.{words};
+ghost use Rattle.remainders.specs.Word.{byteValues, numberIn};
+ghost use Rattle.remainders.specs.Rows.{allWords};
 ghost use Rattle.lent.specs.State.{stateWords, clocksBy, stateSlot, stateSheet, countBy, stateTag, stateProgress, hasFormat, isKind, kindsBelow, hasKinds, isSide, isCase, isState, PutFormat, FewIn, PutCount, PutLastTags, PuttingProgress, PutProgress, PutWords, noWords, SlotWords, PutLines, PutSheet};
 
 // The format and its version.
@@ -66,6 +67,9 @@ const LIVE_AT: usize = 6;
 
 const TAGS_AT: usize = 8;
 
+// How many values a byte has.
+const BYTE_VALUES: u32 = 256;
+
 // ---- words
 
 fn small_word(n: usize) -> u32
@@ -76,13 +80,13 @@ fn small_word(n: usize) -> u32
 }
 
 fn tag_in(w: u32) -> i16
-    ensures { λ r. ⌜ r ≡ tagOf (w % 65536) ⌝ }
+    ensures { λ r. ⌜ r ≡ tagOf (numberIn w) ⌝ }
 {
     tag_of(number_in(w))
 }
 
 fn tag_word(t: i16) -> u32
-    ensures { λ r. ⌜ (tagOf (r % 65536) ≡ t) × (r ≡ rawOf t) ⌝ }
+    ensures { λ r. ⌜ (tagOf (numberIn r) ≡ t) × (r ≡ rawOf t) ⌝ }
 {
     raw_of(t) as u32
 }
@@ -126,7 +130,7 @@ fn is_kind(w: u32) -> bool
 fn clocks_by(w: u32) -> u8
     ensures { λ r. ⌜ r ≡ clocksBy w ⌝ }
 {
-    if w < 256 { w as u8 } else { 255 }
+    if w < BYTE_VALUES { w as u8 } else { 255 }
 }
 
 // ---- read
@@ -286,14 +290,14 @@ pub(crate) fn progress_in(state: &[u32; SIZE]) -> Progress
 // ---- stored
 
 pub(crate) fn put_format(state: &mut [u32; SIZE])
-    requires { ⌜ length (now state) ≡ words ⌝ }
+    requires { ⌜ length (now state) ≡ allWords ⌝ }
     ensures { λ _. ⌜ PutFormat (now (state .entry)) (now (state .exit)) ⌝ }
 {
     put_word(state, TOP, FORMAT_AT, FORMAT);
 }
 
 fn put_count(state: &mut [u32; SIZE], count: Status)
-    requires { ⌜ (length (now state) ≡ words) × FewIn count ⌝ }
+    requires { ⌜ (length (now state) ≡ allWords) × FewIn count ⌝ }
     ensures { λ _. ⌜ PutCount count (now (state .entry)) (now (state .exit)) ⌝ }
 {
     match count {
@@ -309,7 +313,7 @@ fn put_count(state: &mut [u32; SIZE], count: Status)
 }
 
 fn put_tags(state: &mut [u32; SIZE], tags: [i16; 8])
-    requires { ⌜ length (now state) ≡ words ⌝ }
+    requires { ⌜ length (now state) ≡ allWords ⌝ }
     ensures { λ _. ⌜ PutLastTags tags (now (state .entry)) (now (state .exit)) ⌝ }
 {
     let mut k = 0;
@@ -336,7 +340,7 @@ pub(crate) fn put_progress(state: &mut [u32; SIZE], progress: Progress)
 
 // Stores six words in the places of line k.
 fn put_line_words(state: &mut [u32; SIZE], k: usize, w: LineWords)
-    requires { ⌜ (length (now state) ≡ words) × (k < 16) ⌝ }
+    requires { ⌜ (length (now state) ≡ allWords) × (k < 16) ⌝ }
     ensures { λ _. ⌜ PutWords k w (now (state .entry)) (now (state .exit)) ⌝ }
 {
     let kind = w.kind;
@@ -380,7 +384,7 @@ fn slot_words(s: Sheet, k: usize) -> LineWords
 
 // Stores the lines of a sheet, and zeros past them.
 fn put_lines(state: &mut [u32; SIZE], sheet: Sheet)
-    requires { ⌜ length (now state) ≡ words ⌝ }
+    requires { ⌜ length (now state) ≡ allWords ⌝ }
     ensures { λ _. ⌜ PutLines sheet (now (state .entry)) (now (state .exit)) ⌝ }
 {
     let mut k = 0;
@@ -392,14 +396,14 @@ fn put_lines(state: &mut [u32; SIZE], sheet: Sheet)
 }
 
 fn clocks_word(clocks: u8) -> u32
-    ensures { λ r. ⌜ (r ≡ clocks) × (r < 256) ⌝ }
+    ensures { λ r. ⌜ (r ≡ clocks) × (r < byteValues) ⌝ }
 {
     clocks as u32
 }
 
 // Stores a sheet.
 pub(crate) fn put_sheet(state: &mut [u32; SIZE], sheet: Sheet)
-    requires { ⌜ (length (now state) ≡ words) × (sheet .count ≤ 16) ⌝ }
+    requires { ⌜ (length (now state) ≡ allWords) × (sheet .count ≤ 16) ⌝ }
     ensures { λ _. ⌜ PutSheet sheet (now (state .entry)) (now (state .exit)) ⌝ }
 {
     put_lines(state, sheet);

@@ -2,10 +2,10 @@
 use lines::plan::Plan;
 use remainders::held::Status;
 use remainders::held::live_in;
+use remainders::rows::FIRST_PLACE;
 use remainders::rows::LEADS;
 use remainders::rows::PART_WORDS;
 use remainders::rows::PARTS;
-use remainders::rows::PLACES;
 use remainders::rows::SIDE;
 use remainders::rows::SIDES;
 use remainders::rows::SIZE;
@@ -41,7 +41,7 @@ fn clear_owed(rows: &mut [u32; SIZE], i: usize, part: usize, n: usize)
     ensures { λ _. ⌜ ClearedOwed i part n (now (rows .entry)) (now (rows .exit)) ⌝ }
 {
     let at = PART_WORDS * part;
-    clear_part(rows, i, at + PLACES + n, at + PART_WORDS);
+    clear_part(rows, i, at + FIRST_PLACE + n, at + PART_WORDS);
 }
 
 // Clears the places of row i past the counts of its sets.

@@ -1,7 +1,7 @@
 // One question about a line at a filled instant to each function.
 use records::line::Line;
+use remainders::clock::clock_tag;
 use remainders::clock::stop;
-use remainders::clock::tag_at;
 use remainders::clock::ticks_at;
 use remainders::clock::wide;
 use remainders::obligation::Obligation;
@@ -31,7 +31,7 @@ pub(crate) fn tags_hold(l: Line, tags: [i16; 8]) -> bool
     ensures { λ r. ⌜ r ≡ tagsHold tags l ⌝ }
 {
     match l {
-        Line::Relation { a, b, p, q } => is_product(tag_at(tags, a), p, tag_at(tags, b), q),
+        Line::Relation { a, b, p, q } => is_product(clock_tag(tags, a), p, clock_tag(tags, b), q),
         Line::Sporadic { .. } => true,
         Line::Implies { .. } => true,
         Line::Excludes { .. } => true,
@@ -91,7 +91,7 @@ pub(crate) fn begins(l: Line, ticks: [bool; 8], tags: [i16; 8], most: u16) -> Ne
     match l {
         Line::Delayed { a, b, d, by } => {
             if ticks_at(ticks, a) {
-                let number = due_number(tag_at(tags, b), by);
+                let number = due_number(clock_tag(tags, b), by);
                 if number <= (most as u32) {
                     let number = number as u16;
                     NewObligation::Owed(Obligation {

@@ -1,12 +1,13 @@
 -- An answer as numbers, and the answers to a log's instants as bytes, three each.
 use mathlib.Core.List.{List, [], _∷_}
-use Prim.Native.Nat.{ℕ, _+_, _%_, _≤_}
+use Prim.Native.Nat.{ℕ, _+_, _≤_}
 use mathlib.Core.Path.{_≡_}
 use lib.ListN.{length}
 use Rattle.records.specs.Outcome.{Outcome, taken, refused}
 use Rattle.records.specs.Sheet.{SheetValue}
 use Rattle.records.specs.Store.{puts}
 use Rattle.tesl.specs.Run.{Instant}
+use Rattle.remainders.specs.Word.{byteIn}
 use Rattle.tesl.specs.Answer.{Answer, exhausted, broken, holding, clear, owed}
 use Rattle.tesl.specs.Machine.{machine, acceptsEach, callsOf}
 
@@ -49,7 +50,7 @@ instantsFrom s run log = beforeRefusal (acceptsEach s run (callsOf log))
 
 -- as it is stored: live in a byte
 abbrev pub storedEntry : Answer → List ℕ
-storedEntry a = answerCode a ∷ liveCode a % 256 ∷ clearCode a ∷ []
+storedEntry a = answerCode a ∷ byteIn (liveCode a) ∷ clearCode a ∷ []
 
 -- an answer's bytes behind the first `at`, if there is room for them; `end` is where the next would stand
 pub record PutEntry (a : Answer) (at end : ℕ) (before after : List ℕ) : Type 0 where

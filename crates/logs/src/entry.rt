@@ -1,13 +1,17 @@
 // An answer as numbers, and its three bytes.
 use judge::answer::Answer;
 ghost use mathlib.Core.Path.{_≡_};
-ghost use Prim.Native.Nat.{_%_, _≤_};
+ghost use Prim.Native.Nat.{_≤_};
 ghost use lib.ListN.{length};
+ghost use Rattle.remainders.specs.Word.{byteIn};
 ghost use Rattle.judge.specs.Answer.{answerOf};
 ghost use Rattle.logs.specs.Entry.{answerCode, liveCode, clearCode, PutEntry};
 
 // The bytes of an answer.
 pub const ENTRY_LENGTH: usize = 3;
+
+// How many values a byte has.
+const BYTE_VALUES: usize = 256;
 
 // 1 exhausted, 2 broken, 3 holding.
 pub fn answer_code(a: Answer) -> u8
@@ -22,12 +26,12 @@ pub fn answer_code(a: Answer) -> u8
 
 // Live, in a byte; 0 unless holding.
 pub fn live_code(a: Answer) -> u8
-    ensures { λ r. ⌜ r ≡ liveCode (answerOf a) % 256 ⌝ }
+    ensures { λ r. ⌜ r ≡ byteIn (liveCode (answerOf a)) ⌝ }
 {
     match a {
         Answer::Exhausted => 0,
         Answer::Broken => 0,
-        Answer::Holding { live, clear: _ } => (live % 256) as u8,
+        Answer::Holding { live, clear: _ } => (live % BYTE_VALUES) as u8,
     }
 }
 

@@ -26,8 +26,8 @@ width = 64
 abbrev pub height : ℕ
 height = 72
 
-abbrev pub words : ℕ
-words = 4608
+abbrev pub allWords : ℕ
+allWords = 4608
 
 -- the sets of a row, and the words of the part that one takes; part 0 is the set of obligations, part 1 that of countdowns
 abbrev pub parts : ℕ
@@ -170,14 +170,14 @@ pub record ClearedWords (k end : ℕ) (a b : List ℕ) : Type 0 where
 
 -- a part of row i, of at most eight
 pub record Row (rows : List ℕ) (i part : ℕ) : Type 0 where
-  pub size : length rows ≡ words
+  pub size : length rows ≡ allWords
   pub row : i < height
   pub inside : part < parts
   pub few : rowCount rows i part ≤ 8
 
 -- row i, and another
 pub record Between (rows : List ℕ) (i to : ℕ) : Type 0 where
-  pub size : length rows ≡ words
+  pub size : length rows ≡ allWords
   pub row : i < height
   pub into : to < height
   pub apart : i ≡ to → ⊥

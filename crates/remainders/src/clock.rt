@@ -18,7 +18,7 @@ pub fn ticks_at(ticks: [bool; 8], k: u8) -> bool
     if i < 8 { ticks[i] } else { false }
 }
 
-pub fn tag_at(tags: [i16; 8], k: u8) -> i16
+pub fn clock_tag(tags: [i16; 8], k: u8) -> i16
     ensures { λ r. ⌜ r ≡ tagIn tags k ⌝ }
 {
     let i = place(k);

@@ -1,5 +1,5 @@
 // Obligations: a clock that owes a tick where the on-clock's tag is the due. The due is held as a number, counted from the least tag.
-use crate::clock::tag_at;
+use crate::clock::clock_tag;
 use crate::clock::ticks_at;
 use crate::clock::wide;
 ghost use mathlib.Core.Path.{_≡_};
@@ -32,7 +32,7 @@ pub const LEAST_WANTED: u16 = 1;
 pub const MOST_WANTED: u16 = 255;
 
 // The tags below 0: the least is −32,768.
-pub const NEGATIVE_TAGS: i64 = 32768;
+const NEGATIVE_TAGS: i64 = 32768;
 
 // The number of the due of a delay that begins at a tag: the sum is formed in 64 bits, and fits 32.
 pub fn due_number(tag: i16, delay: u16) -> u32
@@ -69,7 +69,7 @@ pub fn is_met(o: Obligation, ticks: [bool; 8], tags: [i16; 8]) -> bool
     ensures { λ r. ⌜ r ≡ meets (filledOf ticks tags) (obligationOf o) ⌝ }
 {
     if ticks_at(ticks, o.clock) {
-        tag_number(tag_at(tags, o.on)) == o.number
+        tag_number(clock_tag(tags, o.on)) == o.number
     } else {
         false
     }
@@ -79,5 +79,5 @@ pub fn is_met(o: Obligation, ticks: [bool; 8], tags: [i16; 8]) -> bool
 pub fn is_late(o: Obligation, tags: [i16; 8]) -> bool
     ensures { λ r. ⌜ r ≡ not (leZ (tagIn tags (o .on)) (obligationOf o .due)) ⌝ }
 {
-    o.number < tag_number(tag_at(tags, o.on))
+    o.number < tag_number(clock_tag(tags, o.on))
 }

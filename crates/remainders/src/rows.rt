@@ -11,7 +11,7 @@ ghost use Prim.Native.Nat.{_+_, _*_, _<_, _≤_};
 ghost use lib.ListN.{length, set};
 ghost use Rattle.tesl.specs.Lists.{any};
 ghost use Rattle.remainders.specs.View.{sameStored};
-ghost use Rattle.remainders.specs.Rows.{height, width, words, parts, word, rowCount, rowObligation, rowSet, ClearedWords, PutObligation, ObligationsAt};
+ghost use Rattle.remainders.specs.Rows.{height, width, allWords, parts, word, rowCount, rowObligation, rowSet, ClearedWords, PutObligation, ObligationsAt};
 
 // All words, and those of a row.
 pub const SIZE: usize = 4608;
@@ -37,7 +37,7 @@ pub const COUNTDOWNS: usize = 1;
 pub const PART_WORDS: usize = 9;
 
 // In a part, behind its count: where its places begin, a word each.
-pub const PLACES: usize = 1;
+pub const FIRST_PLACE: usize = 1;
 
 // Behind the parts: where the leads begin, and the stopped clocks.
 pub const LEADS: usize = 18;
@@ -61,7 +61,7 @@ pub fn put_word(rows: &mut [u32; SIZE], i: usize, p: usize, w: u32)
 
 // Clears the words from place k to the one before `end`.
 pub fn clear_words(rows: &mut [u32; SIZE], k: usize, end: usize)
-    requires { ⌜ end ≤ words ⌝ }
+    requires { ⌜ end ≤ allWords ⌝ }
     ensures { λ _. ⌜ ClearedWords k end (now (rows .entry)) (now (rows .exit)) ⌝ }
 {
     let mut q = k;
@@ -84,7 +84,7 @@ pub fn obligation_at(rows: &[u32; SIZE], i: usize, part: usize, j: usize) -> Obl
     requires { ⌜ (i < height) × ((part < parts) × (j < 8)) ⌝ }
     ensures { λ r. ⌜ r ≡ rowObligation (now (rows .entry)) i part j ⌝ }
 {
-    let w = word_at(rows, i, PART_WORDS * part + PLACES + j);
+    let w = word_at(rows, i, PART_WORDS * part + FIRST_PLACE + j);
     let clock = byte_in(w);
     let on = next_byte_in(w);
     let number = upper_in(w);
@@ -93,7 +93,7 @@ pub fn obligation_at(rows: &[u32; SIZE], i: usize, part: usize, j: usize) -> Obl
 
 // Stores an obligation in place j of a part of row i.
 pub fn put_obligation(rows: &mut [u32; SIZE], i: usize, part: usize, j: usize, o: Obligation)
-    requires { ⌜ (length (now rows) ≡ words) × ((i < height) × ((part < parts) × (j < 8))) ⌝ }
+    requires { ⌜ (length (now rows) ≡ allWords) × ((i < height) × ((part < parts) × (j < 8))) ⌝ }
     ensures { λ _. ⌜ PutObligation i part j o (now (rows .entry)) (now (rows .exit)) ⌝ }
 {
     let clock = o.clock;
@@ -102,7 +102,7 @@ pub fn put_obligation(rows: &mut [u32; SIZE], i: usize, part: usize, j: usize, o
     put_word(
         rows,
         i,
-        PART_WORDS * part + PLACES + j,
+        PART_WORDS * part + FIRST_PLACE + j,
         packed_word(clock, on, number),
     );
 }

@@ -18,7 +18,7 @@ use Rattle.lines.specs.declared.plan.Plan.{Plan}
 use Rattle.remainders.specs.declared.held.Status.{Status}
 use Rattle.remainders.specs.declared.held.Status.the-variants.{Exhausted, Live}
 use Rattle.lines.specs.Plan.{PlanFits, Planned}
-use Rattle.remainders.specs.Rows.{sides, secondSide, headRows, words, rowsOf, FewOwed, FlagsKept, RowsStay}
+use Rattle.remainders.specs.Rows.{sides, secondSide, headRows, allWords, rowsOf, FewOwed, FlagsKept, RowsStay}
 use Rattle.step.specs.Filling.{GatheredFor}
 
 -- rows of a side: 32, and one to build the next in
@@ -49,7 +49,7 @@ builtRows (Live n) = n + 1
 
 -- what a filling works on: n rows held, and those found so far; a side has rows for as many as there is room for
 pub record Applying (rows : List ℕ) (from to n found room : ℕ) (p : Plan) (f : Filling) : Type 0 where
-  pub size : length rows ≡ words
+  pub size : length rows ≡ allWords
   pub sides : Sides from to
   pub held : n ≤ mostLive
   pub sized : room ≤ mostLive
@@ -76,7 +76,7 @@ Side from = Sides from (sides - from)
 
 -- n rows held, and m fillings
 pub record ApplyingAll (rows : List ℕ) (from n room : ℕ) (p : Plan) (m : ℕ) : Type 0 where
-  pub size : length rows ≡ words
+  pub size : length rows ≡ allWords
   pub side : Side from
   pub held : n ≤ mostLive
   pub sized : room ≤ mostLive

@@ -20,7 +20,7 @@ use Rattle.lines.specs.declared.plan.Plan.{Plan}
 use Rattle.remainders.specs.declared.held.Status.{Status}
 use Rattle.remainders.specs.View.{liveCount}
 use Rattle.lines.specs.Plan.{PlanFits, Planned}
-use Rattle.remainders.specs.Rows.{sides, words, FlagsKept, RowsStay}
+use Rattle.remainders.specs.Rows.{sides, allWords, FlagsKept, RowsStay}
 use Rattle.step.specs.Apply.{Side, FewOwedIn, foundIn, builtRows}
 
 -- room for the fillings left, after the first n
@@ -41,7 +41,7 @@ pub record Listed (rules : List Bool → Bool) (left : List (List Bool)) (n r : 
 
 -- those held on a side, and a list to work in
 pub record Working (rows : List ℕ) (from : ℕ) (count : Status) (p : Plan) (list : List Bool) : Type 0 where
-  pub size : length rows ≡ words
+  pub size : length rows ≡ allWords
   pub side : Side from
   pub small : FewOwedIn count rows from
   pub plan : PlanFits p

@@ -72,7 +72,7 @@ pub record SortPrinted (sheet before : List ℕ) (size : ℕ) (after : List ℕ)
 abbrev pub OneSortText : Type 0
 OneSortText = (sheet t u : List ℕ) → SortText sheet t → SortText sheet u → t ≡ u
 
--- of a sheet that document 01's rules take: what is printed, opened by `open`, answers as the sheet itself, opened by `open_unordered` (document 02, Q-4)
+-- of a sheet that document 01's rules take: what is printed, opened by `open`, answers as the sheet itself, opened by `open_base` (document 02, Q-4)
 abbrev pub SortTextAnswers : Type 0
 SortTextAnswers = (sheet text : List ℕ) (v : SheetValue) → IsBytes sheet → readBase sheet ≡ taken v → SortText sheet text → AnsweredAlike readBase sheet readSheet text
 

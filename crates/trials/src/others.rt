@@ -11,7 +11,7 @@ use cases::tape::front;
 use judge::answer::Reply;
 use judge::monitor::CallResult;
 use judge::monitor::observe;
-use judge::monitor::open_unordered;
+use judge::monitor::open_base;
 use records::number;
 use records::sheet::Sheet;
 
@@ -37,7 +37,7 @@ fn opened(is_there: bool, x: Disordered, sorted: CallResult) -> Other {
         return Other {
             called: refusal == 0,
             refusal,
-            given: open_unordered(front(&bytes, tape.len)),
+            given: open_base(front(&bytes, tape.len)),
         };
     }
     Other {

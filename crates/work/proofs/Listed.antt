@@ -22,7 +22,7 @@ use Rattle.work.specs.Questions.{tagsHold}
 use Rattle.work.specs.Parts.{isRelation, isRule}
 use Rattle.work.specs.Rules.{allowed}
 use Rattle.work.specs.Fillings.{fillingsFrom, fillingsIn, takenBy, byFilling}
-use Rattle.work.specs.Relevant.{clocksOf, fillingsLeft, namedBy, flagged, isRelevant, relevantOnly}
+use Rattle.work.specs.Relevant.{awaitedClocks, fillingsLeft, namedBy, flagged, isRelevant, relevantOnly}
 use Rattle.work.specs.Work.{filling, fillFrom, worked}
 use Rattle.work.proofs.Parts.{relations-enough, rules-enough}
 use Rattle.work.proofs.Relevant.{relevant-enough}
@@ -114,7 +114,7 @@ module _ (room : ℕ) (v : SheetValue) (last : Option (List ℤ)) (ticks : List 
     pub worked-no : q ≡ false → worked room v last seen tags (some rs) ≡ some []
     worked-no g = by-tags g
 
-    pub worked-yes : q ≡ true → {owed : List ℕ} → flatMap clocksOf rs ≡ owed → {flags : List Bool} → flags ≡ flagged owed (flagged (flatMap namedBy (v .lines)) (replicate 8 false)) → {rules : List Line} → rules ≡ filter isRule (v .lines)
+    pub worked-yes : q ≡ true → {owed : List ℕ} → flatMap awaitedClocks rs ≡ owed → {flags : List Bool} → flags ≡ flagged owed (flagged (flatMap namedBy (v .lines)) (replicate 8 false)) → {rules : List Line} → rules ≡ filter isRule (v .lines)
         → (list : List Bool) {fillings : List (List Bool)} → fillings ≡ fillingsIn list 0 ++ filter (allowed rules) (fillingsLeft flags ticks clocks 0 (replicate 8 false))
         → {found : Option (List Remainder)} → found ≡ takenBy (byFilling room v tags rs) fillings (some []) → found ≡ worked room v last seen tags (some rs)
     unfolding listedFrom

@@ -32,7 +32,7 @@ use Rattle.work.specs.View.{filledOf, heldList, isNone}
 use Rattle.work.specs.Questions.{tickIn, ticksHold, carriedHolds, leadAfter, stoppedAfter}
 use Rattle.work.specs.Lines.{allStopped}
 use Rattle.work.specs.Owed.{Owings, owing, begunBy, addedAll, addedCountdowns, left, stillOwed, stillCounting, together}
-use Rattle.work.specs.Relevant.{namedBy, countClocks, clocksOf, flagged, isRelevant, tickIfRelevant, relevantOnly}
+use Rattle.work.specs.Relevant.{namedBy, countClocks, awaitedClocks, flagged, isRelevant, tickIfRelevant, relevantOnly}
 use Rattle.work.specs.Work.{carried, withBegun, withStillOwed, advanced, sameCounted, inserted, took, allAdvanced, filling, fillFrom}
 
 abbrev Found : Type 0
@@ -268,7 +268,7 @@ module _ (k : ℕ) (t u : List Bool) (e : (a : ℕ) → eqb k a ≡ false → ti
 
     -- where a clock stopped that ticks in t ticks in u: a remainder is barred by u, or becomes what it becomes by t
     module _ (more : (stopped : List Bool) → T (overlap t stopped) → T (overlap u stopped)) where
-      advanced-same : (begun : Owings) (r : Remainder) → any (eqb k) (clocksOf r) ≡ false
+      advanced-same : (begun : Owings) (r : Remainder) → any (eqb k) (awaitedClocks r) ≡ false
           → (advanced v (filledOf u tags) begun r ≡ fails) ⊎ (advanced v (filledOf u tags) begun r ≡ advanced v (filledOf t tags) begun r)
       unfolding advanced stillOwed
       advanced-same begun r n = by-tests (overlap u (r .stopped)) (overlap t (r .stopped)) (more (r .stopped))
@@ -287,18 +287,18 @@ module _ (k : ℕ) (t u : List Bool) (e : (a : ℕ) → eqb k a ≡ false → ti
           by-tests false true h = absurd (h tt)
           by-tests false false m = inr (rw (holds-same (v .lines) (r .leads) h, left-same tags (r .owed) (parts .0), counting-same tags (r .countdowns) (parts .1), with-still-owed begun r (leftAfter t r)))
 
-      all-advanced-less : (room : ℕ) (begun : Owings) (rs : List Remainder) (p q : Found) → any (eqb k) (flatMap clocksOf rs) ≡ false
+      all-advanced-less : (room : ℕ) (begun : Owings) (rs : List Remainder) (p q : Found) → any (eqb k) (flatMap awaitedClocks rs) ≡ false
           → Holds room (allAdvanced room v (filledOf t tags) begun rs p) q → allAdvanced room v (filledOf u tags) begun rs q ≡ q
       unfolding allAdvanced
       all-advanced-less room begun [] p q n w = refl
       all-advanced-less room begun (r ∷ rs) p q n w =
-          let m = neither (any (eqb k) (clocksOf r)) (sym (any-append (eqb k) (clocksOf r) (flatMap clocksOf rs)) ∙ n) in
+          let m = neither (any (eqb k) (awaitedClocks r)) (sym (any-append (eqb k) (awaitedClocks r) (flatMap awaitedClocks rs)) ∙ n) in
           let a = advanced v (filledOf t tags) begun r in
           let there : took room q a ≡ q = w a (all-advanced-takes room v (filledOf t tags) begun rs (took room p a) a (took-again room p a)) in
           ap (allAdvanced room v (filledOf u tags) begun rs) (⊎-elim (λ z. ap (took room q) z) (λ z. ap (took room q) z ∙ there) (advanced-same begun r (m .0)))
           ∙ all-advanced-less room begun rs (took room p a) q (m .1) w
 
-      filling-less : (room : ℕ) (rs : List Remainder) (p q : Found) → any (eqb k) (flatMap clocksOf rs) ≡ false → Holds room (filling room v tags rs p t) q → filling room v tags rs q u ≡ q
+      filling-less : (room : ℕ) (rs : List Remainder) (p q : Found) → any (eqb k) (flatMap awaitedClocks rs) ≡ false → Holds room (filling room v tags rs p t) q → filling room v tags rs q u ≡ q
       unfolding filling
       filling-less room rs p q n w = rw (rules-same (v .lines) h, begun-same mostTag tags (v .lines) h, counted-same tags (v .lines) h) (by-test (all (ticksHold t) (v .lines)) w)
         where
@@ -351,7 +351,7 @@ unflagged ks flags k h = (none-of ks flags h, by-flag (getD flags k true) (flags
         other false f = refl
 
 -- ---- an instant, where the remainders held owe a tick of these clocks
-module _ (room : ℕ) (v : SheetValue) (tags : List ℤ) (rs : List Remainder) {owed : List ℕ} (e : flatMap clocksOf rs ≡ owed) where
+module _ (room : ℕ) (v : SheetValue) (tags : List ℤ) (rs : List Remainder) {owed : List ℕ} (e : flatMap awaitedClocks rs ≡ owed) where
   ignores : (k : ℕ) → isRelevant (v .lines) owed k ≡ false → Ignores room (filling room v tags rs) (filling-takes room v tags rs) k
   ignores k h p q ticks w =
       let named = flagged (flatMap namedBy (v .lines)) (replicate 8 false) in

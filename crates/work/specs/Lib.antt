@@ -3,7 +3,8 @@
 -- ---- to be believed: what the monitor's promises cite
 -- an instant and the remainders held: `usedPart`, the places in use
 pub mod View
--- ---- for inner contracts and proofs only: nothing public cites these
+-- ---- for inner contracts and proofs only: nothing public cites these. That this work finds what theory asks is `worked-every` and `worked-none`
+-- (proofs/Found.antt), that the fillings which it leaves out change nothing `forbidden-none` and `relevant-enough`.
 -- what a line asks of an instant and makes of what a remainder carries; and all lines
 pub mod Questions
 pub mod Lines

@@ -30,8 +30,8 @@ namedBy (Relation A B p q) = []
 abbrev pub countClocks : Countdown → List ℕ
 countClocks c = c .clock ∷ c .on ∷ []
 
-abbrev pub clocksOf : Remainder → List ℕ
-clocksOf r = map (λ (o : Obligation). o .clock) (r .owed) ++ flatMap countClocks (r .countdowns)
+abbrev pub awaitedClocks : Remainder → List ℕ
+awaitedClocks r = map (λ (o : Obligation). o .clock) (r .owed) ++ flatMap countClocks (r .countdowns)
 
 -- a flag for each clock of a list besides
 abbrev pub flagged : List ℕ → List Bool → List Bool

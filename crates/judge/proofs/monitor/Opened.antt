@@ -48,7 +48,7 @@ use Rattle.remainders.specs.View.{sized}
 use Rattle.judge.specs.Answer.{answerOf, saidBy}
 use Rattle.judge.specs.Limits.{isTaken, sheetWithin, monitorWithin}
 use Rattle.lines.specs.Plan.{numbers, Preparing, PlanOf}
-use Rattle.remainders.specs.Rows.{width, words, headRows, rowsOf}
+use Rattle.remainders.specs.Rows.{width, allWords, headRows, rowsOf}
 use Rattle.remainders.specs.Unused.{BlankFrom}
 use Rattle.step.specs.Fill.{Working}
 use Rattle.judge.specs.Stored.{FindingRows}
@@ -206,15 +206,15 @@ module _ (order : Order) (last : ℕ) (b : List ℕ) (x : SheetRead) (e : x ≡ 
       })
 
 -- ---- rows of a new array are blank
-pub fresh-rows : BlankRow (replicate words 0) headRows
-fresh-rows = record { size = length-replicate {A = ℕ} words 0; blank = λ p h. blank-at {A = ℕ} 0 words (width * headRows + p) }
+pub fresh-rows : BlankRow (replicate allWords 0) headRows
+fresh-rows = record { size = length-replicate {A = ℕ} allWords 0; blank = λ p h. blank-at {A = ℕ} 0 allWords (width * headRows + p) }
 
 -- ---- room in what was begun
 module _ {s : Sheet} {r : Begun} {lines a b : List ℕ} (begun : BegunMonitor s r lines a b) where
   pub found-begun : FindingRows b (r .progress .count) (r .progress .from) (r .plan)
   found-begun = rw (begun .progress) (record { side = omega arith; small = begun .rows .small; plan = begun .plan .fits })
 
-  pub room-begun : length a ≡ words → {list : List Bool} → length list ≡ 2048 → Working b (r .progress .from) (r .progress .count) (r .plan) list
+  pub room-begun : length a ≡ allWords → {list : List Bool} → length list ≡ 2048 → Working b (r .progress .from) (r .progress .count) (r .plan) list
   room-begun size lists = rw (begun .progress)
       (record {
         size = begun .rows .stays .size ∙ size;

@@ -42,7 +42,7 @@ use Rattle.remainders.specs.Unused.{BlankFrom}
 use Rattle.judge.specs.Answer.{answerOf, saidBy}
 use Rattle.judge.specs.Limits.{sheetWithin, monitorWithin, Limited}
 use Rattle.lines.specs.Plan.{numbers, Preparing, PlanOf}
-use Rattle.remainders.specs.Rows.{words, rowCount, rowObligation, rowOwed, rowCountdowns, rowLeads, rowStopped, rowOf, FewInRow}
+use Rattle.remainders.specs.Rows.{allWords, rowCount, rowObligation, rowOwed, rowCountdowns, rowLeads, rowStopped, rowOf, FewInRow}
 use Rattle.step.specs.Apply.{Side, foundIn, FewOwedIn}
 use Rattle.judge.specs.Stored.{StoringHeld, StoredHeld, FindingRows, FromRows}
 use Rattle.judge.specs.Monitor.{KeepsNothing, sheetBy, heldBy, Accepts}
@@ -229,7 +229,7 @@ module _ (m : Monitor) (l : Limited m true) where
   few-lines : m .sheet .count ≤ 16
   few-lines = subst (λ (k : ℕ). k ≤ 16) (length-listed (lineAt (m .sheet)) (m .sheet .count)) (limits-of m (l .value refl) (sym (l .answer)) .sheet .lines-most)
 
-  pub has-room : {rows : List ℕ} → length rows ≡ words → StoringHeld rows (m .held .count) (m .held .remainders)
+  pub has-room : {rows : List ℕ} → length rows ≡ allWords → StoringHeld rows (m .held .count) (m .held .remainders)
   has-room size = record { size = size; fits = limits-of m (l .value refl) (sym (l .answer)) .fits }
 
   pub prepares : {lines : List ℕ} → length lines ≡ numbers → Preparing (m .sheet) lines

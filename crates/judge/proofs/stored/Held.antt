@@ -25,7 +25,7 @@ use Rattle.remainders.specs.declared.held.Status.the-variants.{Exhausted, Live}
 use Rattle.remainders.specs.View.{remainderOf, blankObligation, blankRemainder, viewOf, fewOwed, sizedIn}
 use Rattle.remainders.specs.Unused.{NothingUnused}
 use Rattle.lines.specs.Plan.{Planned}
-use Rattle.remainders.specs.Rows.{words, rowOf, rowsOf, FewInRow, FewOwed, HeadStays}
+use Rattle.remainders.specs.Rows.{allWords, rowOf, rowsOf, FewInRow, FewOwed, HeadStays}
 use Rattle.step.specs.Apply.{FewOwedIn}
 use Rattle.judge.specs.Stored.{PutRemainder, ToRows, StoredHeld, CopiedRows, FromRows}
 use Rattle.remainders.proofs.Places.{as-is, all-at}
@@ -46,12 +46,12 @@ pub record Reads (rs : List arrays.Remainder) (rows : List ℕ) (k : ℕ) : Type
 
 -- the first k are stored
 pub record PuttingRows (rs : List arrays.Remainder) (was rows : List ℕ) (k : ℕ) : Type 0 where
-  pub size : length rows ≡ words
+  pub size : length rows ≡ allWords
   pub head : HeadStays was rows
   pub places : (j : ℕ) → j < k → Reads rs rows j
 
 module _ (rs : List arrays.Remainder) {was : List ℕ} where
-  pub rows-start : length was ≡ words → PuttingRows rs was was 0
+  pub rows-start : length was ≡ allWords → PuttingRows rs was was 0
   rows-start h = record { size = h; head = λ g p l m. refl; places = λ j l. absurd (omega arith) }
 
   module _ {rows : List ℕ} {k : ℕ} (w : PuttingRows rs was rows k) where
@@ -87,7 +87,7 @@ room-for {n = n} rs e t =
     (leb→le n 32 (and-l (leb n 32) few s), and-r (leb n 32) few s)
 
 module _ {count : Status} (rs : List arrays.Remainder) {a : List ℕ} where
-  pub stored-none : count ≡ Exhausted → length a ≡ words → StoredHeld count rs a a
+  pub stored-none : count ≡ Exhausted → length a ≡ allWords → StoredHeld count rs a a
   stored-none e h = rw e (record { size = h; head = λ g p l m. refl; small = tt; held = λ v. refl })
 
   pub stored-live : {n : ℕ} {b : List ℕ} → count ≡ Live n → n ≤ 32 → ToRows n rs a b → StoredHeld count rs a b

@@ -20,7 +20,7 @@ use Rattle.lines.specs.declared.plan.Plan.{Plan}
 use Rattle.lent.specs.declared.live.FoundState.{FoundState}
 use Rattle.judge.specs.Limits.{monitorWithin, Limited}
 use Rattle.lines.specs.Plan.{numbers, Preparing, PlanOf, Planned}
-use Rattle.remainders.specs.Rows.{words, word}
+use Rattle.remainders.specs.Rows.{allWords, word}
 use Rattle.lent.specs.RowsLimits.{RowsWithin, TestingAll}
 use Rattle.lent.specs.State.{hasFormat, hasKinds, isSide, isState, stateSheet, stateProgress, stateMonitor}
 use Rattle.lent.specs.Live.{stateWithin}
@@ -34,7 +34,7 @@ pub state-side : (w : List ℕ) → isState w ≡ true → T (isSide (word w 0 4
 unfolding isState
 state-side w e = ≡→T (both (isSide (word w 0 4)) (both (hasFormat w && hasKinds w) e .1) .0)
 
-module _ (w : List ℕ) (size : length w ≡ words) {k : Progress} (kept : k ≡ stateProgress w) where
+module _ (w : List ℕ) (size : length w ≡ allWords) {k : Progress} (kept : k ≡ stateProgress w) where
   none : {f : FoundState} {lines : List ℕ} → NothingFound k f → stateWithin w ≡ false → FoundIn w f lines
   none n e = record {
     size = size;

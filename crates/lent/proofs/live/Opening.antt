@@ -27,7 +27,7 @@ use Rattle.remainders.specs.View.{liveCount, heldOf}
 use Rattle.judge.specs.Answer.{answerOf, saidBy}
 use Rattle.lines.specs.Plan.{PlanFits, Planned, PlanOf}
 use Rattle.remainders.specs.Word.{flagWord}
-use Rattle.remainders.specs.Rows.{width, words, headRows, stoppedPart, word, rowStop}
+use Rattle.remainders.specs.Rows.{width, allWords, headRows, stoppedPart, word, rowStop}
 use Rattle.remainders.proofs.rows.Flags.{flag-stored}
 use Rattle.step.specs.Apply.{foundIn, FewOwedIn}
 use Rattle.judge.specs.Start.{BlankRow, BegunRows}
@@ -49,7 +49,7 @@ use Rattle.lent.proofs.live.Keeping.{beside-same}
 
 -- ---- room for each part
 
-pub blank-row : {a z : List ℕ} → length a ≡ words → ClearedRows 0 7 a z → BlankRow z headRows
+pub blank-row : {a z : List ℕ} → length a ≡ allWords → ClearedRows 0 7 a z → BlankRow z headRows
 blank-row size zero = record { size = zero .stays .size ∙ size; blank = λ p h. zero .zero 6 p (omega arith) (omega arith) h }
 
 pub one-held : {p : Plan} {v : SheetValue} {z g : List ℕ} → PlanFits p → BegunRows v z g → Holding g headRows (Live 1) p
@@ -59,7 +59,7 @@ one-held fits begun = record {
   plan = fits;
 }
 
-pub first-put : {k : Progress} {h : List ℕ} → k ≡ firstProgress → length h ≡ words → PuttingProgress h k
+pub first-put : {k : Progress} {h : List ℕ} → k ≡ firstProgress → length h ≡ allWords → PuttingProgress h k
 first-put e size = rw e (record { size = size; instants = omega arith; few = omega arith; side = tt })
 
 -- ---- what was read

@@ -16,7 +16,7 @@ use Rattle.remainders.specs.declared.held.Status.{Status}
 use Rattle.remainders.specs.declared.held.Status.the-variants.{Live}
 use Rattle.judge.specs.declared.progress.Progress.{Progress}
 use Rattle.remainders.specs.View.{liveCount}
-use Rattle.remainders.specs.Rows.{width, words, word, Stays}
+use Rattle.remainders.specs.Rows.{width, allWords, word, Stays}
 use Rattle.step.specs.Apply.{Side}
 use Rattle.lent.specs.State.{countBy, stateCount, isSide, isCase, isKind, hasKinds, hasFormat, isState, format, PutFormat, FewIn, PutCount, PutLastTags, PutProgress}
 use Rattle.remainders.proofs.rows.Laws.{stored, stored-other, stays-all, stays-put, stays-wide, stays-on}
@@ -60,7 +60,7 @@ pub kinds-same : (a b : List ℕ) → word b 0 2 ≡ word a 0 2 → ((k : ℕ) �
 kinds-same a b e f = below-ext 16 _ _ (λ k h. ap₂ (λ (n w : ℕ). not (ltb k n) || isKind w) e (f k h))
 
 -- ---- the format
-pub format-put : (a : List ℕ) → length a ≡ words → PutFormat a (set a (width * 0 + 0) format)
+pub format-put : (a : List ℕ) → length a ≡ allWords → PutFormat a (set a (width * 0 + 0) format)
 format-put a size =
     record {
       stays = stays-put (stays-all 0 0 1 a) 0 format (omega arith) (omega arith) (omega arith);
@@ -71,7 +71,7 @@ format-put a size =
 pub few-live : {c : Status} {n : ℕ} → c ≡ Live n → FewIn c → n ≤ 32
 few-live e h = rw e at h
 
-module _ (a : List ℕ) (case live : ℕ) (size : length a ≡ words) where
+module _ (a : List ℕ) (case live : ℕ) (size : length a ≡ allWords) where
   abbrev cased : List ℕ
   cased = set a (width * 0 + 5) case
 
@@ -102,10 +102,10 @@ module _ (k : Progress) (a : List ℕ) where
   abbrev pub sided : List ℕ
   sided = set timed (width * 0 + 4) (k .from)
 
-  pub sided-long : length a ≡ words → length sided ≡ words
+  pub sided-long : length a ≡ allWords → length sided ≡ allWords
   sided-long size = length-set timed (width * 0 + 4) (k .from) ∙ length-set a (width * 0 + 3) (k .instants) ∙ size
 
-  module _ (size : length a ≡ words) {b c : List ℕ} (n : PutCount (k .count) sided b) (t : PutLastTags (k .tags) b c) (side : T (isSide (k .from))) where
+  module _ (size : length a ≡ allWords) {b c : List ℕ} (n : PutCount (k .count) sided b) (t : PutLastTags (k .tags) b c) (side : T (isSide (k .from))) where
     -- a word before the tags, and one before the answer
     late : (p : ℕ) → p < 8 → word c 0 p ≡ word b 0 p
     late p h = t .stays .same 0 p (omega arith) (λ e x y. omega arith)

@@ -20,7 +20,7 @@ use Rattle.tesl.proofs.Tests.{≡→T, T→≡}
 use Rattle.work.proofs.Listing.{listed-at, listed-same}
 use Rattle.lines.specs.declared.line_words.LineWords.{LineWords}
 use Rattle.lines.specs.LineWords.{lineOfWords, wordsOf, WordsOf}
-use Rattle.remainders.specs.Rows.{width, words, word}
+use Rattle.remainders.specs.Rows.{width, allWords, word}
 use Rattle.lent.specs.State.{stateWords, stateLine, clocksBy, stateSlot, stateSheet, isKind, hasKinds, OthersStay, PutWords, noWords, slotWords, SlotWords, PutLines, PutSheet}
 use Rattle.remainders.proofs.rows.Laws.{stored, stored-other}
 use Rattle.lent.proofs.state.Words.{words-same}
@@ -73,7 +73,7 @@ module _ (s : Sheet) (a b : List ℕ) where
   abbrev pub sheeted : List ℕ
   sheeted = set clocked (width * 0 + 2) (s .count)
 
-  module _ (size : length a ≡ words) (few : s .count ≤ 16) (byte : s .clocks < 256) (w : PutLines s a b) where
+  module _ (size : length a ≡ allWords) (few : s .count ≤ 16) (byte : s .clocks < 256) (w : PutLines s a b) where
     -- another word than 1 and 2 of row 0
     other : (h p : ℕ) → p < width → (h ≡ 0 → p ≡ 1 → ⊥) → (h ≡ 0 → p ≡ 2 → ⊥) → word sheeted h p ≡ word b h p
     other h p l f g = stored-other clocked 0 2 (s .count) h p (omega arith) l g ∙ stored-other b 0 1 (s .clocks) h p (omega arith) l f

@@ -10,7 +10,7 @@ use lib.Seq.{getD-set-same, getD-set-other}
 use borrow.Author.Tests.{ltb-true, ltb-false}
 use Rattle.lines.specs.declared.line_words.LineWords.{LineWords}
 use Rattle.lines.specs.LineWords.{wordsBy}
-use Rattle.remainders.specs.Rows.{width, words, word}
+use Rattle.remainders.specs.Rows.{width, allWords, word}
 use Rattle.lent.specs.State.{stateWords, PutWords}
 
 pub same-words : {k k′ a a′ b b′ d d′ x x′ y y′ : ℕ} → k ≡ k′ → a ≡ a′ → b ≡ b′ → d ≡ d′ → x ≡ x′ → y ≡ y′ → wordsBy k a b d x y ≡ wordsBy k′ a′ b′ d′ x′ y′
@@ -82,13 +82,13 @@ module _ (l : List ℕ) (k : ℕ) (r : LineWords) where
         ∙ getD-set-other l₁ (width * 1 + (16 + k)) p (r .a) 0 (λ e. f 1 (omega arith) (omega arith))
         ∙ getD-set-other l (width * 1 + k) p (r .kind) 0 (λ e. f 0 (omega arith) (omega arith))
 
-    pub words-put : length l ≡ words → PutWords k r l linePut
+    pub words-put : length l ≡ allWords → PutWords k r l linePut
     words-put e =
-        let e₁ : length l₁ ≡ words = simp length-set e in
-        let e₂ : length l₂ ≡ words = simp length-set e in
-        let e₃ : length l₃ ≡ words = simp length-set e in
-        let e₄ : length l₄ ≡ words = simp length-set e in
-        let e₅ : length l₅ ≡ words = simp length-set e in
+        let e₁ : length l₁ ≡ allWords = simp length-set e in
+        let e₂ : length l₂ ≡ allWords = simp length-set e in
+        let e₃ : length l₃ ≡ allWords = simp length-set e in
+        let e₄ : length l₄ ≡ allWords = simp length-set e in
+        let e₅ : length l₅ ≡ allWords = simp length-set e in
         record {
           size = simp length-set;
           here = same-words

@@ -25,7 +25,7 @@ use Rattle.logs.proofs.log.Answers.{lastSaid, last-snoc, instants-more,
 -- ---- the answers said so far
 
 -- from a run on: those said, and the replies to the records from a place on; the instants taken, and those taken from that place on
-pub record Left (log : List ℕ) (m : Monitor) (said : List Answer) (at : ℕ) (s : SheetValue) (run₀ : List Instant) : Type 0 where
+pub record Remaining (log : List ℕ) (m : Monitor) (said : List Answer) (at : ℕ) (s : SheetValue) (run₀ : List Instant) : Type 0 where
   pub run : List Instant
   pub follows : Follows s run m
   pub replies : machine s run₀ (callsOf log) ≡ map taken said ++ machine s run (callsOf (drop at log))
@@ -35,7 +35,7 @@ pub record Left (log : List ℕ) (m : Monitor) (said : List Answer) (at : ℕ) (
 pub record Going (log : List ℕ) (m₀ m : Monitor) (said : List Answer) (at : ℕ) : Type 0 where
   pub few : length said ≤ at
   pub ends : at ≤ length log
-  pub same : (s : SheetValue) (run : List Instant) → Follows s run m₀ → Left log m said at s run
+  pub same : (s : SheetValue) (run : List Instant) → Follows s run m₀ → Remaining log m said at s run
 
 pub going-start : (log : List ℕ) (m : Monitor) → Going log m m [] 0
 going-start log m = record { few = omega arith; ends = omega arith; same = λ s run f. record { run = run; follows = f; replies = refl; instants = refl } }

@@ -8,7 +8,7 @@ use lib.Seq.{getD-set-same, getD-set-other}
 use Rattle.records.specs.Lists.{listed}
 use Rattle.work.proofs.Listing.{listed-same, listed-next}
 use Rattle.remainders.specs.declared.obligation.Obligation as code
-use Rattle.remainders.specs.Rows.{parts, partWords, leadsPart, height, width, words, word, rowCount, storedIn, rowObligation, rowSet, FewInRow, CountsSame, NothingInParts, Stays, RowsStay, PutObligation}
+use Rattle.remainders.specs.Rows.{parts, partWords, leadsPart, height, width, allWords, word, rowCount, storedIn, rowObligation, rowSet, FewInRow, CountsSame, NothingInParts, Stays, RowsStay, PutObligation}
 
 -- ---- one word
 module _ (a : List ℕ) (i p w : ℕ) where
@@ -86,7 +86,7 @@ module _ {h part : ℕ} {a b : List ℕ} (s : PartSame h part a b) where
 pub part-stays : {i lo hi : ℕ} {a b : List ℕ} → Stays i lo hi a b → (h part : ℕ) → part < parts → ((p : ℕ) → partWords * part ≤ p → p < partWords * part + partWords → h ≡ i → lo ≤ p → p < hi → ⊥) → PartSame h part a b
 part-stays s h part l f = record { same = λ p x y. s .same h p (omega arith) (f p x y) }
 
-module _ (a : List ℕ) (i part j w : ℕ) (size : length a ≡ words) (row : i < height) (inside : part < parts) (place : j < 8) where
+module _ (a : List ℕ) (i part j w : ℕ) (size : length a ≡ allWords) (row : i < height) (inside : part < parts) (place : j < 8) where
   abbrev after : List ℕ
   after = set a (width * i + (partWords * part + 1 + j)) w
 
@@ -105,7 +105,7 @@ pub set-next : {i part j : ℕ} {o : code.Obligation} {a b : List ℕ} → PutOb
 set-next {j = j} p h = listed-next j (λ k l. p .others k (omega arith) (λ e. omega arith)) (p .here) refl
 
 -- the count stored, after the others
-module _ (a : List ℕ) (i part n : ℕ) (size : length a ≡ words) (row : i < height) (inside : part < parts) where
+module _ (a : List ℕ) (i part n : ℕ) (size : length a ≡ allWords) (row : i < height) (inside : part < parts) where
   abbrev counted : List ℕ
   counted = set a (width * i + partWords * part) n
 

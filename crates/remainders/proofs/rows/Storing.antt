@@ -6,7 +6,7 @@ use Prim.Native.Nat.{ℕ, _+_, _*_, _<_, _≤_}
 use native.Mathlib.Nat.{eq-or-lt-of-le}
 use native.Mathlib.Omega.{arith}
 use lib.ListN.{length, set}
-use Rattle.remainders.specs.Rows.{width, words, word, Stays}
+use Rattle.remainders.specs.Rows.{width, allWords, word, Stays}
 use Rattle.remainders.proofs.rows.Laws.{stored, stored-other, stays-all, stays-put}
 
 -- the first k words from `lo` on are what P asks of each; nothing else changes but words lo to hi - 1 of row i
@@ -18,7 +18,7 @@ module _ (P : ℕ → ℕ → Type 0) (i lo hi : ℕ) (a : List ℕ) where
   pub storing-start : Storing P i lo hi a a 0
   storing-start = record { places = λ j h. absurd (omega arith); stays = stays-all i lo hi a }
 
-  pub storing-more : {b : List ℕ} {k : ℕ} → Storing P i lo hi a b k → length a ≡ words → i < 72 → lo + k < hi → hi ≤ width → (w : ℕ) → P k w → Storing P i lo hi a (set b (width * i + (lo + k)) w) (k + 1)
+  pub storing-more : {b : List ℕ} {k : ℕ} → Storing P i lo hi a b k → length a ≡ allWords → i < 72 → lo + k < hi → hi ≤ width → (w : ℕ) → P k w → Storing P i lo hi a (set b (width * i + (lo + k)) w) (k + 1)
   storing-more {b} {k} s size row h m w p =
       record {
         places = λ j l. ⊎-elim

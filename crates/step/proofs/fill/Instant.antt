@@ -20,7 +20,7 @@ use Rattle.work.specs.Questions.{tagsHold}
 use Rattle.work.specs.Parts.{isRelation, isRule}
 use Rattle.work.specs.Rules.{allowed}
 use Rattle.work.specs.Fillings.{fillingsIn, takenBy, byFilling}
-use Rattle.work.specs.Relevant.{fillingsLeft, namedBy, countClocks, clocksOf, flagged}
+use Rattle.work.specs.Relevant.{fillingsLeft, namedBy, countClocks, awaitedClocks, flagged}
 use Rattle.work.specs.Work.{worked}
 use Rattle.work.proofs.Listed.{worked-no, worked-yes}
 use Rattle.remainders.specs.declared.held.Status.{Status}
@@ -45,12 +45,12 @@ counting-clocks : (os : List code.Obligation) → flatMap countClocks (map count
 counting-clocks [] = refl
 counting-clocks (o ∷ os) = ap (λ (ks : List ℕ). o .clock ∷ o .on ∷ ks) (counting-clocks os)
 
-row-clocks : (v : SheetValue) (rows : List ℕ) (i : ℕ) → clocksOf (usedPart v (rowOf rows i)) ≡ rowClocks rows i
+row-clocks : (v : SheetValue) (rows : List ℕ) (i : ℕ) → awaitedClocks (usedPart v (rowOf rows i)) ≡ rowClocks rows i
 unfolding listedFrom
 row-clocks v rows i = λ k. owed-clocks (rowSet rows i 0) k ++ (counting-clocks (rowSet rows i 1) ∙ sym (append-nil (flatMap (clocksAsked 1) (rowSet rows i 1)))) k
 
-rows-clocks : (v : SheetValue) (from n : ℕ) (rows : List ℕ) → flatMap clocksOf (rowsOf v rows from n) ≡ rowsClocks rows from n
-rows-clocks v from n rows = flat-listed clocksOf (λ i. rowClocks rows (from + i)) (λ i. usedPart v (rowOf rows (from + i))) (λ i. row-clocks v rows (from + i)) 0 n
+rows-clocks : (v : SheetValue) (from n : ℕ) (rows : List ℕ) → flatMap awaitedClocks (rowsOf v rows from n) ≡ rowsClocks rows from n
+rows-clocks v from n rows = flat-listed awaitedClocks (λ i. rowClocks rows (from + i)) (λ i. usedPart v (rowOf rows (from + i))) (λ i. row-clocks v rows (from + i)) 0 n
 
 -- ---- an instant
 module _ (room : ℕ) (v : SheetValue) (last : Option (List ℤ)) (ticks : List TickSlot) (tags : List ℤ) (count : Status) (rows : List ℕ) (from : ℕ) where

@@ -10,7 +10,7 @@ use borrow.Author.Needs.{needs}
 use Rattle.records.specs.Lists.{listedFrom, listed}
 use Rattle.remainders.specs.declared.obligation.Obligation as code
 use Rattle.remainders.specs.View.{blankObligation}
-use Rattle.remainders.specs.Rows.{partWords, words, rowObligation, PartStays}
+use Rattle.remainders.specs.Rows.{partWords, allWords, rowObligation, PartStays}
 use Rattle.remainders.proofs.rows.Laws.{stays-all, stays-put, stays-wide, stays-on, set-next, set-put, count-put}
 use Rattle.judge.proofs.stored.put_obligations.Statement.{statement}
 use Rattle.judge.proofs.stored.put_obligations.Tie as tie
@@ -26,7 +26,7 @@ Inv-loop was i part n obligations j₀ rows j = Putting obligations i part n was
 abbrev μ-loop : tie.MeasureT-loop
 μ-loop was i part n obligations j₀ rows j = n - j
 
-long : (at : tie.At-loop Inv-loop μ-loop) → length (at .loop .rows) ≡ words
+long : (at : tie.At-loop Inv-loop μ-loop) → length (at .loop .rows) ≡ allWords
 long at = at .loop .inv .stays .size ∙ at .before .pre .0 .size
 
 loop-holds : tie.Need-loop-holds Inv-loop μ-loop

@@ -3,7 +3,7 @@ use mathlib.Core.Path.{_≡_}
 use native.Mathlib.Omega.{arith}
 use lib.ListN.{length}
 use borrow.Author.Needs.{needs}
-use Rattle.remainders.specs.Rows.{words}
+use Rattle.remainders.specs.Rows.{allWords}
 use Rattle.lent.proofs.live.Finding.{found-none, found-refused, found-many, found-prepares, found-tests, found-held}
 use Rattle.lent.proofs.live.find_state.Statement.{statement}
 use Rattle.lent.proofs.live.find_state.Tie as tie
@@ -12,7 +12,7 @@ abbrev start : tie.After-is-state → tie.Start
 start c = c .before .before .before .before
 
 -- the words, as many as the type says
-long : (c : tie.After-is-state) → length (start c .args .state .now) ≡ words
+long : (c : tie.After-is-state) → length (start c .args .state .now) ≡ allWords
 long c = search needs
 
 returns : tie.Need-returns

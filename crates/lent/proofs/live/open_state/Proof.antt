@@ -6,7 +6,7 @@ use lib.ListN.{length, replicate, length-replicate}
 use borrow.Author.Needs.{needs}
 use Rattle.records.specs.Types.{IsBytes}
 use Rattle.lines.specs.Plan.{numbers, Preparing}
-use Rattle.remainders.specs.Rows.{words}
+use Rattle.remainders.specs.Rows.{allWords}
 use Rattle.records.proofs.word.Bytes.{each-byte}
 use Rattle.judge.proofs.monitor.Opened.{prepares-read}
 use Rattle.lent.proofs.live.Opening.{blank-row, one-held, first-put, opened-refused, opened-state}
@@ -39,7 +39,7 @@ read l = told l .before .before .before
 abbrev lent : tie.After-clear-rows → tie.After-lent-words
 lent z = z .before .before
 
-long : (z : tie.After-clear-rows) → length (start (read (lent z)) .args .state .now) ≡ words
+long : (z : tie.After-clear-rows) → length (start (read (lent z)) .args .state .now) ≡ allWords
 long z = search needs
 
 -- ---- the monitor of no instant begun, and every word that it doesn't use cleared
@@ -56,7 +56,7 @@ abbrev begun : tie.After-clear-beside → tie.After-begin
 begun d = d .before .before .before .before
 
 -- ---- as many words as at first
-long-cleared : (d : tie.After-clear-beside) → length (d .clear-beside .last .0) ≡ words
+long-cleared : (d : tie.After-clear-beside) → length (d .clear-beside .last .0) ≡ allWords
 long-cleared d =
     let g = begun d in
     let z = cleared g in
@@ -68,7 +68,7 @@ put-format-requires c κs = long-cleared (c .before)
 abbrev besides : tie.After-put-format → tie.After-clear-beside
 besides f = f .before .before
 
-long-formatted : (f : tie.After-put-format) → length (f .put-format .last .0) ≡ words
+long-formatted : (f : tie.After-put-format) → length (f .put-format .last .0) ≡ allWords
 long-formatted f = f .put-format .ensures .stays .size ∙ long-cleared (besides f)
 
 put-sheet-requires : tie.Need-put-sheet-requires

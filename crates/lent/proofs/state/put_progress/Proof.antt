@@ -5,7 +5,7 @@ use Prim.Native.Nat.{ℕ, _+_, _*_}
 use native.Mathlib.Omega.{arith}
 use lib.ListN.{length, set}
 use borrow.Author.Needs.{needs}
-use Rattle.remainders.specs.Rows.{width, words}
+use Rattle.remainders.specs.Rows.{width, allWords}
 use Rattle.lent.proofs.state.Laws.{side-small, sided, sided-long, progress-put}
 use Rattle.lent.proofs.state.put_progress.Statement.{statement}
 use Rattle.lent.proofs.state.put_progress.Tie as tie
@@ -25,7 +25,7 @@ two b =
     (w .put-word .ensures ∙ ap (λ (n : ℕ). set (start b .args .state .now) (width * 0 + 3) n) (w .before .small-word .ensures))
     (b .before .small-word2 .ensures)
 
-long : (b : tie.After-put-word2) → length (b .put-word2 .last .0) ≡ words
+long : (b : tie.After-put-word2) → length (b .put-word2 .last .0) ≡ allWords
 long b = let s = start b in ap length (two b) ∙ sided-long (s .args .progress) (s .args .state .now) (s .pre .size)
 
 put-count-requires : tie.Need-put-count-requires

@@ -38,7 +38,7 @@ module _ (d : tie.After-due-number) where
   ticking = sym (asked .ticks-at .ensures) ∙ d .before .before .if1 .taken
 
   is-due : tagIn (start .args .tags) on +ℤ pos by ≡ dueOf (d .due-number .result)
-  is-due = let t = d .before .tag-at in sym (held-due by (t .ok) (d .due-number .ensures) (t .ensures))
+  is-due = let t = d .before .clock-tag in sym (held-due by (t .ok) (d .due-number .ensures) (t .ensures))
 
 returns : tie.Need-returns
 returns c = let d = c .before in begins-on-scale (told d .l .given .1) _ _ (ticking d) _ (is-due d) _ (c .if2 .taken)

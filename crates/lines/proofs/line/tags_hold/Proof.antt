@@ -12,7 +12,7 @@ returns c =
     let l = c .before .before .before .before .l .given in
     let p : toZ w16 (ofZ w16 (l .0 .1 .1 .0)) ≡ l .0 .1 .1 .0 = search needs in
     let q : toZ w16 (ofZ w16 (l .0 .1 .1 .1 .0)) ≡ l .0 .1 .1 .1 .0 = search needs in
-    rw (l .1, c .is-product .ensures, back (c .before .before .tag-at .ok) (c .before .before .tag-at .ensures), back (c .before .tag-at2 .ok) (c .before .tag-at2 .ensures), p, q)
+    rw (l .1, c .is-product .ensures, back (c .before .before .clock-tag .ok) (c .before .before .clock-tag .ensures), back (c .before .clock-tag2 .ok) (c .before .clock-tag2 .ensures), p, q)
 
 pub tags-hold-spec : {M : Type 1} → statement M
 tags-hold-spec =

@@ -5,7 +5,7 @@ use lib.ListN.{length-replicate}
 use borrow.Author.Needs.{needs}
 use Rattle.records.specs.Types.{IsBytes}
 use Rattle.lines.specs.Plan.{numbers}
-use Rattle.remainders.specs.Rows.{words}
+use Rattle.remainders.specs.Rows.{allWords}
 use Rattle.records.proofs.word.Bytes.{each-byte}
 use Rattle.judge.proofs.progress.Laws.{found-working}
 use Rattle.judge.proofs.monitor.Opened.{prepares-read, opened-rows, fresh-rows, room-begun}
@@ -36,7 +36,7 @@ abbrev begun : tie.After-observe-records → tie.After-begin
 begun o = o .before .before .before .before .before
 
 observe-records-requires : tie.Need-observe-records-requires
-observe-records-requires c κs = room-begun (c .before .before .before .before .begin .ensures) (length-replicate {A = ℕ} words 0) (length-replicate 2048 false)
+observe-records-requires c κs = room-begun (c .before .before .before .before .begin .ensures) (length-replicate {A = ℕ} allWords 0) (length-replicate 2048 false)
 
 abbrev records : tie.After-rows3 → tie.After-observe-records
 records c = c .before .before .before .before .before

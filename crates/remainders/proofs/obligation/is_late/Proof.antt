@@ -7,7 +7,7 @@ use Rattle.remainders.proofs.obligation.is_late.Tie as tie
 returns : tie.Need-returns
 returns c =
     let d = c .before in
-    let t = d .before .tag-at in
+    let t = d .before .clock-tag in
     number-late (d .tag-number .result) (d .before .before .args .o .number) (held-number (t .ok) (d .tag-number .ensures) (t .ensures))
 
 pub is-late-spec : {M : Type 1} → statement M

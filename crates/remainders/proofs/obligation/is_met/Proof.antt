@@ -8,7 +8,7 @@ use Rattle.remainders.proofs.obligation.is_met.Tie as tie
 returns : tie.Need-returns
 returns c =
     let d = c .before in
-    let t = d .before .tag-at in
+    let t = d .before .clock-tag in
     let k = d .before .before in
     rw (sym (k .before .ticks-at .ensures), k .if1 .taken) (number-met (d .tag-number .result) (k .before .before .args .o .number) (held-number (t .ok) (d .tag-number .ensures) (t .ensures)))
 

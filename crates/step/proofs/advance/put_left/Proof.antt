@@ -11,7 +11,7 @@ use Rattle.records.proofs.Lists.{listed-cons, listed-end}
 use Rattle.tesl.specs.Run.{Filled}
 use Rattle.remainders.specs.declared.obligation.Obligation as code
 use Rattle.work.specs.View.{filledOf}
-use Rattle.remainders.specs.Rows.{partWords, words, rowCount, rowObligation, rowSet, PartStays}
+use Rattle.remainders.specs.Rows.{partWords, allWords, rowCount, rowObligation, rowSet, PartStays}
 use Rattle.step.specs.Left.{leftIn, eachLeft}
 use Rattle.step.proofs.left.Laws.{leftFrom, left-start, left-end, left-done, left-unfit, left-still}
 use Rattle.remainders.proofs.rows.Laws.{stays-all, stays-put, stays-wide, stays-on, part-stays, place-same, set-next, set-put, count-put}
@@ -40,7 +40,7 @@ start at = at .before .before .before
 few : (at : tie.At-loop Inv-loop μ-loop) → at .before .row-count .result ≤ 8
 few at = rw (at .before .row-count .ensures) (start at .pre .1 .1)
 
-long : (at : tie.At-loop Inv-loop μ-loop) → length (at .loop .rows) ≡ words
+long : (at : tie.At-loop Inv-loop μ-loop) → length (at .loop .rows) ≡ allWords
 long at = at .loop .inv .stays .size ∙ start at .pre .0 .size
 
 loop-holds : tie.Need-loop-holds Inv-loop μ-loop
