@@ -14,7 +14,7 @@ use Rattle.records.specs.declared.record.Decision.the-variants as told
 use Rattle.records.specs.declared.sheet.Sheet.{Sheet}
 use Rattle.records.specs.declared.sheet.SheetRead.{SheetRead}
 use Rattle.records.specs.Outcome.{Outcome, taken, refused}
-use Rattle.records.specs.Sheet.{SheetValue, sheetValue, sheetRead, readBy, sheetValueChecks}
+use Rattle.records.specs.Sheet.{SheetValue, sheetValue, sheetOf, sheetRead, readBy, sheetValueChecks}
 use Rattle.records.specs.Types.{IsBytes, IsSheet}
 use Rattle.records.proofs.Lists.{refused-taken, taken-passed, passed-taken}
 use Rattle.records.proofs.sheet.Passed.{passed-any}
@@ -160,13 +160,25 @@ module _ (order : Order) (last : ℕ) (b : List ℕ) (x : SheetRead) (e : x ≡ 
   pub read-answer : {n : ℕ} → x .answer ≡ told.Refused n → readBy order last b ≡ refused n
   read-answer a = sheet-refused (readBy order last b) x e a
 
+  -- a sheet was read, and is the one that the code has
+  pub record SheetTaken : Type 0 where
+    pub value : SheetValue
+    pub read : readBy order last b ≡ taken value
+    pub sheet : x .sheet ≡ sheetOf value
+
+  pub sheet-taken : x .answer ≡ told.Done → SheetTaken
+  sheet-taken a = by-outcome (readBy order last b) refl (ap (λ (y : SheetRead). y .answer) (sym e) ∙ a)
+    where
+      by-outcome : (o : Outcome SheetValue) → readBy order last b ≡ o → sheetRead o .answer ≡ told.Done → SheetTaken
+      by-outcome (refused n) h q = refused-done q
+      by-outcome (taken s) h q = record { value = s; read = h; sheet = ap (λ (y : SheetRead). y .sheet) (e ∙ ap sheetRead h) }
+
   pub opened-refused : {n : ℕ} → x .answer ≡ told.Refused n → (r : CallResult) → r ≡ refusal n (blankMonitor (x .sheet)) → Opened (readBy order last) b r
   unfolding noMonitor
-  opened-refused {n} a r q = by-outcome (readBy order last b) refl (ap (λ (y : SheetRead). y .answer) (sym e) ∙ a) (q ∙ ap (λ (y : SheetRead). refusal n (blankMonitor (y .sheet))) e)
-    where
-      by-outcome : (o : Outcome SheetValue) → readBy order last b ≡ o → sheetRead o .answer ≡ told.Refused n → r ≡ refusal n (blankMonitor (sheetRead o .sheet)) → Opened (readBy order last) b r
-      by-outcome (taken s) h a g = refused-done (sym a)
-      by-outcome (refused k) h a g = record { refuses = λ j f. let z : n ≡ j = cc in rw (← z) g; opens = λ s f. refused-taken (sym h ∙ f); unused = λ s f. refused-taken (sym h ∙ f) }
+  opened-refused {n} a r q =
+      let h = read-answer a in
+      let none : r ≡ refusal n noMonitor = q ∙ ap (λ (y : SheetRead). refusal n (blankMonitor (y .sheet))) (e ∙ ap sheetRead h) in
+      record { refuses = λ j f. let z : n ≡ j = cc in rw (← z) none; opens = λ s f. refused-taken (sym h ∙ f); unused = λ s f. refused-taken (sym h ∙ f) }
 
   -- ---- begun in rows: what was opened, the answer, and the monitor in rows
   pub record OpenedRows (r : Begun) (lines rows : List ℕ) : Type 0 where
@@ -178,21 +190,20 @@ module _ (order : Order) (last : ℕ) (b : List ℕ) (x : SheetRead) (e : x ≡ 
     pub tags : BlankFrom (x .sheet .clocks) (pos 0) (r .progress .tags)
 
   pub opened-rows : IsBytes b → x .answer ≡ told.Done → {r : Begun} {lines blank rows : List ℕ} → BegunMonitor (x .sheet) r lines blank rows → OpenedRows r lines rows
-  opened-rows bytes a {r} {lines} {blank} {rows} begun = by-outcome (readBy order last b) refl (ap (λ (z : SheetRead). z .answer) (sym e) ∙ a)
-    where
-      by-outcome : (o : Outcome SheetValue) → readBy order last b ≡ o → sheetRead o .answer ≡ told.Done → OpenedRows r lines rows
-      by-outcome (refused n) h a = refused-done a
-      by-outcome (taken s) h a =
-          let same : sheetValue (x .sheet) ≡ s = ap (λ (z : SheetRead). sheetValue (z .sheet)) (e ∙ ap sheetRead h) ∙ sheetOf-value s in
-          let follows = follows-begun order last b bytes s h (x .sheet) same (begun .rows) in
-          record {
-            value = s;
-            read = h;
-            said = begun .said (sheetValue (x .sheet)) ∙ ap saidBy (sym (held-rows rows headRows (sheetValue (x .sheet)) (Live 1))) ∙ follows .said;
-            follows = subst (λ (k : Progress). Follows s [] (rowsMonitor (x .sheet) k rows)) (sym (begun .progress)) follows;
-            ready = subst (λ (k : Progress). Ready (x .sheet) k (r .plan) lines rows) (sym (begun .progress)) (ready-begun order last b bytes s h (x .sheet) same (begun .rows) (begun .plan));
-            tags = λ j l. ap (λ (k : Progress). getD (k .tags) j (pos 0)) (begun .progress) ∙ blank-at (pos 0) 8 j;
-          }
+  opened-rows bytes a {r} {lines} {blank} {rows} begun =
+      let t = sheet-taken a in
+      let s = t .value in
+      let h = t .read in
+      let same : sheetValue (x .sheet) ≡ s = ap sheetValue (t .sheet) ∙ sheetOf-value s in
+      let follows = follows-begun order last b bytes s h (x .sheet) same (begun .rows) in
+      record {
+        value = s;
+        read = h;
+        said = begun .said (sheetValue (x .sheet)) ∙ ap saidBy (sym (held-rows rows headRows (sheetValue (x .sheet)) (Live 1))) ∙ follows .said;
+        follows = subst (λ (k : Progress). Follows s [] (rowsMonitor (x .sheet) k rows)) (sym (begun .progress)) follows;
+        ready = subst (λ (k : Progress). Ready (x .sheet) k (r .plan) lines rows) (sym (begun .progress)) (ready-begun order last b bytes s h (x .sheet) same (begun .rows) (begun .plan));
+        tags = λ j l. ap (λ (k : Progress). getD (k .tags) j (pos 0)) (begun .progress) ∙ blank-at (pos 0) 8 j;
+      }
 
   -- and read back
   pub opened-done : {r : Begun} {lines rows : List ℕ} → OpenedRows r lines rows → {m : Monitor} → ReadBack (x .sheet) (r .progress) (r .plan) m rows → Opened (readBy order last) b (given (reply.Answered (r .said)) m)

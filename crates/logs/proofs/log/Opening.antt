@@ -8,11 +8,11 @@ use lib.ListN.{length, drop}
 use borrow.Author.Tests.{lt-ltb, le-ltb}
 use Rattle.records.specs.declared.order.Order.the-variants.{Rising}
 use Rattle.records.specs.declared.record.Decision.the-variants as told
+use Rattle.records.specs.declared.sheet.Sheet.{Sheet}
 use Rattle.records.specs.declared.sheet.SheetRead.{SheetRead}
-use Rattle.records.specs.Outcome.{Outcome, taken, refused}
+use Rattle.records.specs.Outcome.{taken, refused}
 use Rattle.records.specs.Sheet.{SheetValue, readSheet, sheetRead}
 use Rattle.records.specs.Store.{puts}
-use Rattle.records.proofs.sheet.Writing.{refused-done}
 use Rattle.records.proofs.Lists.{refused-taken}
 use Rattle.records.proofs.Store.{puts-front}
 use Rattle.tesl.specs.Lists.{flatMap}
@@ -33,7 +33,7 @@ use Rattle.logs.specs.Log.{FollowsLog, entries, watchedAs, watchLog}
 use Rattle.logs.specs.Records.{ObservedRecords, ObservedLog, Counted, CountedLog}
 use Rattle.judge.proofs.progress.Laws.{follows-back, nothing-back}
 use Rattle.logs.proofs.log.Answers.{concluded-count, instants-all, length-entries}
-use Rattle.judge.proofs.monitor.Opened.{OpenedRows, read-answer, opened-refused}
+use Rattle.judge.proofs.monitor.Opened.{OpenedRows, read-answer, sheet-taken, opened-refused}
 
 -- ---- what was read
 
@@ -100,14 +100,12 @@ module _ (sheet log : List ℕ) (x : SheetRead) (e : x ≡ sheetRead (readSheet 
 
   pub log-counted : x .answer ≡ told.Done → {n : ℕ} → Counted log (x .sheet .clocks) n → CountedLog sheet log n
   unfolding judgeLog session
-  log-counted a {n} c = by-read (readSheet sheet) refl (ap (λ (z : SheetRead). z .answer) (sym e) ∙ a)
-    where
-      by-read : (o : Outcome SheetValue) → readSheet sheet ≡ o → sheetRead o .answer ≡ told.Done → CountedLog sheet log n
-      by-read (refused k) h b = refused-done b
-      by-read (taken s) h b =
-          let same : s .clocks ≡ x .sheet .clocks = ap (λ (z : SheetRead). z .sheet .clocks) (ap sheetRead (sym h) ∙ sym e) in
-          let count = c .same s same in
-          record { most = c .most; entries-size = omega (arith, size-of sheet log h); judged = rw h (omega (arith, concluded-count (taken (answer s [])) 0 (machine s [] (callsOf log)), count)) }
+  log-counted a {n} c =
+      let t = sheet-taken Rising 24 sheet x e a in
+      let s = t .value in
+      let h = t .read in
+      let count = c .same s (ap (λ (v : Sheet). v .clocks) (sym (t .sheet))) in
+      record { most = c .most; entries-size = omega (arith, size-of sheet log h); judged = rw h (omega (arith, concluded-count (taken (answer s [])) 0 (machine s [] (callsOf log)), count)) }
 
 -- ---- after an answer the monitor follows the machine's list, whole
 module _ {sheet log : List ℕ} {r : LastMonitor} (l : FollowsLog sheet log r) {s : SheetValue} (e : readSheet sheet ≡ taken s) where

@@ -12,6 +12,7 @@ use Rattle.records.specs.declared.record.Record.{Record}
 use Rattle.records.specs.declared.record.Record.the-variants.{Whole, Torn}
 use Rattle.records.specs.declared.instant.Instant as code
 use Rattle.records.specs.declared.instant.InstantRead.{InstantRead}
+use Rattle.records.specs.declared.sheet.Sheet.{Sheet}
 use Rattle.records.specs.declared.sheet.SheetRead.{SheetRead}
 use Rattle.records.specs.Outcome.{Outcome, taken, refused}
 use Rattle.records.specs.Record.{recordAt, spanOf, recordSpan, TheRecord}
@@ -33,6 +34,7 @@ use Rattle.tesl.specs.Machine.{judgedPart, accepts, listAfter, acceptsEach, cal
 use Rattle.theory.proofs.Accepted.{accepts-as}
 use Rattle.theory.proofs.Log.{next-accepts}
 use Rattle.theory.proofs.Opened.{read-limits}
+use Rattle.judge.proofs.monitor.Opened.{SheetTaken, read-answer, sheet-taken}
 use Rattle.text.specs.Text.{columnLine, refusalLine}
 use Rattle.text.specs.Output.{linesFrom, tagLines, columnsText, printed, printedAs}
 use Rattle.text.specs.Built.{tagsText, PutTags, clocksOnly, instantsText, InstantsReady}
@@ -191,34 +193,24 @@ module _ {c : ℕ} {log out₀ out : List ℕ} {n end at : ℕ} (w : Telling c l
 
 -- ---- the sheet
 
+text-of : (sheet log : List ℕ) (s : SheetValue) → readSheet sheet ≡ taken s → columnsText sheet log ≡ instantsText (s .clocks) log
+unfolding columnsText
+text-of sheet log s f = rw (f, same-clocks s (clocksOnly (s .clocks)) refl [] (callsOf log))
+
 module _ (sheet log : List ℕ) {x : SheetRead} (r : x ≡ sheetRead (readSheet sheet)) where
   pub text-refused : {n : ℕ} → x .answer ≡ Refused n → columnsText sheet log ≡ refusalLine n
   unfolding columnsText
-  text-refused {n} q = by-read (readSheet sheet) refl
-    where
-      by-read : (o : Outcome SheetValue) → readSheet sheet ≡ o → columnsText sheet log ≡ refusalLine n
-      by-read (taken s) f = let z : Done ≡ Refused n = sym (ap (λ (o : Outcome SheetValue). sheetRead o .answer) f) ∙ sym (ap (λ (y : SheetRead). y .answer) r) ∙ q in let k : _≡_ {A = ℕ} 0 1 = cc in absurd (omega arith)
-      by-read (refused k) f =
-          let e : Refused k ≡ Refused n = sym (ap (λ (o : Outcome SheetValue). sheetRead o .answer) f) ∙ sym (ap (λ (y : SheetRead). y .answer) r) ∙ q in
-          let z : k ≡ n = cc in
-          rw (f, z)
+  text-refused q = rw (read-answer Rising 24 sheet x r q)
 
   module _ (q : x .answer ≡ Done) where
+    abbrev read : SheetTaken Rising 24 sheet x r
+    read = sheet-taken Rising 24 sheet x r q
+
+    as-many : x .sheet .clocks ≡ read .value .clocks
+    as-many = ap (λ (s : Sheet). s .clocks) (read .sheet)
+
     pub text-read : columnsText sheet log ≡ instantsText (x .sheet .clocks) log
-    unfolding columnsText
-    text-read = by-read (readSheet sheet) refl
-      where
-        by-read : (o : Outcome SheetValue) → readSheet sheet ≡ o → columnsText sheet log ≡ instantsText (x .sheet .clocks) log
-        by-read (refused k) f = let z : Refused k ≡ Done = sym (ap (λ (o : Outcome SheetValue). sheetRead o .answer) f) ∙ sym (ap (λ (y : SheetRead). y .answer) r) ∙ q in let k : _≡_ {A = ℕ} 0 1 = cc in absurd (omega arith)
-        by-read (taken s) f =
-            let c : x .sheet .clocks ≡ s .clocks = ap (λ (y : SheetRead). y .sheet .clocks) r ∙ ap (λ (o : Outcome SheetValue). sheetRead o .sheet .clocks) f in
-            rw (f, c, same-clocks s (clocksOnly (s .clocks)) refl [] (callsOf log))
+    text-read = text-of sheet log (read .value) (read .read) ∙ ap (λ (c : ℕ). instantsText c log) (sym as-many)
 
     pub clocks-read : IsBytes sheet → x .sheet .clocks ≤ 8
-    clocks-read bytes = by-read (readSheet sheet) refl
-      where
-        by-read : (o : Outcome SheetValue) → readSheet sheet ≡ o → x .sheet .clocks ≤ 8
-        by-read (refused k) f = let z : Refused k ≡ Done = sym (ap (λ (o : Outcome SheetValue). sheetRead o .answer) f) ∙ sym (ap (λ (y : SheetRead). y .answer) r) ∙ q in let k : _≡_ {A = ℕ} 0 1 = cc in absurd (omega arith)
-        by-read (taken s) f =
-            let c : x .sheet .clocks ≡ s .clocks = ap (λ (y : SheetRead). y .sheet .clocks) r ∙ ap (λ (o : Outcome SheetValue). sheetRead o .sheet .clocks) f in
-            omega (arith, c, read-limits Rising 24 sheet bytes f .clocks-most)
+    clocks-read bytes = omega (arith, as-many, read-limits Rising 24 sheet bytes (read .read) .clocks-most)
