@@ -36,9 +36,10 @@ use Rattle.theory.proofs.Log.{next-accepts}
 use Rattle.theory.proofs.Opened.{read-limits}
 use Rattle.judge.proofs.monitor.Opened.{SheetTaken, read-answer, sheet-taken}
 use Rattle.text.specs.Text.{columnLine, refusalLine}
-use Rattle.text.specs.Output.{linesFrom, tagLines, columnsText, printed, printedAs}
+use Rattle.text.specs.Output.{tagLines, columnsText, printed, printedAs}
 use Rattle.text.specs.Built.{tagsText, PutTags, clocksOnly, instantsText, InstantsReady}
-use Rattle.text.proofs.put.Laws.{Putting, putting-start, putting-more, lines-room, all-put}
+use Rattle.text.proofs.put.Laws.{putting-start, Printing, printed-end, printed-refused, taken-room, printing-more}
+use Rattle.text.proofs.put.Laws as put
 
 -- ---- the tags of an instant
 
@@ -112,36 +113,32 @@ span-bytes b i h e = rw e (by-record (recordAt b i))
     by-record Torn = all-drop IsByte i b h
     by-record (Whole k n) = all-take IsByte (4 + n) (drop i b) (all-drop IsByte i b h)
 
--- the lines of the instants from a place of the log on
-abbrev pub linesAt : ℕ → List Instant → List ℕ → ℕ → List ℕ
-linesAt c run log at = linesFrom tagLines (suc (length run)) (acceptsEach (clocksOnly c) run (callsOf (drop at log)))
-
 -- ---- a turn
 
 pub record Telling (c : ℕ) (log out₀ out : List ℕ) (n end at : ℕ) : Type 0 where
   pub run : List Instant
   pub counted : n ≡ length run
-  pub putting : Putting (instantsText c log) out₀ out end (linesAt c run log at)
+  pub printing : Printing tagLines (instantsText c log) out₀ out end (length run) (acceptsEach (clocksOnly c) run (callsOf (drop at log)))
 
 pub telling-start : (c : ℕ) (log out : List ℕ) → Telling c log out out 0 0 0
-telling-start c log out = record { run = []; counted = refl; putting = putting-start (instantsText c log) out }
+telling-start c log out = record { run = []; counted = refl; printing = record { putting = putting-start (instantsText c log) out } }
 
 module _ {c : ℕ} {log out₀ out : List ℕ} {n end at : ℕ} (w : Telling c log out₀ out n end at) (ready : InstantsReady c log out₀) where
   pub told-end : length log ≤ at → printedAs end out ≡ printed (instantsText c log) out₀
-  unfolding linesFrom acceptsEach
-  told-end h = all-put (w .putting) (rw (drop-of-length-le log {i = at} h, no-pieces)) (ready .room)
+  unfolding acceptsEach
+  told-end h = printed-end (w .printing) (ready .room) (rw (drop-of-length-le log {i = at} h, no-pieces))
 
   module _ {p : List ℕ} (h : TheRecord log at p) where
-    module _ {k : ℕ} (e : accepts (clocksOnly c) (w .run) p ≡ refused k) where
-      refused-lines : linesAt c (w .run) log at ≡ refusalLine k ++ []
-      unfolding linesFrom
-      refused-lines = rw (next-accepts h (clocksOnly c) (w .run), e) (sym (append-nil (refusalLine k)))
+    -- what the records from this one on are taken for
+    outcomes : acceptsEach (clocksOnly c) (w .run) (callsOf (drop at log)) ≡ accepts (clocksOnly c) (w .run) p ∷ acceptsEach (clocksOnly c) (listAfter (w .run) (accepts (clocksOnly c) (w .run) p)) (callsOf (drop (at + length p) log))
+    outcomes = next-accepts h (clocksOnly c) (w .run)
 
+    module _ {k : ℕ} (e : accepts (clocksOnly c) (w .run) p ≡ refused k) where
       pub refused-room : end + length (refusalLine k) ≤ length out
-      refused-room = lines-room (w .putting) (refusalLine k) [] refused-lines (ready .room)
+      refused-room = put.refused-room (w .printing) (ready .room) (rw e at outcomes)
 
       pub told-refused : {next : List ℕ} {last : ℕ} → next ≡ puts out end (refusalLine k) → last ≡ end + length (refusalLine k) → printedAs last next ≡ printed (instantsText c log) out₀
-      told-refused q f = all-put (putting-more (w .putting) (refusalLine k) [] refused-lines q f) refl (ready .room)
+      told-refused q f = printed-refused (w .printing) (ready .room) (rw e at outcomes) q f
 
     module _ {x : InstantRead} (r : x ≡ instantRead (readNext c n p)) where
       -- what the machine takes the record for
@@ -171,25 +168,21 @@ module _ {c : ℕ} {log out₀ out : List ℕ} {n end at : ℕ} (w : Telling c l
           tags-read =
               ap (λ (v : code.Instant). tagsText c (v .tags)) (was-read .struct) ∙ (ap (flatMap columnLine) (places-in-use (λ (cell : Cell). cell .tag) (pos 0) c cells (read-writes c p bytes (is-next .read) .size)))
 
-          abbrev rest : List ℕ
-          rest = linesAt c (w .run ++ (cells ∷ [])) log (at + length p)
-
-          taken-lines : linesAt c (w .run) log at ≡ tagsText c (x .instant .tags) ++ rest
-          unfolding linesFrom
-          taken-lines =
-              let k : suc (length (w .run)) ≡ length (w .run ++ (cells ∷ [])) = omega (arith, length-append (w .run) (cells ∷ [])) in
-              rw (next-accepts h (clocksOnly c) (w .run), taken-for (was-read .is), tags-read, k)
+          taken-first : acceptsEach (clocksOnly c) (w .run) (callsOf (drop at log)) ≡ taken cells ∷ acceptsEach (clocksOnly c) (w .run ++ (cells ∷ [])) (callsOf (drop (at + length p) log))
+          taken-first = rw (taken-for (was-read .is)) at outcomes
 
           pub tags-room : end + length (tagsText c (x .instant .tags)) ≤ length out
-          tags-room = lines-room (w .putting) (tagsText c (x .instant .tags)) rest taken-lines (ready .room)
+          tags-room = taken-room (w .printing) (ready .room) taken-first tags-read
 
           pub told-more : {next : List ℕ} {last : ℕ} → next ≡ puts out end (tagsText c (x .instant .tags)) → last ≡ end + length (tagsText c (x .instant .tags))
               → Telling c log out₀ next (n + 1) last (at + length p)
-          told-more q f = record {
-            run = w .run ++ (cells ∷ []);
-            counted = omega (arith, w .counted, length-append (w .run) (cells ∷ []));
-            putting = putting-more (w .putting) (tagsText c (x .instant .tags)) rest taken-lines q f;
-          }
+          told-more q f =
+              let more : length (w .run ++ (cells ∷ [])) ≡ suc (length (w .run)) = omega (arith, length-append (w .run) (cells ∷ [])) in
+              record {
+                run = w .run ++ (cells ∷ []);
+                counted = omega (arith, w .counted);
+                printing = rw more (printing-more (w .printing) (ready .room) taken-first tags-read q f);
+              }
 
 -- ---- the sheet
 

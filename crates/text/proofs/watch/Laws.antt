@@ -1,5 +1,5 @@
 -- The replies to a log, a line each: every call follows the plain machine, so the lines put so far and those of its replies from here on are the lines of its replies to the log. Assumes nothing.
-use mathlib.Core.List.{List, [], _∷_, _++_, append-nil}
+use mathlib.Core.List.{List, [], _∷_}
 use mathlib.Core.Path.{_≡_, refl, sym, ap, _∙_, subst}
 use Prim.Native.Nat.{ℕ, suc, _+_, _≤_}
 use native.Mathlib.Omega.{arith}
@@ -23,23 +23,20 @@ use Rattle.judge.specs.Monitor.{sheetBy}
 use Rattle.judge.specs.Promises.{Follows, Opened, Observed}
 use Rattle.judge.proofs.Demands.{observing-follows}
 use Rattle.text.specs.Text.{answerLine, refusalLine}
-use Rattle.text.specs.Output.{linesFrom, watchText, printed, printedAs}
+use Rattle.text.specs.Output.{watchText, printed, printedAs}
 use Rattle.text.specs.Built.{repliesText, RepliesReady}
-use Rattle.text.proofs.put.Laws.{Putting, putting-start, putting-more, lines-room, all-put}
-
--- the lines of the machine's replies to the records from a place on
-abbrev pub linesAt : SheetValue → List Instant → List ℕ → ℕ → List ℕ
-linesAt s run log at = linesFrom answerLine (suc (length run)) (machine s run (callsOf (drop at log)))
+use Rattle.text.proofs.put.Laws.{putting-start, Printing, printed-end, printed-refused, taken-room, printing-more}
+use Rattle.text.proofs.put.Laws as put
 
 -- ---- a turn; m₀ is the monitor at the start
 
 pub record Telling (log out₀ : List ℕ) (m₀ : Monitor) (out : List ℕ) (m : Monitor) (end at : ℕ) : Type 0 where
   pub run : List Instant
   pub follows : Follows (sheetBy m₀) run m
-  pub putting : Putting (repliesText m₀ log) out₀ out end (linesAt (sheetBy m₀) run log at)
+  pub printing : Printing answerLine (repliesText m₀ log) out₀ out end (length run) (machine (sheetBy m₀) run (callsOf (drop at log)))
 
 pub telling-start : (log out : List ℕ) (m : Monitor) → RepliesReady m log out → Telling log out m out m 0 0
-telling-start log out m h = record { run = []; follows = h .follows; putting = putting-start (repliesText m log) out }
+telling-start log out m h = record { run = []; follows = h .follows; printing = record { putting = putting-start (repliesText m log) out } }
 
 -- a reply that is an answer was given to one instant more
 accepted-one : (s : SheetValue) (run : List Instant) (o : Outcome Instant) {a : Answer} → reply s run o ≡ taken a → length (listAfter run o) ≡ suc (length run)
@@ -48,8 +45,8 @@ accepted-one s run (refused n) e = refused-taken e
 
 module _ {log out₀ out : List ℕ} {m₀ m : Monitor} {end at : ℕ} (w : Telling log out₀ m₀ out m end at) (ready : RepliesReady m₀ log out₀) where
   pub told-end : length log ≤ at → printedAs end out ≡ printed (repliesText m₀ log) out₀
-  unfolding linesFrom machine
-  told-end h = all-put (w .putting) (rw (drop-of-length-le log {i = at} h, no-pieces)) (ready .room)
+  unfolding machine
+  told-end h = printed-end (w .printing) (ready .room) (rw (drop-of-length-le log {i = at} h, no-pieces))
 
   module _ {p : List ℕ} (h : TheRecord log at p) {g : CallResult} (o : Observed m p g) where
     abbrev s : SheetValue
@@ -65,16 +62,16 @@ module _ {log out₀ out : List ℕ} {m₀ m : Monitor} {end at : ℕ} (w : Tell
     follows-after : Follows s after (g .monitor)
     follows-after = observing-follows s (w .run) m (g .monitor) p (replyOf (g .reply)) (w .follows) (g, o, refl, refl) .follows
 
-    module _ {n : ℕ} (e : g .reply ≡ reply.Refused n) where
-      refused-lines : linesAt s (w .run) log at ≡ refusalLine n ++ []
-      unfolding linesFrom
-      refused-lines = rw (next-replies h s (w .run), ← same-reply, e) (sym (append-nil (refusalLine n)))
+    -- the replies from this record on
+    replies : machine s (w .run) (callsOf (drop at log)) ≡ replyOf (g .reply) ∷ machine s after (callsOf (drop (at + length p) log))
+    replies = rw (next-replies h s (w .run), ← same-reply)
 
+    module _ {n : ℕ} (e : g .reply ≡ reply.Refused n) where
       pub refused-room : end + length (refusalLine n) ≤ length out
-      refused-room = lines-room (w .putting) (refusalLine n) [] refused-lines (ready .room)
+      refused-room = put.refused-room (w .printing) (ready .room) (rw e at replies)
 
       pub told-refused : {next : List ℕ} {last : ℕ} → next ≡ puts out end (refusalLine n) → last ≡ end + length (refusalLine n) → printedAs last next ≡ printed (repliesText m₀ log) out₀
-      told-refused q f = all-put (putting-more (w .putting) (refusalLine n) [] refused-lines q f) refl (ready .room)
+      told-refused q f = printed-refused (w .printing) (ready .room) (rw e at replies) q f
 
     module _ {a : code.Answer} (e : g .reply ≡ reply.Answered a) where
       one-more : length after ≡ suc (length (w .run))
@@ -84,15 +81,14 @@ module _ {log out₀ out : List ℕ} {m₀ m : Monitor} {end at : ℕ} (w : Tell
       abbrev line : List ℕ
       line = answerLine (g .monitor .instants) (answerOf a)
 
-      answered-lines : linesAt s (w .run) log at ≡ line ++ linesAt s after log (at + length p)
-      unfolding linesFrom
-      answered-lines = rw (next-replies h s (w .run), ← same-reply, e, ← one-more, ← follows-after .instants)
+      numbered : line ≡ answerLine (suc (length (w .run))) (answerOf a)
+      numbered = rw (← one-more, follows-after .instants)
 
       pub answered-room : end + length line ≤ length out
-      answered-room = lines-room (w .putting) line (linesAt s after log (at + length p)) answered-lines (ready .room)
+      answered-room = taken-room (w .printing) (ready .room) (rw e at replies) numbered
 
       pub told-more : {next : List ℕ} {last : ℕ} → next ≡ puts out end line → last ≡ end + length line → Telling log out₀ m₀ next (g .monitor) last (at + length p)
-      told-more q f = record { run = after; follows = follows-after; putting = putting-more (w .putting) line (linesAt s after log (at + length p)) answered-lines q f }
+      told-more q f = record { run = after; follows = follows-after; printing = rw one-more (printing-more (w .printing) (ready .room) (rw e at replies) numbered q f) }
 
 -- ---- the opening
 

@@ -61,7 +61,7 @@ put-line-requires c κs =
 same-length : tie.Need-same-length Inv-loop μ-loop
 same-length c =
     let p = c .before .before in
-    put-size (p .put-line .ensures) ∙ same-size (head (refusing (p .before) .before .before) .loop .inv .putting)
+    put-size (p .put-line .ensures) ∙ same-size (head (refusing (p .before) .before .before) .loop .inv .printing .putting)
 
 returns : tie.Need-returns Inv-loop μ-loop
 returns c =
@@ -109,7 +109,7 @@ loop-again c =
     told-more (h .loop .inv) (start h .pre) (here (r .before)) (r .read-next .ensures) (e .enum-told .given .1) (bytes (r .before)) (p .put-tags .ensures .stored) (p .put-tags .ensures .ends)
 
 same-length-2 : tie.Need-same-length-2 Inv-loop μ-loop
-same-length-2 c = same-size (c .before .loop .inv .putting)
+same-length-2 c = same-size (c .before .loop .inv .printing .putting)
 
 returns-2 : tie.Need-returns-2 Inv-loop μ-loop
 returns-2 c = told-end (c .before .loop .inv) (start (c .before) .pre) (c .loop-test .left)

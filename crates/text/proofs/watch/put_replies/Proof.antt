@@ -53,7 +53,7 @@ put-line-requires c κs =
 same-length : tie.Need-same-length Inv-loop μ-loop
 same-length c =
     let p = c .before .before in
-    put-size (p .put-line .ensures) ∙ same-size (head (refusing (p .before) .before .before) .loop .inv .putting)
+    put-size (p .put-line .ensures) ∙ same-size (head (refusing (p .before) .before .before) .loop .inv .printing .putting)
 
 returns : tie.Need-returns Inv-loop μ-loop
 returns c =
@@ -93,7 +93,7 @@ loop-again c =
     (put-bytes (p .put-line2 .ensures) (line .answer-line .ensures .1)) (put-end (p .put-line2 .ensures) (line .answer-line .ensures .1))
 
 same-length-2 : tie.Need-same-length-2 Inv-loop μ-loop
-same-length-2 c = same-size (c .before .loop .inv .putting)
+same-length-2 c = same-size (c .before .loop .inv .printing .putting)
 
 returns-2 : tie.Need-returns-2 Inv-loop μ-loop
 returns-2 c = told-end (c .before .loop .inv) (start (c .before) .pre) (c .loop-test .left)
