@@ -56,7 +56,7 @@ pub(crate) fn progress_of(monitor: Monitor) -> Progress
 }
 
 // Of no instant: one remainder, in the first row of the first side.
-pub fn first_progress() -> Progress
+pub(crate) fn first_progress() -> Progress
     ensures { λ k. ⌜ k ≡ firstProgress ⌝ }
 {
     let tags = [0i16; 8];

@@ -83,7 +83,7 @@ fn start_row(rows: &mut [u32; SIZE], i: usize, s: Sheet) -> bool
 }
 
 // Stores the remainder of no instant in the first row of the first side, where all words are 0.
-pub fn begin_rows(rows: &mut [u32; SIZE], s: Sheet)
+fn begin_rows(rows: &mut [u32; SIZE], s: Sheet)
     requires { ⌜ BlankRow (now rows) headRows ⌝ }
     ensures { λ _. ⌜ BegunRows (sheetValue s) (now (rows .entry)) (now (rows .exit)) ⌝ }
 {

@@ -1,4 +1,5 @@
 pub mod Finding
+pub mod StoredRow
 pub mod Stored
 pub mod Keeping
 pub mod Observing
