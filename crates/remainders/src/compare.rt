@@ -87,7 +87,7 @@ fn larger_set(rows: &[u32; SIZE], x: usize) -> usize
     OBLIGATIONS
 }
 
-// Row first + n is one of the n rows from `first` on; the comparison stops at the first equal one. The larger set's count tells most rows apart, so it is asked first; obligation by obligation comes last.
+// Row first + n is one of the n rows from `first` on; the comparison stops at the first equal one. The larger set's count tells most rows apart, so it is asked first; what is in the sets comes last, and not at all where both are empty.
 pub fn is_duplicate(
     rows: &[u32; SIZE],
     first: usize,
@@ -105,6 +105,8 @@ pub fn is_duplicate(
     let x = first + n;
     let larger = larger_set(rows, x);
     let count = row_count(rows, x, larger);
+    let smaller = COUNTDOWNS - larger;
+    let fewer = row_count(rows, x, smaller);
     let owed = row_count(rows, x, OBLIGATIONS);
     let mut k = 0;
     'held: while k < n {
@@ -119,16 +121,18 @@ pub fn is_duplicate(
         if !same_stopped(rows, i, x, clocks) {
             continue;
         }
-        if row_count(rows, i, OBLIGATIONS) != owed {
+        if row_count(rows, i, smaller) != fewer {
             continue;
+        }
+        if count == 0 {
+            return true;
         }
         if !same_set(rows, i, x, COUNTDOWNS) {
             continue;
         }
         let mut j = 0;
         while j < owed {
-            let obligation = obligation_at(rows, i, OBLIGATIONS, j);
-            if !row_owes(rows, x, OBLIGATIONS, obligation) {
+            if !row_owes(rows, x, OBLIGATIONS, obligation_at(rows, i, OBLIGATIONS, j)) {
                 continue 'held;
             }
             j += 1;

@@ -126,6 +126,22 @@ module _ (r : List ℕ) (x i part : ℕ) where
   pub set-equal : rowCount r x part ≡ rowCount r i part → below (rowCount r i part) (hasAt r x i part) ≡ true → true ≡ setSame r x i part
   set-equal z o = sym (by-places ∙ ap₂ _&&_ (eq-eqb (rowCount r x part) (rowCount r i part) z) o)
 
+-- two rows of which the larger set of row x has as many, and the other
+module _ (r : List ℕ) (x i : ℕ) where
+  pub same-owed : (part : ℕ) → part < parts → rowCount r i part ≡ rowCount r x part → rowCount r i (1 - part) ≡ rowCount r x (1 - part) → rowCount r i 0 ≡ rowCount r x 0
+  same-owed zero h a b = a
+  same-owed (suc zero) h a b = b
+  same-owed (suc (suc part)) h a b = absurd (omega arith)
+
+  empty-set : (part : ℕ) → rowCount r x part ≡ 0 → rowCount r i part ≡ 0 → setSame r x i part ≡ true
+  empty-set part a b = sym (set-equal r x i part (a ∙ sym b) (ap (λ (n : ℕ). below n (hasAt r x i part)) b))
+
+  -- with nothing in them
+  pub empty-sets : (part : ℕ) → part < parts → rowCount r x part ≡ 0 → rowCount r x (1 - part) ≤ rowCount r x part → rowCount r i part ≡ rowCount r x part → rowCount r i (1 - part) ≡ rowCount r x (1 - part) → below parts (setSame r x i) ≡ true
+  empty-sets zero h z l a b = ap₂ _&&_ (empty-set 0 z (a ∙ z)) (empty-set 1 (omega arith) (omega arith))
+  empty-sets (suc zero) h z l a b = ap₂ _&&_ (empty-set 0 (omega arith) (omega arith)) (empty-set 1 z (a ∙ z))
+  empty-sets (suc (suc part)) h z l a b = absurd (omega arith)
+
 module _ (clocks leaders : ℕ) (precede : List Bool) (r : List ℕ) (x : ℕ) where
   abbrev stopsSame : ℕ → Bool
   stopsSame i = below clocks (λ k. Bool·beq (rowStop r x k) (rowStop r i k))
