@@ -202,12 +202,15 @@ fn check_at(s: Sheet, i: usize, l: Line, order: Order, spent: usize) -> Decision
 {
     match check_line(l, s.clocks, spent) {
         Decision::Refused(n) => Decision::Refused(n),
-        Decision::Done => {
-            if in_order(order, s, i, l) {
-                return Decision::Done;
+        Decision::Done => match order {
+            Order::Any => Decision::Done,
+            Order::Rising => {
+                if above_last(s, i, l) {
+                    return Decision::Done;
+                }
+                Decision::Refused(number::NOT_ABOVE)
             }
-            Decision::Refused(number::NOT_ABOVE)
-        }
+        },
     }
 }
 

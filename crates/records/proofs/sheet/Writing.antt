@@ -9,7 +9,7 @@ use lib.Dec.{leb, ltb}
 use borrow.Author.Tests.{le-ltb, lt-ltb, ltb-false, leb-true, not-true, not-false}
 use Rattle.records.specs.declared.line.Line.{Line}
 use Rattle.records.specs.declared.order.Order.{Order}
-use Rattle.records.specs.declared.order.Order.the-variants.{Rising}
+use Rattle.records.specs.declared.order.Order.the-variants.{Rising, Any}
 use Rattle.records.specs.declared.sheet.Sheet.{Sheet}
 use Rattle.records.specs.declared.record.Decision.{Decision}
 use Rattle.records.specs.declared.record.Decision.the-variants as answer
@@ -19,7 +19,7 @@ use Rattle.records.specs.Lists.{listedFrom, listed, joined}
 use Rattle.records.specs.Word.{wordBytes}
 use Rattle.records.specs.Store.{puts, wrote, leaves}
 use Rattle.records.specs.Line.{isSporadic, sporadics, valueLineChecks, kindOf, bodyOf, lineBytes}
-use Rattle.records.specs.Order.{keyOf, inOrder}
+use Rattle.records.specs.Order.{keyOf, aboveLast}
 use Rattle.records.specs.Sheet.{clockCount, lineAt, sheetValue, orderChecks, valueLinesChecks, sheetValueChecks, sheetBytes, writeSheet}
 use Rattle.records.specs.Types.{All, IsLineValue}
 use Rattle.records.specs.Inner.{sporadicOf, answered, linesFault, LineChecked, LinesChecked, Checked}
@@ -91,12 +91,15 @@ module _ (order : Order) (s : Sheet) (i spent : ℕ) (l : Line) (r : Decision) (
     left-to : decide (own ++ place) l ≡ decide place l
     left-to = decide-passed place l own (answered-done own l (sym (f .0) ∙ g))
 
-    module _ (b : Bool) (o : b ≡ inOrder order (map keyOf (listed (lineAt s) i)) (keyOf l)) where
-      pub at-done : b ≡ true → LineChecked order s i spent l answer.Done
-      at-done h = record { answer = rw (left-to, sym o ∙ h); value = f .1 }
+    pub at-any : order ≡ Any → LineChecked order s i spent l answer.Done
+    at-any e = record { answer = rw (left-to, e); value = f .1 }
+
+    module _ (e : order ≡ Rising) (b : Bool) (o : b ≡ aboveLast (map keyOf (listed (lineAt s) i)) (keyOf l)) where
+      pub at-above : b ≡ true → LineChecked order s i spent l answer.Done
+      at-above h = record { answer = rw (left-to, e, sym o ∙ h); value = f .1 }
 
       pub at-17 : b ≡ false → LineChecked order s i spent l (answer.Refused 17)
-      at-17 h = record { answer = rw (left-to, sym o ∙ h); value = f .1 }
+      at-17 h = record { answer = rw (left-to, e, sym o ∙ h); value = f .1 }
 
 -- ---- a turn of `check_lines`: the lines below i have passed
 module _ (order : Order) (s : Sheet) (i spent : ℕ) where
