@@ -101,13 +101,13 @@ LiftDemand3 = (sheet : List ℕ) (calls : List (List ℕ)) (r : LiftRan sheet ca
 
 -- ---- numbered instants (document 02, Q-5)
 
--- each call that was accepted, as the number in its result's lowest byte tells, was handed a record of `all`, numbered from 1
+-- each call that was accepted, as the number in its result's lowest byte tells, was handed a record of `lift`, numbered from 1
 abbrev pub LiftAcceptedFrom : List Instant → ℕ → List (List ℕ) → List ℕ → Type 0
-LiftAcceptedFrom all c [] results = Unit {0}
-LiftAcceptedFrom all c (bytes ∷ calls) [] = Unit {0}
-LiftAcceptedFrom all c (bytes ∷ calls) (r ∷ results) = (r % 256 ≡ 0 → RecordOf all c bytes) × LiftAcceptedFrom all c calls results
+LiftAcceptedFrom lift c [] results = Unit {0}
+LiftAcceptedFrom lift c (bytes ∷ calls) [] = Unit {0}
+LiftAcceptedFrom lift c (bytes ∷ calls) (r ∷ results) = (r % 256 ≡ 0 → RecordOf lift c bytes) × LiftAcceptedFrom lift c calls results
 
--- then the run is a beginning of `all`, and the last words follow it
+-- then the run is a beginning of `lift`, and the last words follow it
 abbrev pub LiftNumbered : Type 0
-LiftNumbered = (all : List Instant) (sheet : List ℕ) (calls : List (List ℕ)) (r : LiftRan sheet calls) (s : SheetValue) → readSheet sheet ≡ taken s
-    → LiftAcceptedFrom all (s .clocks) calls (r .results) → RunsAlong FollowsIn all s calls (some (r .last))
+LiftNumbered = (lift : List Instant) (sheet : List ℕ) (calls : List (List ℕ)) (r : LiftRan sheet calls) (s : SheetValue) → readSheet sheet ≡ taken s
+    → LiftAcceptedFrom lift (s .clocks) calls (r .results) → RunsAlong FollowsIn lift s calls (some (r .last))

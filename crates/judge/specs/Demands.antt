@@ -86,9 +86,9 @@ SortedAnswers =
 
 -- ---- numbered instants (document 02, Q-5)
 
--- for every list of instants `all` and every list of calls of which each that was accepted was handed bytes that are read as kind 33, with the number k + 1 and the ticks and tags of all[k], for some k of its own:
--- the run is a beginning of `all`, and the last monitor follows it, whatever was dropped, repeated or reordered on the way, and whatever bytes the refused calls were handed
+-- for every list of instants `lift` and every list of calls of which each that was accepted was handed bytes that are read as kind 33, with the number k + 1 and the ticks and tags of lift[k], for some k of its own:
+-- the run is a beginning of `lift`, and the last monitor follows it, whatever was dropped, repeated or reordered on the way, and whatever bytes the refused calls were handed
 abbrev pub NumberedRun : Reader → Type 0
-NumberedRun read = (all : List Instant) (sheet : List ℕ) (calls : List (List ℕ)) (answered : Session) (last : Option Monitor)
+NumberedRun read = (lift : List Instant) (sheet : List ℕ) (calls : List (List ℕ)) (answered : Session) (last : Option Monitor)
     → Ran (Opens read) Observes sheet calls answered last
-    → (s : SheetValue) → read sheet ≡ taken s → AcceptedFrom all (s .clocks) calls (answered .replies) → RunsAlong Follows all s calls last
+    → (s : SheetValue) → read sheet ≡ taken s → AcceptedFrom lift (s .clocks) calls (answered .replies) → RunsAlong Follows lift s calls last

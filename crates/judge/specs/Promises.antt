@@ -31,7 +31,7 @@ pub record Follows (s : SheetValue) (run : List Instant) (m : Monitor) : Type 0 
   pub last : lastBy m ≡ lastOf (map tagsOf run)
   pub said : saidBy (heldBy m) ≡ answer s run
   pub held : saidBy (heldBy m) ≢ exhausted → EachOnce sameRemainder (heldList (heldBy m)) (remainders s run)
-  pub owed : All (λ (r : Remainder). T (apart sameObligation (r .owed)) × T (apart sameCountdown (r .countdowns))) (heldList (heldBy m))
+  pub once-each : All (λ (r : Remainder). T (apart sameObligation (r .owed)) × T (apart sameCountdown (r .countdowns))) (heldList (heldBy m))
   pub limits : monitorWithin m ≡ true
 
 -- ---- opening

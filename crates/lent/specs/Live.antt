@@ -111,8 +111,8 @@ abbrev pub Demand2In : Reader → Type 0
 Demand2In read = (sheet : List ℕ) (calls : List (List ℕ)) (answered : Session) (last : Option (List ℕ))
     → Ran (OpensIn read) ObservesIn sheet calls answered last → EachAnswer SeenJudged read sheet calls answered
 
--- calls of which each that was accepted was handed a record of `all`, numbered from 1: the run is a beginning of `all`, and the last words follow it
+-- calls of which each that was accepted was handed a record of `lift`, numbered from 1: the run is a beginning of `lift`, and the last words follow it
 abbrev pub NumberedRunIn : Reader → Type 0
-NumberedRunIn read = (all : List Instant) (sheet : List ℕ) (calls : List (List ℕ)) (answered : Session) (last : Option (List ℕ))
+NumberedRunIn read = (lift : List Instant) (sheet : List ℕ) (calls : List (List ℕ)) (answered : Session) (last : Option (List ℕ))
     → Ran (OpensIn read) ObservesIn sheet calls answered last
-    → (s : SheetValue) → read sheet ≡ taken s → AcceptedFrom all (s .clocks) calls (answered .replies) → RunsAlong FollowsIn all s calls last
+    → (s : SheetValue) → read sheet ≡ taken s → AcceptedFrom lift (s .clocks) calls (answered .replies) → RunsAlong FollowsIn lift s calls last

@@ -122,8 +122,8 @@ abbrev pub leftBy : List Filled → List Countdown → List Countdown
 leftBy later cs = flatMap (leftOf later) cs
 
 -- those of a run: begun in it, and left by the instants from the following one on
-abbrev pub countdowns : List Line → List Filled → List Countdown
-countdowns ls run = byLater (λ f later. leftBy later (flatMap (countedFrom f) ls)) run
+abbrev pub runCountdowns : List Line → List Filled → List Countdown
+runCountdowns ls run = byLater (λ f later. leftBy later (flatMap (countedFrom f) ls)) run
 
 -- ---- a filled run fits
 unfoldable pub fits : SheetValue → List Filled → Bool

@@ -48,16 +48,16 @@ pub record Session : Type 0 where
   pub opening : Outcome Answer
   pub replies : List (Outcome Answer)
 
-abbrev pub opened : List (List ℕ) → Outcome SheetValue → Session
-opened calls (taken s) = record { opening = taken (answer s []); replies = machine s [] calls }
-opened calls (refused n) = record { opening = refused n; replies = [] }
+abbrev pub openedWith : List (List ℕ) → Outcome SheetValue → Session
+openedWith calls (taken s) = record { opening = taken (answer s []); replies = machine s [] calls }
+openedWith calls (refused n) = record { opening = refused n; replies = [] }
 
 -- how a sheet's bytes are read
 abbrev pub Reader : Type 0
 Reader = List ℕ → Outcome SheetValue
 
 unfoldable pub session : Reader → List ℕ → List (List ℕ) → Session
-session read sheet calls = opened calls (read sheet)
+session read sheet calls = openedWith calls (read sheet)
 
 -- ---- the whole log
 

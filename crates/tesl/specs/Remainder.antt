@@ -9,7 +9,7 @@ use Rattle.records.specs.Line.{ofPrecedes, ofKills}
 use Rattle.records.specs.Sheet.{SheetValue}
 use Rattle.tesl.specs.Lists.{any, distinct, within, sameList, table}
 use Rattle.tesl.specs.Run.{Filled, ticksAt}
-use Rattle.tesl.specs.Fits.{eqZ, ticksIn, mostTag, Obligation, unmet, Countdown, countdowns}
+use Rattle.tesl.specs.Fits.{eqZ, ticksIn, mostTag, Obligation, unmet, Countdown, runCountdowns}
 
 pub record Remainder : Type 0 where
   -- the set of the unmet obligations
@@ -32,7 +32,7 @@ stops run k l = ofKills false (λ A B. eqb B k && any (λ (g : Filled). ticksAt 
 unfoldable pub remainder : SheetValue → List Filled → Remainder
 remainder s run = record {
   owed = unmet mostTag (s .lines) run;
-  countdowns = countdowns (s .lines) run;
+  countdowns = runCountdowns (s .lines) run;
   leads = map (leadOf run) (s .lines);
   stopped = table (s .clocks) (λ k. any (stops run k) (s .lines));
 }

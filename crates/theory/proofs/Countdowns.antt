@@ -9,7 +9,7 @@ use Rattle.records.specs.declared.line.Line.{Line}
 use Rattle.records.specs.declared.line.Line.the-variants.{Counted}
 use Rattle.tesl.specs.Lists.{all, flatMap}
 use Rattle.tesl.specs.Run.{Filled, ticksAt}
-use Rattle.tesl.specs.Fits.{ticksIn, nthTick, countedAt, Countdown, countedFrom, leftOf, leftBy, countdowns}
+use Rattle.tesl.specs.Fits.{ticksIn, nthTick, countedAt, Countdown, countedFrom, leftOf, leftBy, runCountdowns}
 use Rattle.theory.specs.Step.{misses, noneMissed, nextCountdowns}
 use Rattle.tesl.proofs.Tests.{T→≡}
 use Rattle.tesl.proofs.FormulaLists.{all-append, count-append, count-snoc}
@@ -53,11 +53,11 @@ all-left-snoc : (later : List Filled) (f : Filled) (cs : List Countdown) → lef
 all-left-snoc later f cs =
     ap (λ (g : Countdown → List Countdown). flatMap g cs) (fun-ext (λ c. left-snoc later f c)) ∙ sym (flatMap-flatMap (leftOf (f ∷ [])) (leftOf later) cs)
 
-pub countdowns-snoc : (ls : List Line) (run : List Filled) (f : Filled) → countdowns ls (run ++ (f ∷ [])) ≡ nextCountdowns ls f (countdowns ls run)
+pub countdowns-snoc : (ls : List Line) (run : List Filled) (f : Filled) → runCountdowns ls (run ++ (f ∷ [])) ≡ nextCountdowns ls f (runCountdowns ls run)
 countdowns-snoc ls run f =
     byLater-snoc (λ g later. leftBy later (flatMap (countedFrom g) ls)) (leftBy (f ∷ [])) refl (flatMap-append (leftOf (f ∷ []))) f
     (λ g later. all-left-snoc later f (flatMap (countedFrom g) ls)) run
-    ∙ ap (λ (cs : List Countdown). leftBy (f ∷ []) (countdowns ls run) ++ cs) (flatMap-flatMap (leftOf []) (countedFrom f) ls)
+    ∙ ap (λ (cs : List Countdown). leftBy (f ∷ []) (runCountdowns ls run) ++ cs) (flatMap-flatMap (leftOf []) (countedFrom f) ls)
 
 -- ---- line by line, for any test
 
@@ -71,27 +71,27 @@ module _ (p : Countdown → Bool) where
   two-left : (later : List Filled) (xs ys : List Countdown) → all p (leftBy later (xs ++ ys)) ≡ (all p (leftBy later xs) && all p (leftBy later ys))
   two-left later xs ys = ap (all p) (flatMap-append (leftOf later) xs ys) ∙ all-append p (leftBy later xs) (leftBy later ys)
 
-  pub one-more-line : (l : Line) (ls : List Line) (run : List Filled) → all p (countdowns (l ∷ ls) run) ≡ (all p (countdowns (l ∷ []) run) && all p (countdowns ls run))
+  pub one-more-line : (l : Line) (ls : List Line) (run : List Filled) → all p (runCountdowns (l ∷ ls) run) ≡ (all p (runCountdowns (l ∷ []) run) && all p (runCountdowns ls run))
   one-more-line l ls [] = refl
   one-more-line l ls (g ∷ later) =
       let xs = countedFrom g l in
       let ys = flatMap (countedFrom g) ls in
       let one = all p (leftBy later xs) in
       let more = all p (leftBy later ys) in
-      let a = all p (countdowns (l ∷ []) later) in
-      let b = all p (countdowns ls later) in
-      all-append p (leftBy later (xs ++ ys)) (countdowns (l ∷ ls) later)
+      let a = all p (runCountdowns (l ∷ []) later) in
+      let b = all p (runCountdowns ls later) in
+      all-append p (leftBy later (xs ++ ys)) (runCountdowns (l ∷ ls) later)
       ∙ (λ i. two-left later xs ys i && one-more-line l ls later i)
       ∙ four-and one more a b
       ∙ sym (λ i.
-      (all-append p (leftBy later (xs ++ [])) (countdowns (l ∷ []) later) ∙ ap (λ (zs : List Countdown). all p (leftBy later zs) && a) (append-nil xs)) i
-      && all-append p (leftBy later ys) (countdowns ls later) i)
+      (all-append p (leftBy later (xs ++ [])) (runCountdowns (l ∷ []) later) ∙ ap (λ (zs : List Countdown). all p (leftBy later zs) && a) (append-nil xs)) i
+      && all-append p (leftBy later ys) (runCountdowns ls later) i)
 
   -- a line that begins none has none
-  pub none-begun : (l : Line) → ((f : Filled) → countedFrom f l ≡ []) → (run : List Filled) → all p (countdowns (l ∷ []) run) ≡ true
+  pub none-begun : (l : Line) → ((f : Filled) → countedFrom f l ≡ []) → (run : List Filled) → all p (runCountdowns (l ∷ []) run) ≡ true
   none-begun l e [] = refl
   none-begun l e (g ∷ later) =
-      all-append p (leftBy later (countedFrom g l ++ [])) (countdowns (l ∷ []) later)
+      all-append p (leftBy later (countedFrom g l ++ [])) (runCountdowns (l ∷ []) later)
       ∙ (λ i. all p (leftBy later (e g i ++ [])) && none-begun l e later i)
 
 -- ---- a counted line
@@ -112,11 +112,11 @@ long-past false u d h = refl
 long-past true false d h = refl
 long-past true true d h = absurd (h tt tt)
 
-pub counted-asks : (A B D n : ℕ) (run : List Filled) (f : Filled) → countedAt A B D n run f ≡ noneMissed f (countdowns (Counted A B D n ∷ []) run)
+pub counted-asks : (A B D n : ℕ) (run : List Filled) (f : Filled) → countedAt A B D n run f ≡ noneMissed f (runCountdowns (Counted A B D n ∷ []) run)
 counted-asks A B D n [] f = refl
 counted-asks A B D n (g ∷ between) f =
     (λ i. one (ticksAt g A) i && counted-asks A B D n between f i)
-    ∙ sym (all-append kept (leftBy between (countedFrom g (Counted A B D n) ++ [])) (countdowns (Counted A B D n ∷ []) between))
+    ∙ sym (all-append kept (leftBy between (countedFrom g (Counted A B D n) ++ [])) (runCountdowns (Counted A B D n ∷ []) between))
   where
     kept : Countdown → Bool
     kept c = not (misses f c)

@@ -11,7 +11,7 @@ use Rattle.records.specs.Sheet.{SheetValue}
 use Rattle.records.specs.Types.{All}
 use Rattle.tesl.specs.Lists.{distinct}
 use Rattle.tesl.specs.Run.{Instant, Filled}
-use Rattle.tesl.specs.Fits.{mostTag, unmet, countdowns}
+use Rattle.tesl.specs.Fits.{mostTag, unmet, runCountdowns}
 use Rattle.tesl.specs.Remainder.{remainder, sameRemainder, sameObligation, sameCountdown, distinctCount, owes, counts}
 use Rattle.tesl.specs.Answer.{remainders}
 use Rattle.theory.specs.Sets.{apart}
@@ -65,7 +65,7 @@ kept-all s run on f h = any-member (sameLeft s f) (kept s run)
 
 unfoldable pub all-kept : (s : SheetValue) (run : List Instant) → OnScale mostTag run → Live s run (length (kept s run))
 all-kept s run on = record {
-  leaves = record { these = kept s run; number = refl; each-fits = kept-fits s run on; no-two = of-apart (sameLeft s) (SameLeft s) (left-tested s) (kept s run) (kept-apart s run) };
+  distinct-left = record { these = kept s run; number = refl; each-fits = kept-fits s run on; no-two = of-apart (sameLeft s) (SameLeft s) (left-tested s) (kept s run) (kept-apart s run) };
   no-other = λ f h.
       let g = kept-all s run on f h in
       (g .0, g .1, fitting-left s run f (g .0) h (of-each (Fitting s run) (kept-fits s run on) (g .1)) (g .2));
@@ -112,4 +112,4 @@ owing-number s run n = having-number sameObligation owed-equality s run (Unmet m
 
 pub counting-number : (s : SheetValue) (run : List Instant) (n : ℕ) → CountingDown s run n ↔ ((f : List Filled) × Fitting s run f × (n ≤ counts (remainder s f)))
 unfolding remainder counts
-counting-number s run n = having-number sameCountdown count-equality s run (Counting (s .lines)) (countdowns (s .lines)) (countdowns-listed (s .lines)) n
+counting-number s run n = having-number sameCountdown count-equality s run (Counting (s .lines)) (runCountdowns (s .lines)) (countdowns-listed (s .lines)) n

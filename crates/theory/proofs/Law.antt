@@ -12,7 +12,7 @@ use Rattle.records.specs.Line.{isSporadic, kindOf, ofPrecedes}
 use Rattle.records.specs.Types.{IsTag, IsLineValue}
 use Rattle.tesl.specs.Lists.{all}
 use Rattle.tesl.specs.Run.{Filled, ticksAt, tagAt}
-use Rattle.tesl.specs.Fits.{ticksIn, holdsAt, mostTag, Obligation, owedAtStart, owedFrom, countedFrom, countdowns}
+use Rattle.tesl.specs.Fits.{ticksIn, holdsAt, mostTag, Obligation, owedAtStart, owedFrom, countedFrom, runCountdowns}
 use Rattle.tesl.specs.Remainder.{leadOf, stops}
 use Rattle.theory.specs.Step.{bit, lineOk, nextLead, misses, noneMissed, startedBy, lineBelow}
 use Rattle.theory.specs.Limits.{dueOk, clocksOk, countdownOk}
@@ -46,13 +46,13 @@ pub record Owes (l : Line) : Type 0 where
 
 -- ---- its countdowns: where it holds none is missed; their clocks, and 1 to 255 wanted
 pub record Counts (l : Line) : Type 0 where
-  pub none-missed : (run : List Filled) (f : Filled) → T (holdsAt l run f) → T (noneMissed f (countdowns (l ∷ []) run))
+  pub none-missed : (run : List Filled) (f : Filled) → T (holdsAt l run f) → T (noneMissed f (runCountdowns (l ∷ []) run))
   pub begun-limits : (c : ℕ) (f : Filled) → T (lineBelow c l) → IsLineValue l → T (all (countdownOk c) (startedBy f l))
 
 -- ---- the step asks of it what the definition asks, where no clock that it has stopped ticks and none of its countdowns is missed
 pub record Judged (l : Line) : Type 0 where
   pub asks : (run : List Filled) (f : Filled) → T (ordered run l) → T (holdsAt l run f) → T (lineOk f l (leadOf run l))
-  pub suffices : (run : List Filled) (f : Filled) → ((k : ℕ) → T (stops run k l) → T (ticksAt f k) → ⊥) → T (noneMissed f (countdowns (l ∷ []) run)) → T (ordered run l)
+  pub suffices : (run : List Filled) (f : Filled) → ((k : ℕ) → T (stops run k l) → T (ticksAt f k) → ⊥) → T (noneMissed f (runCountdowns (l ∷ []) run)) → T (ordered run l)
       → T (lineOk f l (leadOf run l)) → T (holdsAt l run f)
 
 pub record Law (l : Line) : Type 0 where

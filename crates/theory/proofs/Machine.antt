@@ -79,7 +79,7 @@ module _ (P : SheetValue → List Instant → Answer → Type 0) (holds : (s : S
   unfolding session
   each-answer read sheet calls = by-read (read sheet) refl
     where
-      by-read : (o : Outcome SheetValue) → read sheet ≡ o → EachAnswer P read sheet calls (tesl.opened calls o)
+      by-read : (o : Outcome SheetValue) → read sheet ≡ o → EachAnswer P read sheet calls (tesl.openedWith calls o)
       by-read (refused n) e = record { refuses = λ m f. let q : n ≡ m = cc in ap (λ (k : ℕ). record { opening = refused k; replies = [] }) q; reads = λ s f. refused-taken (sym e ∙ f) }
       by-read (taken s) e = record {
         refuses = λ m f. refused-taken (sym f ∙ e);

@@ -114,7 +114,7 @@ answer-said room s run on =
     Clear : Standing → Type 0
     Clear st = (st ≡ clear) ↔ ((f : List Filled) × Fitting s run f × NoneOwed mostTag (s .lines) f)
 
-    by-test : (b : Bool) (ks : List (List Filled)) → T b ↔ Exhausts room s run → (l : Live s run (length ks)) → l .leaves .these ≡ ks → Clear (standing (map (remainder s) ks))
+    by-test : (b : Bool) (ks : List (List Filled)) → T b ↔ Exhausts room s run → (l : Live s run (length ks)) → l .distinct-left .these ≡ ks → Clear (standing (map (remainder s) ks))
         → Said room s run (verdict b (map (remainder s) ks))
     by-test true ks x l e c = record {
       exhausts = (λ q. x .0 tt, λ h. refl);
@@ -128,7 +128,7 @@ answer-said room s run on =
     }
     by-test false (k ∷ ks) x l e c = record {
       exhausts = (λ q. let z : _≡_ {A = ℕ} 0 1 = cc in absurd (omega arith), λ h. absurd (x .1 h));
-      breaks = λ n. (λ q. let z : _≡_ {A = ℕ} 0 1 = cc in absurd (omega arith), λ no. absurd (no k (subst (All (Fitting s run)) e (l .leaves .each-fits) .0)));
+      breaks = λ n. (λ q. let z : _≡_ {A = ℕ} 0 1 = cc in absurd (omega arith), λ no. absurd (no k (subst (All (Fitting s run)) e (l .distinct-left .each-fits) .0)));
       holds = λ live st q.
           let a : length (k ∷ ks) ≡ live = sym (ap suc (length-map ks (remainder s))) ∙ cc in
           let b : standing (map (remainder s) (k ∷ ks)) ≡ st = cc in
@@ -142,9 +142,9 @@ live-one s run n m h k = le-antisymm (at-most n m h k) (at-most m n k h)
   where
     at-most : (n m : ℕ) → Live s run n → Live s run m → n ≤ m
     at-most n m h k =
-        let l = no-more (sameLeft s) (left-equivalence s) (h .leaves .these) (k .leaves .these) (leaves-apart s run n (h .leaves))
-        (λ f u. let g = k .no-other f (of-each (Fitting s run) (h .leaves .each-fits) u) in (g .0, g .1, left-tested s f (g .0) (g .2))) in
-        omega (arith, h .leaves .number, k .leaves .number)
+        let l = no-more (sameLeft s) (left-equivalence s) (h .distinct-left .these) (k .distinct-left .these) (leaves-apart s run n (h .distinct-left))
+        (λ f u. let g = k .no-other f (of-each (Fitting s run) (h .distinct-left .each-fits) u) in (g .0, g .1, left-tested s f (g .0) (g .2))) in
+        omega (arith, h .distinct-left .number, k .distinct-left .number)
 
 standing-one : {X : Type 0} (a b : Standing) → (a ≡ clear) ↔ X → (b ≡ clear) ↔ X → a ≡ b
 standing-one clear b h k = sym (k .1 (h .0 refl))

@@ -15,7 +15,7 @@ use Rattle.records.specs.declared.line.Line.the-variants.{Sporadic, Relation, I
 use Rattle.records.specs.Sheet.{SheetValue}
 use Rattle.tesl.specs.Lists.{any, table}
 use Rattle.tesl.specs.Run.{Filled, ticksAt}
-use Rattle.tesl.specs.Fits.{ticksIn, mostTag, Obligation, unmet, Countdown, countdowns, fits}
+use Rattle.tesl.specs.Fits.{ticksIn, mostTag, Obligation, unmet, Countdown, runCountdowns, fits}
 use Rattle.tesl.specs.Remainder.{leadOf, stops, remainder, sameObligation, sameCountdown, sameRemainder}
 use Rattle.tesl.specs.Formula.{instant, ticksBelow, noInstant, Holds, EachHolds}
 use Rattle.theory.specs.Sets.{SameSet}
@@ -207,8 +207,8 @@ module _ (s : SheetValue) (f g : List Filled) where
   same-unmet : SameSet sameObligation (unmet mostTag (s .lines) f) (unmet mostTag (s .lines) g) ↔ ((o : Obligation) → Unmet mostTag (s .lines) f o ↔ Unmet mostTag (s .lines) g o)
   same-unmet = same-members owed-equality (unmet mostTag (s .lines) f) (unmet mostTag (s .lines) g) (unmet-listed mostTag (s .lines) f) (unmet-listed mostTag (s .lines) g)
 
-  same-counting : SameSet sameCountdown (countdowns (s .lines) f) (countdowns (s .lines) g) ↔ ((c : Countdown) → Counting (s .lines) f c ↔ Counting (s .lines) g c)
-  same-counting = same-members count-equality (countdowns (s .lines) f) (countdowns (s .lines) g) (countdowns-listed (s .lines) f) (countdowns-listed (s .lines) g)
+  same-counting : SameSet sameCountdown (runCountdowns (s .lines) f) (runCountdowns (s .lines) g) ↔ ((c : Countdown) → Counting (s .lines) f c ↔ Counting (s .lines) g c)
+  same-counting = same-members count-equality (runCountdowns (s .lines) f) (runCountdowns (s .lines) g) (countdowns-listed (s .lines) f) (countdowns-listed (s .lines) g)
 
   -- what leaves the same passes the test, whether it fits or not
   pub left-tested : SameLeft s f g → T (sameLeft s f g)

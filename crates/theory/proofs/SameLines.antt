@@ -16,10 +16,10 @@ use Rattle.records.specs.Sheet.{SheetValue}
 use Rattle.records.specs.Sort.{IsIn, SameLines}
 use Rattle.tesl.specs.Lists.{all, any, filter, distinct, within, sameList, beginnings, always, flatMap, byLater, table}
 use Rattle.tesl.specs.Run.{Instant, Filled, tagIn, runFillings}
-use Rattle.tesl.specs.Fits.{lastTags, noneFalls, holdsAt, fitsAt, mostTag, Obligation, meets, owedAtStart, owedFrom, unmetBy, unmet, notLate, countedFrom, leftOf, countdowns, fits}
+use Rattle.tesl.specs.Fits.{lastTags, noneFalls, holdsAt, fitsAt, mostTag, Obligation, meets, owedAtStart, owedFrom, unmetBy, unmet, notLate, countedFrom, leftOf, runCountdowns, fits}
 use Rattle.tesl.specs.Remainder.{Remainder, leadOf, stops, remainder, sameObligation, sameCountdown, sameSets, sameRemainder, distinctCount, owes, counts, overfull, isClear}
 use Rattle.tesl.specs.Answer.{Answer, exhausted, remainders, tooMany, over, verdict, answerWithin, mostLive}
-use Rattle.tesl.specs.Machine.{accepts, listAfter, reply, machine, Reader, session, opened}
+use Rattle.tesl.specs.Machine.{accepts, listAfter, reply, machine, Reader, session, openedWith}
 use Rattle.theory.specs.SameLines.{SameClocksAndLines, SameSessions}
 use Rattle.records.proofs.sort.Forms.{further-lines}
 use Rattle.tesl.proofs.Tests.{or-l, or-r, or-e}
@@ -93,7 +93,7 @@ module _ {ls ms : List Line} (lines : SameTests ls ms) (f : List Filled) where
       append-alike (unmetBy-alike f (flatMap-alike owedAtStart lines))
       (byLater-alike _ _ (λ g later. unmetBy-alike later (flatMap-alike (owedFrom most g) lines)) f)
 
-  countdowns-alike : SameTests (countdowns ls f) (countdowns ms f)
+  countdowns-alike : SameTests (runCountdowns ls f) (runCountdowns ms f)
   countdowns-alike = byLater-alike _ _ (λ g later. flatMap-alike (leftOf later) (flatMap-alike (countedFrom g) lines)) f
 
 -- ---- two sheets
@@ -202,9 +202,9 @@ module _ (v w : SheetValue) (same : SameClocksAndLines v w) where
 pub same-sessions : (read again : Reader) → SameSessions read again
 unfolding session
 same-sessions read again b c v w e f same calls =
-    ap (opened calls) e
+    ap (openedWith calls) e
     ∙ (λ i. record { opening = taken (answer-alike v w same mostLive [] i); replies = machine-alike v w same [] calls i })
-    ∙ ap (opened calls) (sym f)
+    ∙ ap (openedWith calls) (sym f)
 
 -- ---- which lists have the same lines
 

@@ -13,7 +13,7 @@ use Rattle.records.specs.declared.instant.Tick.the-variants.{Idle, Ticks, Unsee
 use Rattle.records.specs.Sheet.{SheetValue}
 use Rattle.tesl.specs.Lists.{all, any, filter, distinct, flatMap}
 use Rattle.tesl.specs.Run.{Instant, ticksOf, tagsOf, Filled, fillTicks, fillings, runFillings}
-use Rattle.tesl.specs.Fits.{mostTag, Obligation, unmet, Countdown, countdowns, fits}
+use Rattle.tesl.specs.Fits.{mostTag, Obligation, unmet, Countdown, runCountdowns, fits}
 use Rattle.tesl.specs.Remainder.{remainder, sameRemainder, sameObligation, sameCountdown, distinctCount, owes, counts, isClear}
 use Rattle.tesl.specs.Answer.{Standing, clear, owed, exhausted, broken, holding, remainders, over, standing, judged, verdict, answerWithin}
 use Rattle.tesl.specs.Formula.{NoneFalls, EachHolds}
@@ -64,7 +64,7 @@ clear-exactly s f = Iff·trans (there, back) (none-owed mostTag (s .lines) f)
     os = unmet mostTag (s .lines) f
 
     cs : List Countdown
-    cs = countdowns (s .lines) f
+    cs = runCountdowns (s .lines) f
 
     there : T (eqb (distinctCount sameObligation os) 0 && eqb (distinctCount sameCountdown cs) 0) → (os ≡ []) × (cs ≡ [])
     there t =

@@ -10,7 +10,7 @@ use Rattle.records.specs.declared.line.Line.{Line}
 use Rattle.records.specs.Sheet.{SheetValue}
 use Rattle.tesl.specs.Lists.{all, any, table, always}
 use Rattle.tesl.specs.Run.{Filled, ticksAt}
-use Rattle.tesl.specs.Fits.{lastTags, noneFalls, holdsAt, fitsAt, mostTag, unmet, notLate, Countdown, countdowns, fits}
+use Rattle.tesl.specs.Fits.{lastTags, noneFalls, holdsAt, fitsAt, mostTag, unmet, notLate, Countdown, runCountdowns, fits}
 use Rattle.tesl.specs.Remainder.{leadOf, stops, remainder}
 use Rattle.theory.specs.Step.{lineOk, overlap, linesOk, nextLead, nextLeads, nextOwed, misses, noneMissed, next, stepOk, lineBelow, wellFormed}
 use Rattle.tesl.proofs.Tests.{and-l, and-r, and-i, or-l, or-r, or-e, T→≡}
@@ -79,26 +79,26 @@ module _ (run : List Filled) (f : Filled) where
       (all-ask ls (and-r (ordered run l) (all (ordered run) ls) o) (and-r (holdsAt l run f) hs h))
 
   -- none of the countdowns of a line is missed, and none of the others'
-  missed-split : (l : Line) (ls : List Line) → noneMissed f (countdowns (l ∷ ls) run) ≡ (noneMissed f (countdowns (l ∷ []) run) && noneMissed f (countdowns ls run))
+  missed-split : (l : Line) (ls : List Line) → noneMissed f (runCountdowns (l ∷ ls) run) ≡ (noneMissed f (runCountdowns (l ∷ []) run) && noneMissed f (runCountdowns ls run))
   missed-split l ls = one-more-line (λ (c : Countdown). not (misses f c)) l ls run
 
-  none-missed : (ls : List Line) → T (all (λ (l : Line). holdsAt l run f) ls) → T (noneMissed f (countdowns ls run))
+  none-missed : (ls : List Line) → T (all (λ (l : Line). holdsAt l run f) ls) → T (noneMissed f (runCountdowns ls run))
   none-missed [] h = all-true-run run
     where
-      all-true-run : (run : List Filled) → T (noneMissed f (countdowns [] run))
+      all-true-run : (run : List Filled) → T (noneMissed f (runCountdowns [] run))
       all-true-run [] = tt
       all-true-run (g ∷ run) = all-true-run run
   none-missed (l ∷ ls) h =
       let hs = all (λ (l : Line). holdsAt l run f) ls in
-      subst T (sym (missed-split l ls)) (and-i (noneMissed f (countdowns (l ∷ []) run)) (noneMissed f (countdowns ls run))
+      subst T (sym (missed-split l ls)) (and-i (noneMissed f (runCountdowns (l ∷ []) run)) (noneMissed f (runCountdowns ls run))
       (law l .counts .none-missed run f (and-l (holdsAt l run f) hs h)) (none-missed ls (and-r (holdsAt l run f) hs h)))
 
-  all-suffice : (ls : List Line) → ((k : ℕ) → T (any (stops run k) ls) → T (ticksAt f k) → ⊥) → T (noneMissed f (countdowns ls run)) → T (all (ordered run) ls)
+  all-suffice : (ls : List Line) → ((k : ℕ) → T (any (stops run k) ls) → T (ticksAt f k) → ⊥) → T (noneMissed f (runCountdowns ls run)) → T (all (ordered run) ls)
       → T (linesOk (lineOk f) ls (map (leadOf run) ls)) → T (all (λ (l : Line). holdsAt l run f) ls)
   all-suffice [] quiet m o h = tt
   all-suffice (l ∷ ls) quiet m o h =
-      let own = noneMissed f (countdowns (l ∷ []) run) in
-      let others = noneMissed f (countdowns ls run) in
+      let own = noneMissed f (runCountdowns (l ∷ []) run) in
+      let others = noneMissed f (runCountdowns ls run) in
       let both = subst T (missed-split l ls) m in
       let ok = lineOk f l (leadOf run l) in
       let oks = linesOk (lineOk f) ls (map (leadOf run) ls) in
@@ -149,7 +149,7 @@ lines-same s run f w o =
     let both = overlap (f .ticks) stopped in
     let oks = linesOk (lineOk f) (s .lines) (remainder s run .leads) in
     let stop : ℕ → Bool = λ j. any (stops run j) (s .lines) in
-    let kept = noneMissed f (countdowns (s .lines) run) in
+    let kept = noneMissed f (runCountdowns (s .lines) run) in
     bool-ext (all (λ (l : Line). holdsAt l run f) (s .lines)) (kept && (not both && oks))
     (λ h. and-i kept (not both && oks) (none-missed run f (s .lines) h) (and-i (not both) oks (not-T both (no-overlap (f .ticks) stopped (λ k u t. quiet-all run f k (s .lines) h (table-says (s .clocks) stop k t) u))) (all-ask run f (s .lines) o h)))
     (λ h. all-suffice run f (s .lines)

@@ -17,7 +17,7 @@ use mathlib.Core.Logic.{_≢_}
 use Rattle.theory.specs.Step.{lastTagsOf, wellFormed}
 use Rattle.theory.specs.Held.{Held}
 use Rattle.theory.specs.Limits.{SheetLimits, ListLimits, HeldLimits}
-use Rattle.theory.specs.Tracks.{State, Tracks, stateAfter, Finding, many, one-more, owed, every}
+use Rattle.theory.specs.Tracks.{State, Tracks, stateAfter, Finding, many, one-more, too-full, every}
 use Rattle.theory.proofs.Lists.{lastOf-map-snoc}
 use Rattle.theory.proofs.Held.{held-start, held-step}
 use Rattle.theory.proofs.Answers.{exhausted-stays, exhausted-by-many, exhausted-by-one-more, exhausted-by-owed, answer-next}
@@ -49,7 +49,7 @@ module _ (room : ℕ) (s : SheetValue) (run : List Instant) (i : Instant) (m : S
       by-finding : {said : Answer} {new : List Remainder} → Finding room s (lastTagsOf run) i (m .live) said new → Tracks room s (run ++ (i ∷ [])) (stateAfter m i said new)
       by-finding (many among a c l) = tracks (sym (exhausted-by-many room s wf run i (m .live) held among a c l)) (λ n. absurd (n refl))
       by-finding (one-more among a c l x t u) = tracks (sym (exhausted-by-one-more room s wf run i (m .live) held among a c l x t u)) (λ n. absurd (n refl))
-      by-finding (owed x t l) = tracks (sym (exhausted-by-owed room s wf run i (m .live) held x t l)) (λ n. absurd (n refl))
+      by-finding (too-full x t l) = tracks (sym (exhausted-by-owed room s wf run i (m .live) held x t l)) (λ n. absurd (n refl))
       by-finding (every {new = new} e l a) =
           let k = held-step s wf run i (m .live) held new e in
           tracks (sym (answer-next room s run i new (λ e. n (h .said ∙ e)) k l a)) (λ n. k)
@@ -65,6 +65,6 @@ pub finding-within : (room : ℕ) (s : SheetValue) → SheetLimits s → (last :
     → HeldLimits mostTag room (s .clocks) instants rs → Finding room s last i rs said new → said ≢ exhausted → HeldLimits mostTag room (s .clocks) (suc instants) new
 finding-within room s l last i h instants w (many among a c k) n = absurd (n refl)
 finding-within room s l last i h instants w (one-more among a c k x t u) n = absurd (n refl)
-finding-within room s l last i h instants w (owed x t k) n = absurd (n refl)
+finding-within room s l last i h instants w (too-full x t k) n = absurd (n refl)
 finding-within room s l last i h instants {rs = rs} {new = new} w (every e k o) n =
     record { live = k; owe = o; within = successors-within s (l .clocks-below) (l .values) last i h instants rs new (λ x t. subst T (e .these x) t) (w .within) }

@@ -28,12 +28,12 @@ module _ {A : Type 0} (same : A → A → Bool) where
 
   -- one more, unless it is there, while there is room for so many; `none` where it has no room
   unfoldable pub addedTo : ℕ → List A → A → Option (List A)
-  addedTo most xs x = cond (any (same x) xs) (some xs) (cond (ltb (length xs) most) (some (xs ++ (x ∷ []))) none)
+  addedTo capacity xs x = cond (any (same x) xs) (some xs) (cond (ltb (length xs) capacity) (some (xs ++ (x ∷ []))) none)
 
   -- one after the other
   abbrev pub allAddedTo : ℕ → List A → List A → Option (List A)
-  allAddedTo most [] xs = some xs
-  allAddedTo most (y ∷ ys) xs = onward (allAddedTo most ys) (addedTo most xs y)
+  allAddedTo capacity [] xs = some xs
+  allAddedTo capacity (y ∷ ys) xs = onward (allAddedTo capacity ys) (addedTo capacity xs y)
 
   -- as many, and each of ys is among xs: the same set, where neither has one twice
   abbrev pub sameByCount : List A → List A → Bool

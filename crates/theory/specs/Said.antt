@@ -66,8 +66,8 @@ pub record Leaves (s : SheetValue) (run : List Instant) (n : ℕ) : Type 0 where
 
 -- n is the number of distinct remainders: each fitting filling leaves the same as one of n such
 pub record Live (s : SheetValue) (run : List Instant) (n : ℕ) : Type 0 where
-  pub leaves : Leaves s run n
-  pub no-other : (f : List Filled) → Fitting s run f → (g : List Filled) × List·Memᴰ g (leaves .these) × SameLeft s f g
+  pub distinct-left : Leaves s run n
+  pub no-other : (f : List Filled) → Fitting s run f → (g : List Filled) × List·Memᴰ g (distinct-left .these) × SameLeft s f g
 
 -- one remainder with n of a kind, here those of a filled run that `Of` tells, no two equal
 pub record Having {A : Type 0} (Of : List Filled → A → Type 0) (s : SheetValue) (run : List Instant) (n : ℕ) : Type 0 where

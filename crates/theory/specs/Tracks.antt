@@ -44,7 +44,7 @@ pub data Finding (room : ℕ) (s : SheetValue) (last : Option (List ℤ)) (i : I
   one-more : {new : List Remainder} (among : List Remainder) → T (apart sameRemainder among) → Covers sameRemainder among (successors s last i rs) → room ≤ length among
       → (x : Remainder) → T (any (sameRemainder x) (successors s last i rs)) → T (not (any (sameRemainder x) among)) → Finding room s last i rs exhausted new
   -- one with more than eight obligations or countdowns among the successors
-  owed : {new : List Remainder} (x : Remainder) → T (any (sameRemainder x) (successors s last i rs)) → T (overfull x) → Finding room s last i rs exhausted new
+  too-full : {new : List Remainder} (x : Remainder) → T (any (sameRemainder x) (successors s last i rs)) → T (overfull x) → Finding room s last i rs exhausted new
   -- every successor once, at most as many as there is room for, with at most eight obligations and eight countdowns each
   every : {new : List Remainder} → EachOnce sameRemainder new (successors s last i rs) → length new ≤ room → T (not (any overfull new))
       → Finding room s last i rs (judged new) new

@@ -1,5 +1,5 @@
 -- What a remainder is made of, in the documents' words and with quantifiers over the numbers of instants: unmet obligations, countdowns, leads and stopped clocks.
--- Nothing here is taken from the executable definitions `unmet`, `countdowns` and `remainder`. Assumes nothing.
+-- Nothing here is taken from the executable definitions `unmet`, `runCountdowns` and `remainder`. Assumes nothing.
 use mathlib.Core.List.{List, List·Memᴰ}
 use mathlib.Core.Logic.{_⊎_}
 use mathlib.Core.Path.{_≡_}
@@ -36,7 +36,7 @@ pub data Unmet (most : ℤ) (ls : List Line) (run : List Filled) (o : Obligation
 abbrev pub NoneUnmet : ℤ → List Line → List Filled → Type 0
 NoneUnmet most ls run = (o : Obligation) → Unmet most ls run o → ⊥
 
--- a countdown of a filled run: A of a counted line ticks at instant i, B has ticked m times since, from the following instant on, and n - m more are wanted; `countdowns` lists these and no others: `countdowns-listed`, proofs/Unmet.antt
+-- a countdown of a filled run: A of a counted line ticks at instant i, B has ticked m times since, from the following instant on, and n - m more are wanted; `runCountdowns` lists these and no others: `countdowns-listed`, proofs/Unmet.antt
 pub data Counting (ls : List Line) (run : List Filled) (c : Countdown) : Type 0 where
   counted : (A B D n : ℕ) → List·Memᴰ (Counted A B D n) ls
       → (i : ℕ) → i < length run → Ticking run A i

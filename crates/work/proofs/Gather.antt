@@ -19,7 +19,7 @@ use Rattle.theory.specs.Sets.{Covers, EachOnce}
 use Rattle.theory.specs.Adding.{addedTo}
 use Rattle.theory.specs.Step.{next, stepOk}
 use Rattle.theory.specs.Held.{successors}
-use Rattle.theory.specs.Tracks.{Finding, one-more, owed}
+use Rattle.theory.specs.Tracks.{Finding, one-more, too-full}
 use Rattle.theory.proofs.Fill.{foldl}
 use Rattle.theory.proofs.Lists.{any-snoc, each-snoc}
 use Rattle.theory.proofs.Members.{of-each}
@@ -90,7 +90,7 @@ module _ (room : ℕ) (v : SheetValue) (last : Option (List ℤ)) (i : Instant) 
     pub gather-one : (reached : List Remainder) (found : Option (List Remainder)) {ok : Bool} {a : Advanced} → (T ok → T (stepOk v last f r)) → Steps v f r ok a
         → Gathering reached found → Gathering (reached ++ cond ok (next v f r ∷ []) []) (took room found a)
     gather-one reached found ok broken h = subst (λ (l : List Remainder). Gathering l found) (sym (append-nil reached)) h
-    gather-one reached found ok (too-many k) h = λ p new. owed (next v f r) (successor-found v last i m n (ok tt)) (k (of-each Once p m))
+    gather-one reached found ok (too-many k) h = λ p new. too-full (next v f r) (successor-found v last i m n (ok tt)) (k (of-each Once p m))
     gather-one reached found ok (goes {x = x} s w o) h = gather-insert reached found x (ok tt) s w o h
 
   -- ---- a fold

@@ -122,7 +122,7 @@ module _ (m : Monitor) (l : Limits m) (sheet : T (sheetWithin (sheetBy m))) (roo
 
   follows-after : (run : List Instant) → Follows (sheetBy m) run m → Follows (sheetBy m) (run ++ (i ∷ [])) (r .monitor)
   follows-after run f =
-      let t = tracks-after mostLive (sheetBy m) (l .sheet) run (m .instants) (lastBy m) i (heldBy m) (heldBy (r .monitor)) found (f .owed)
+      let t = tracks-after mostLive (sheetBy m) (l .sheet) run (m .instants) (lastBy m) i (heldBy m) (heldBy (r .monitor)) found (f .once-each)
       (record { instants = f .instants; last = f .last; said = f .said; live = f .held }) in
       record {
         sheet = same-sheet;
@@ -130,7 +130,7 @@ module _ (m : Monitor) (l : Limits m) (sheet : T (sheetWithin (sheetBy m))) (roo
         last = last-after ∙ t .last;
         said = t .said;
         held = t .live;
-        owed = proper-after mostLive (sheetBy m) (lastBy m) i (heldBy m) (heldBy (r .monitor)) found (f .owed);
+        once-each = proper-after mostLive (sheetBy m) (lastBy m) i (heldBy m) (heldBy (r .monitor)) found (f .once-each);
         limits = limits-after;
       }
 

@@ -123,7 +123,7 @@ module _ (order : Order) (last : ℕ) (b : List ℕ) (bytes : IsBytes b) (s : Sh
       last = rw none;
       said = said;
       held = λ n. rw holds (held-start s (held-same s l));
-      owed = rw holds ((first s l .once, tt), tt);
+      once-each = rw holds ((first s l .once, tt), tt);
       limits = within-limits m sheet-within (omega (arith, none)) fits views;
     }
 

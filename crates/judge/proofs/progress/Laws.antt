@@ -168,7 +168,7 @@ module _ (s : Sheet) (n : ℕ) (tags : List ℤ) (h k : Held) (same : heldOf (sh
     last = f .last;
     said = ap saidBy same ∙ f .said;
     held = rw same (f .held);
-    owed = rw same (f .owed);
+    once-each = rw same (f .once-each);
     limits = within-same (f .limits);
   }
 
