@@ -8,7 +8,7 @@ use Rattle.records.specs.Outcome.{Outcome, taken, refused}
 use Rattle.records.specs.Sheet.{SheetValue, readSheet}
 use Rattle.tesl.specs.Run.{Instant}
 use Rattle.tesl.specs.Answer.{answer}
-use Rattle.tesl.specs.Machine.{accepts, listAfter, reply, machine, acceptsEach, opened, session, callsOf}
+use Rattle.tesl.specs.Machine.{accepts, listAfter, reply, machine, acceptsEach, openedWith, session, callsOf}
 use Rattle.text.specs.Text.{answerLine, refusalLine}
 use Rattle.text.specs.Output.{linesFrom, watchOf, watchText, tagLines, columnsOf, columnsText}
 
@@ -63,7 +63,7 @@ pub watch-walk : (sheet log : List ℕ) → watchText sheet log ≡ walkedAll wa
 unfolding watchText session
 watch-walk sheet log = by-sheet (readSheet sheet)
   where
-    by-sheet : (o : Outcome SheetValue) → watchOf (opened (callsOf log) o .opening) (opened (callsOf log) o .replies) ≡ walkedAll watchLines (callsOf log) o
+    by-sheet : (o : Outcome SheetValue) → watchOf (openedWith (callsOf log) o .opening) (openedWith (callsOf log) o .replies) ≡ walkedAll watchLines (callsOf log) o
     by-sheet (taken s) = watch-from s [] (callsOf log)
     by-sheet (refused n) = refl
 
