@@ -11,9 +11,11 @@ use remainders::rows::SIZE;
 ghost use Rattle.work.specs.Fillings.{fillingsIn};
 ghost use Rattle.step.specs.Apply.{ApplyingAll, AppliedAll};
 
-// What every filling of an instant has: the instant's tags, and how many remainders there is room for.
+// What is the same for every filling of an instant.
 pub(crate) struct Conditions {
+    // The instant's tags.
     pub(crate) tags: [i16; 8],
+    // How many distinct remainders there is room for.
     pub(crate) room: usize,
 }
 

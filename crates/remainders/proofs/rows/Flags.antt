@@ -8,7 +8,7 @@ use native.Mathlib.Omega.{arith}
 use lib.Dec.{eqb}
 use borrow.Author.Tests.{eqb-true, eqb-false}
 use Rattle.remainders.specs.Word.{flagOf, flagWord}
-use Rattle.remainders.specs.Rows.{headRows, height, stoppedPart, word, rowStop, FlagsStored, FlagsKept, Stays, StoppedOn}
+use Rattle.remainders.specs.Rows.{headRows, height, stoppedPart, word, rowStop, FlagsKept, Stays, StoppedOn}
 
 -- ---- a word
 pub flag-back : {w : ℕ} (b : Bool) → w ≡ flagWord b → flagOf w ≡ b
