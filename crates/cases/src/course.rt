@@ -8,7 +8,7 @@ use records::instant::{Instant, Tick, TickSlot};
 use records::word::tag_of;
 
 // The last instant, its tags counted from the least tag, and how many unseen ticks are left to draw.
-#[derive(Drop)]
+#[derive(Clone, Copy)]
 pub struct Course {
     pub above: [u64; 8],
     pub unseen: u64,

@@ -5,7 +5,7 @@ use records::number;
 use records::record::Written;
 
 // The first `len` bytes; refusal: the number, 0 for none.
-#[derive(Drop)]
+#[derive(Clone, Copy)]
 pub struct Record {
     pub bytes: [u8; 40],
     pub len: usize,

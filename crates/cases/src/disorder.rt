@@ -6,7 +6,7 @@ use records::number;
 use records::sheet::{Sheet, line_at};
 
 // The bytes; the number that refuses them where lines must rise, and the one by document 01's rules, 0 for none.
-#[derive(Drop)]
+#[derive(Clone, Copy)]
 pub struct Disordered {
     pub tape: Tape,
     pub refusal: u8,

@@ -8,7 +8,7 @@ use filler::run::{Run, no_instants, with_instant};
 use records::instant::Instant;
 
 // The last number drawn, and the instants.
-#[derive(Drop)]
+#[derive(Clone, Copy)]
 pub struct Listed {
     pub last: u64,
     pub run: Run,

@@ -45,7 +45,7 @@ fn narrow(number: u64, d: [u64; 48]) -> Plan {
 }
 
 // A family, and by how many places its clocks are moved up: at least, and of how many.
-#[derive(Drop)]
+#[derive(Clone, Copy)]
 struct Move(u64, u64, u64);
 
 // The move of a wide case, for 12 of 28 numbers.

@@ -8,11 +8,11 @@ use records::word::tag_of;
 pub const ZERO: u64 = 32768;
 
 // A clock's habits (i, t, l, m): of eight draws the first i are idle, those from there to t tick, the others are unseen; its tag rises by l to l + m.
-#[derive(Drop)]
+#[derive(Clone, Copy)]
 pub struct Habit(pub u64, pub u64, pub u64, pub u64);
 
 // The first tag of every clock, counted from the least tag; how many instants, and how many unseen ticks in all; together: the tags of all clocks rise alike; follows: clock 0's tag is p × clock 1's + q in 16 bits.
-#[derive(Drop)]
+#[derive(Clone, Copy)]
 pub struct Plan {
     pub sheet: Sheet,
     pub habits: [Habit; 8],

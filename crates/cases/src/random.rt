@@ -7,7 +7,7 @@ fn next(x: u64) -> u64 {
 }
 
 // Numbers of the sequence, and the last of them, from which it goes on.
-#[derive(Drop)]
+#[derive(Clone, Copy)]
 pub struct Draws {
     pub last: u64,
     pub numbers: [u64; 48],

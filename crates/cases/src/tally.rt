@@ -6,7 +6,7 @@ pub const TALLY_PLACES: usize = 64;
 pub type Tally = [u64; TALLY_PLACES];
 
 // The last number drawn of a case, and what was counted up to its end.
-#[derive(Drop)]
+#[derive(Clone, Copy)]
 pub struct Ended {
     pub last: u64,
     pub tally: Tally,

@@ -4,7 +4,7 @@ use records::record::Written;
 use records::sheet::{Sheet, write_sheet};
 
 // The first `len` bytes.
-#[derive(Drop)]
+#[derive(Clone, Copy)]
 pub struct Tape {
     pub bytes: [u8; 512],
     pub len: usize,

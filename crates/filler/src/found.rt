@@ -5,7 +5,7 @@ use crate::remainder::{Owed, Remainder, no_remainder, owed_count, owes, owes_tic
 use crate::sentence::one_if;
 
 // over: one of them has too many obligations. Those past the 33rd are dropped: 33 are already too many.
-#[derive(Drop)]
+#[derive(Clone, Copy)]
 pub(crate) struct Found {
     pub(crate) over: bool,
     pub(crate) count: usize,

@@ -5,19 +5,19 @@ use crate::run::{Run, seen_at, tag_at};
 use records::instant::Tick;
 use records::sheet::Sheet;
 
-#[derive(Drop)]
+#[derive(Clone, Copy)]
 pub(crate) struct Clock {
     pub(crate) ticks: [bool; 16],
     pub(crate) tags: [i16; 16],
 }
 
-#[derive(Drop)]
+#[derive(Clone, Copy)]
 pub(crate) struct Filled {
     pub(crate) clocks: [Clock; 8],
 }
 
 // A clock's ticks, and the bits of the filling that are left for the next clocks.
-#[derive(Drop)]
+#[derive(Clone, Copy)]
 struct Ticks {
     ticks: [bool; 16],
     rest: usize,

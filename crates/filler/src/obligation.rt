@@ -4,7 +4,7 @@ ghost use Rattle.std.specs.Prelude.{◌≡◌, ◌≤◌, ◌<◌};
 use crate::history::{Clock, Filled, clock_of};
 
 // clock: which is to tick; on: the clock that says when; due: the tag of `on` at which it is to, or, of a line that counts, how many ticks of `on` are still wanted.
-#[derive(Drop)]
+#[derive(Clone, Copy)]
 pub(crate) struct Obligation {
     pub(crate) clock: u8,
     pub(crate) on: u8,

@@ -9,14 +9,14 @@ use records::line::Line;
 use records::sheet::{Sheet, line_at};
 
 // A set of obligations. Those past the ninth are dropped: nine are already too many.
-#[derive(Drop)]
+#[derive(Clone, Copy)]
 pub(crate) struct Owed {
     pub(crate) count: usize,
     pub(crate) list: [Obligation; 9],
 }
 
 // owed: the unmet obligations of sporadic and delay lines; counted: those of lines that count; leads: of a precedes line 16 and A's ticks minus B's, of any other 0; stopped: the clocks that a kills line has stopped.
-#[derive(Drop)]
+#[derive(Clone, Copy)]
 pub(crate) struct Remainder {
     pub(crate) owed: Owed,
     pub(crate) counted: Owed,

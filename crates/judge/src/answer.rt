@@ -11,7 +11,7 @@ use remainders::held::Status;
 use remainders::rows::{COUNTDOWNS, OBLIGATIONS, SIZE, row_count};
 
 // live: how many distinct remainders; clear: one of them owes nothing.
-#[derive(Drop)]
+#[derive(Clone, Copy)]
 pub enum Answer {
     Exhausted,
     Broken,
@@ -19,7 +19,7 @@ pub enum Answer {
 }
 
 // The answer to a call, or the number of its refusal.
-#[derive(Drop)]
+#[derive(Clone, Copy)]
 pub enum Reply {
     Answered(Answer),
     Refused(u8),

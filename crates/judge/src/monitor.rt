@@ -21,7 +21,7 @@ use remainders::rows::SIZE;
 use step::list::LIST;
 
 // Beside its remainders, of the instants only their number and the last tags; the last answer is what those held say.
-#[derive(Drop)]
+#[derive(Clone, Copy)]
 pub struct Monitor {
     pub sheet: Sheet,
     pub instants: usize,
@@ -30,7 +30,7 @@ pub struct Monitor {
 }
 
 // What a call gives: its reply, and the monitor to call next.
-#[derive(Drop)]
+#[derive(Clone, Copy)]
 pub struct CallResult {
     pub reply: Reply,
     pub monitor: Monitor,

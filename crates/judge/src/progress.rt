@@ -17,7 +17,7 @@ use step::fill::{Before, work_rows};
 use step::list::LIST;
 
 // A monitor beside its sheet and its rows.
-#[derive(Drop)]
+#[derive(Clone, Copy)]
 pub struct Progress {
     // The number of instants.
     pub instants: usize,
@@ -30,7 +30,7 @@ pub struct Progress {
 }
 
 // What an instant gives: the reply, and the monitor to call next.
-#[derive(Drop)]
+#[derive(Clone, Copy)]
 pub struct InstantResult {
     pub reply: Reply,
     pub progress: Progress,

@@ -20,7 +20,7 @@ use remainders::rows::{HEAD, OBLIGATIONS, SIZE};
 use step::advance::add_row;
 
 // A monitor begun, beside its sheet and its rows.
-#[derive(Drop)]
+#[derive(Clone, Copy)]
 pub struct Begun {
     // What was found out about the sheet.
     pub plan: Plan,

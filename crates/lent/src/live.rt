@@ -26,14 +26,14 @@ use step::list::LIST;
 pub const STATE_WORDS: usize = SIZE;
 
 // What a call on a state gives: its reply, and the instants that the state then holds.
-#[derive(Drop)]
+#[derive(Clone, Copy)]
 pub struct Replied {
     pub reply: Reply,
     pub instants: usize,
 }
 
 // ok: the words are a monitor within its limits; then what it keeps beside its sheet and its rows, and its plan.
-#[derive(Drop)]
+#[derive(Clone, Copy)]
 pub struct FoundState {
     pub ok: bool,
     pub progress: Progress,

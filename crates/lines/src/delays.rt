@@ -11,7 +11,7 @@ use crate::plan::{COUNTED, DELAYS, NUMBERS, plan_line};
 use remainders::obligation::{Obligation, same_obligation};
 
 // The first `owed` are obligations, those from there to `count` countdowns.
-#[derive(Drop)]
+#[derive(Clone, Copy)]
 pub struct NewObligations {
     pub owed: usize,
     pub count: usize,

@@ -38,7 +38,7 @@ fn less(x: u16, y: u16) -> u16
 }
 
 // Of one line the lead that it needs, its tick of A and its tick of B.
-#[derive(Drop)]
+#[derive(Clone, Copy)]
 struct Ask {
     need: u16,
     gain: u16,
@@ -88,7 +88,7 @@ fn ask_lead(l: Line, ticks: [bool; 8]) -> Ask
 }
 
 // Of each of the first lines the lead that it needs, its ticks of A and its ticks of B.
-#[derive(Drop)]
+#[derive(Clone, Copy)]
 pub struct LeadChanges {
     pub needs: [u16; 16],
     pub gains: [u16; 16],

@@ -10,7 +10,7 @@ use remainders::clock::{clock_tag, stop, ticks_at, wide};
 use remainders::obligation::{Obligation, due_number};
 
 // What a line begins at an instant.
-#[derive(Drop)]
+#[derive(Clone, Copy)]
 pub enum NewObligation {
     Nothing,
     Owed(Obligation),

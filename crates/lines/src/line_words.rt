@@ -9,7 +9,7 @@ use records::word::{raw_of, tag_of};
 use remainders::word::{byte_in, number_in};
 
 // Words that a line does without are 0.
-#[derive(Drop)]
+#[derive(Clone, Copy)]
 pub struct LineWords {
     // Its kind, as in its record.
     pub kind: u32,

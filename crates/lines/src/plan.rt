@@ -28,7 +28,7 @@ pub(crate) const DELAYS: usize = 48;
 pub(crate) const COUNTED: usize = 64;
 
 // Its clocks; how many relations, rules, delay lines and counted lines there are; where the last precedes line stands, and which lines are precedes lines; the clocks whose ticks lines ask about.
-#[derive(Drop)]
+#[derive(Clone, Copy)]
 pub struct Plan {
     pub clocks: usize,
     pub relations: usize,

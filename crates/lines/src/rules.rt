@@ -14,7 +14,7 @@ use remainders::clock::ticks_at;
 use remainders::word::{byte_in, number_in};
 
 // A rule by its words, without the line made of them: the words are asked about at each filling.
-#[derive(Drop)]
+#[derive(Clone, Copy)]
 pub(crate) struct Rule {
     // Its kind.
     pub kind: u16,

@@ -1,4 +1,5 @@
 // The calls on a state of words, for C and Rust: a row per call, with the whole result.
+#![tactic(auto)]
 mod altered;
 mod altered_countdowns;
 mod countdowns;

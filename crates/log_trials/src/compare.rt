@@ -67,7 +67,7 @@ fn judged(sheet: &[u8], log: &[u8], due: Due, t: Tally) -> Tally {
 }
 
 // A result, and the buffer after it.
-#[derive(Drop)]
+#[derive(Clone, Copy)]
 struct Outcome {
     result: u64,
     out: [u8; 64],

@@ -8,11 +8,11 @@ use records::number;
 use records::sheet::Sheet;
 
 // An answer, live, clear: as bytes.
-#[derive(Drop)]
+#[derive(Clone, Copy)]
 pub struct Entry(pub u8, pub u8, pub u8);
 
 // The number of the refusal, 0 for none; the instants taken; the entries of opening and of every instant; how many of the remainders owe each clock a tick; whether the lines are all counted, false where a refusal is due.
-#[derive(Drop)]
+#[derive(Clone, Copy)]
 pub struct Due {
     pub number: u8,
     pub taken: usize,

@@ -7,7 +7,7 @@ use records::sheet::Sheet;
 // In how many ways a sheet is damaged.
 pub const WAYS: u64 = 18;
 
-#[derive(Drop)]
+#[derive(Clone, Copy)]
 pub struct Faulty {
     pub tape: Tape,
     pub number: u8,

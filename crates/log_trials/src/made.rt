@@ -22,7 +22,7 @@ const NARROW_CASES: u64 = 3000;
 const WIDE_CASES: u64 = 1000;
 
 // A sheet and its bytes, a run, and the entries due of opening and of each instant.
-#[derive(Drop)]
+#[derive(Clone, Copy)]
 struct Made {
     sheet: Sheet,
     tape: Tape,

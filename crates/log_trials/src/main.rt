@@ -1,4 +1,5 @@
 // Whole logs, and the calls for C and Rust, held against a judge that tries every filling of the whole run.
+#![tactic(auto)]
 mod compare;
 mod due;
 mod faulty;

@@ -20,14 +20,14 @@ use remainders::rows::SIZE;
 use step::list::LIST;
 
 // What a whole log came to: the last answer or the number of a refusal, and the count of instants taken before it.
-#[derive(Drop)]
+#[derive(Clone, Copy)]
 pub struct Judged {
     pub reply: Reply,
     pub instants: usize,
 }
 
 // The same, with the monitor after the instants taken.
-#[derive(Drop)]
+#[derive(Clone, Copy)]
 pub struct LastMonitor {
     pub reply: Reply,
     pub instants: usize,
@@ -35,7 +35,7 @@ pub struct LastMonitor {
 }
 
 // The same, with the monitor in rows.
-#[derive(Drop)]
+#[derive(Clone, Copy)]
 struct LastRows {
     reply: Reply,
     instants: usize,

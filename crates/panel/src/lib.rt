@@ -1,4 +1,5 @@
 // The panel: how many of the live remainders owe a clock a tick.
+#![tactic(auto)]
 ghost use Rattle.std.specs.Prelude.{◌≡◌, ◌≤◌, take};
 ghost use Rattle.panel.specs.Panel.{owes_in, entry_owes, owing_count, panel_of, panel_count};
 
@@ -9,7 +10,7 @@ use remainders::obligation::Obligation;
 use remainders::remainder::Remainder;
 
 // The count, or the number of a refusal.
-#[derive(Drop)]
+#[derive(Clone, Copy)]
 pub enum Panel {
     Count(usize),
     Refused(u8),

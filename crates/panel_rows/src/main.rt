@@ -1,4 +1,5 @@
 // The panel's counts along stored runs: a row per monitor.
+#![tactic(auto)]
 mod countdowns;
 mod made;
 mod row;

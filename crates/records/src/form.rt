@@ -7,7 +7,7 @@ ghost use Rattle.records.specs.Inner.{form_shape_of};
 use crate::number;
 use crate::word::{put_word, word_at};
 
-#[derive(Drop)]
+#[derive(Clone, Copy)]
 pub enum Form {
     // Kind 32: the clocks alone.
     Plain,
@@ -16,7 +16,7 @@ pub enum Form {
 }
 
 // What a kind says of a record: whether it is an instant, and how many bytes of its body precede the clocks.
-#[derive(Drop)]
+#[derive(Clone, Copy)]
 pub(crate) struct FormShape {
     pub(crate) instant: bool,
     pub(crate) before: usize,

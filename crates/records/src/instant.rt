@@ -11,7 +11,7 @@ use crate::record::{Decision, Record, Written, put_head, record_at};
 use crate::sheet::clock_count;
 use crate::word::{put_word, raw_of, tag_of, word_at};
 
-#[derive(Drop)]
+#[derive(Clone, Copy)]
 pub enum Tick {
     Idle,
     Ticks,
@@ -19,12 +19,12 @@ pub enum Tick {
 }
 
 // The tick of a clock in an instant.
-#[derive(Drop)]
+#[derive(Clone, Copy)]
 pub struct TickSlot {
     pub tick: Tick,
 }
 
-#[derive(Drop)]
+#[derive(Clone, Copy)]
 pub struct Instant {
     // How its record is written; what is judged are the ticks and tags.
     pub form: Form,
@@ -35,7 +35,7 @@ pub struct Instant {
 }
 
 // What reading an instant answers; the instant of a refusal is plain, and idle at tag 0 everywhere.
-#[derive(Drop)]
+#[derive(Clone, Copy)]
 pub struct InstantRead {
     pub answer: Decision,
     pub instant: Instant,

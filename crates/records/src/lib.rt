@@ -1,4 +1,6 @@
 // The sheet and instant records: what a byte string holds, by document 01, and how a value is written.
+#![tactic(auto)]
+
 pub mod form;
 pub mod instant;
 pub mod line;

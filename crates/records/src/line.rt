@@ -12,7 +12,7 @@ use crate::number;
 use crate::record::{Decision, put_head};
 use crate::word::{high_byte, low_byte, raw_of, tag_of, word_at};
 
-#[derive(Drop)]
+#[derive(Clone, Copy)]
 pub enum Line {
     // A sporadic t on B.
     Sporadic { a: u8, b: u8, t: i16 },
@@ -30,19 +30,19 @@ pub enum Line {
 }
 
 // A line place of a sheet.
-#[derive(Drop)]
+#[derive(Clone, Copy)]
 pub struct Slot {
     pub line: Line,
 }
 
 // What a kind says of a record: whether it is a line, and the length of its body.
-#[derive(Drop)]
+#[derive(Clone, Copy)]
 pub(crate) struct Shape {
     pub(crate) line: bool,
     pub(crate) length: usize,
 }
 
-#[derive(Drop)]
+#[derive(Clone, Copy)]
 pub(crate) enum LineRead {
     Read(Line),
     Refused(u8),

@@ -6,7 +6,7 @@ use crate::line::{Line, body_of, kind_of};
 use crate::number;
 
 // How the lines of a sheet stand.
-#[derive(Drop)]
+#[derive(Clone, Copy)]
 pub enum Order {
     // Each above the one before it, so that none is repeated.
     Rising,

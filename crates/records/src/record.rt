@@ -8,7 +8,7 @@ use crate::number;
 use crate::word::{put_word, wide, word_at};
 
 // The record at a place of a byte string.
-#[derive(Drop)]
+#[derive(Clone, Copy)]
 pub enum Record {
     // Its kind, and the length of its body, which is all there.
     Whole { kind: u16, len: usize },
@@ -17,14 +17,14 @@ pub enum Record {
 }
 
 // What reading answers, beside the value: that it was taken, or the number of the refusal.
-#[derive(Drop)]
+#[derive(Clone, Copy)]
 pub enum Decision {
     Done,
     Refused(u8),
 }
 
 // What writing answers: how many bytes it wrote at the buffer's front, or the number of the refusal.
-#[derive(Drop)]
+#[derive(Clone, Copy)]
 pub enum Written {
     Bytes(usize),
     Refused(u8),

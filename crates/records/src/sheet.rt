@@ -17,7 +17,7 @@ use crate::number;
 use crate::order::{Order, is_above};
 use crate::record::{Decision, Record, Written, put_head, record_at};
 
-#[derive(Drop)]
+#[derive(Clone, Copy)]
 pub struct Sheet {
     pub clocks: u8,
     pub count: usize,
@@ -25,7 +25,7 @@ pub struct Sheet {
 }
 
 // What reading a sheet answers; the sheet of a refusal has no clock and no line.
-#[derive(Drop)]
+#[derive(Clone, Copy)]
 pub struct SheetRead {
     pub answer: Decision,
     pub sheet: Sheet,

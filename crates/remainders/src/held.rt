@@ -6,13 +6,13 @@ use crate::remainder::Remainder;
 use records::sheet::Sheet;
 
 // Exhausted, when none is held; or how many are: none when broken.
-#[derive(Drop)]
+#[derive(Clone, Copy)]
 pub enum Status {
     Exhausted,
     Live(usize),
 }
 
-#[derive(Drop)]
+#[derive(Clone, Copy)]
 pub struct Held {
     pub count: Status,
     pub remainders: [Remainder; 32],

@@ -9,7 +9,7 @@ ghost use Rattle.remainders.specs.View.{obligation_of, same_stored};
 
 use crate::clock::{clock_tag, ticks_at, wide};
 
-#[derive(Drop)]
+#[derive(Clone, Copy)]
 pub struct Obligation {
     // its clock
     pub clock: u8,

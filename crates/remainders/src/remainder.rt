@@ -4,7 +4,7 @@ ghost use Rattle.remainders.specs.View.{blank_remainder};
 
 use crate::obligation::Obligation;
 
-#[derive(Drop)]
+#[derive(Clone, Copy)]
 pub struct Remainder {
     // How many obligations, and these; their numbers are dues.
     pub owed: usize,

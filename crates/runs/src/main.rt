@@ -1,4 +1,5 @@
 // Runs of the programs on small files: for each a heading, then what the program prints.
+#![tactic(auto)]
 use libc::STDOUT_FILENO;
 
 // The arguments, in the order of the file `args`: files of data/, among them a folder and a name of no file; and one more than there are.

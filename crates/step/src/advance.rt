@@ -20,7 +20,7 @@ use remainders::rows::{
 use remainders::word::{count_word, flag_in, flag_word};
 
 // What becomes of a row: it doesn't fit, it would have more than eight in a set, or it goes on.
-#[derive(Drop)]
+#[derive(Clone, Copy)]
 pub enum Next {
     Fails,
     Over,

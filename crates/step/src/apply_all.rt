@@ -10,7 +10,7 @@ use remainders::held::Status;
 use remainders::rows::{SIDES, SIZE};
 
 // What is the same for every filling of an instant.
-#[derive(Drop)]
+#[derive(Clone, Copy)]
 pub(crate) struct Conditions {
     // The instant's tags.
     pub(crate) tags: [i16; 8],

@@ -22,7 +22,7 @@ use remainders::held::Status;
 use remainders::rows::SIZE;
 
 // What an instant meets.
-#[derive(Drop)]
+#[derive(Clone, Copy)]
 pub struct Before {
     // No instant went before it.
     pub first: bool,
@@ -33,7 +33,7 @@ pub struct Before {
 }
 
 // How many clocks are filled, and how many rules are asked: small, so that a call is handed them in a word.
-#[derive(Drop)]
+#[derive(Clone, Copy)]
 struct Extent {
     clocks: u8,
     rules: u8,

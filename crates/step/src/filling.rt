@@ -9,7 +9,7 @@ use lines::rules::all_stops;
 use remainders::obligation::{MOST_DUE, Obligation};
 
 // The instant; the clocks that lines stop; what precedes lines need, gain and lose; what delay lines begin, the first `owed`, and behind it, up to `count`, what counted lines do.
-#[derive(Drop)]
+#[derive(Clone, Copy)]
 pub struct Filling {
     pub ticks: [bool; 8],
     pub tags: [i16; 8],

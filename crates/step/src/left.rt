@@ -8,7 +8,7 @@ use remainders::clock::ticks_at;
 use remainders::obligation::{Obligation, is_late, is_met};
 use remainders::rows::OBLIGATIONS;
 
-#[derive(Drop)]
+#[derive(Clone, Copy)]
 pub(crate) enum Left {
     // It is met, or its last tick has come with its clock's.
     Done,

@@ -6,7 +6,7 @@ ghost use Rattle.text.specs.Built.{Room, Adds};
 use records::word::raw_of;
 
 // A line of text: its first `len` bytes. Those behind them are no part of it.
-#[derive(Drop)]
+#[derive(Clone, Copy)]
 pub struct Text {
     pub len: usize,
     pub bytes: [u8; 64],

@@ -1,4 +1,5 @@
 // The monitor held against a judge that tries every filling of the whole run, and against itself on the same sheet in another order: document 01's lift examples, then made cases, of at most four clocks and of five to eight, and drivers that send numbered records out of turn.
+#![tactic(auto)]
 mod driver;
 mod lift;
 mod made;
@@ -19,7 +20,7 @@ const WIDE_CASES: u64 = 4800;
 const DRIVER_CASES: u64 = 4000;
 
 // Cases of at most four clocks, of five to eight, and drivers.
-#[derive(Drop)]
+#[derive(Clone, Copy)]
 enum Sort {
     Narrow,
     Wide,

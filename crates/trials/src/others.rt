@@ -10,7 +10,7 @@ use records::number;
 use records::sheet::Sheet;
 
 // Whether the sheet was opened and is called; the number that is due where it was refused just now, else 0; and what its last call gave.
-#[derive(Drop)]
+#[derive(Clone, Copy)]
 pub struct Other {
     pub called: bool,
     pub refusal: u8,
@@ -18,7 +18,7 @@ pub struct Other {
 }
 
 // With its lines reversed, and with one repeated.
-#[derive(Drop)]
+#[derive(Clone, Copy)]
 pub struct Others {
     pub reversed: Other,
     pub repeated: Other,

@@ -20,7 +20,7 @@ use remainders::obligation::Obligation;
 use remainders::remainder::Remainder;
 
 // The sheet, the instants taken so far, the monitor given back last, those of the sheet in another order, the last answer, and what was counted.
-#[derive(Drop)]
+#[derive(Clone, Copy)]
 pub struct Trial {
     pub sheet: Sheet,
     pub run: Run,
@@ -120,14 +120,14 @@ pub fn is_on_unseen(t: Trial, v: Instant) -> bool {
 }
 
 // What is due of a call: an answer, as the judge of the whole run gives it, or the refusal of a number.
-#[derive(Drop)]
+#[derive(Clone, Copy)]
 enum Due {
     Answer,
     Refusal(u8),
 }
 
 // What a call gave: the answer, the last one where it was refused, and what was counted.
-#[derive(Drop)]
+#[derive(Clone, Copy)]
 struct Outcome {
     answer: Answer,
     tally: Tally,

@@ -1,4 +1,5 @@
 // Document 01's listing and edge vectors, read and written by `records`: a row per case, its name and what came out.
+#![tactic(auto)]
 mod cell_row;
 mod counting;
 mod fields;

@@ -33,7 +33,7 @@ pub fn byte_at(bytes: &[u8], at: usize) -> u8 {
 }
 
 // A byte string that is being put together: the first `len` bytes.
-#[derive(Drop)]
+#[derive(Clone, Copy)]
 pub struct Tape {
     pub bytes: [u8; LENGTH],
     pub len: usize,
