@@ -202,4 +202,7 @@ module _ (order : Order) (last : ℕ) (b : List ℕ) (r : Record) (e : r ≡ rec
 
         pub sheet-lines : {x : SheetRead} → not t ≡ false → x ≡ sheet_read (sheet_from order last (at b 4) (pieces (drop 5 b))) → x ≡ sheet_read (read_by order last b)
         unfolding read_by sheet_from
-        sheet-lines h g = g ∙ rw (first, size, eq-eqb k 1 p, eq-eqb n 1 q, clocks, sym v ∙ not-false t h, q)
+        sheet-lines h g =
+            let lines : List Piece = pieces (drop 5 b) in
+            g ∙ rw (first, size, eq-eqb k 1 p, eq-eqb n 1 q, clocks, sym v ∙ not-false t h, q)
+            (ap (λ (c : ℕ). sheet_read (decide (lines_checks order last c [] lines) (record { clocks = at b 4; lines = map line_in lines }))) (sym clocks))

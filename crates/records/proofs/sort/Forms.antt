@@ -1,5 +1,5 @@
 -- The sorted form of a sheet is one: two rising lists with the same lines are equal. It passes every check that the sheet passes, since no line of it is new and none stands twice; so it is written and reads back. Assumes nothing.
-use mathlib.Core.Path.{◌≡◌, refl, sym, ap, ◌∙◌}
+use mathlib.Core.Path.{◌≡◌, refl, sym, ap, subst, ◌∙◌}
 use mathlib.Core.Bool.{true, false, true≢false}
 use mathlib.Core.List.{List, [], ◌∷◌, map}
 use Prim.Native.Nat.{ℕ, ◌*◌, ◌≤◌}
@@ -14,7 +14,7 @@ use Rattle.records.specs.Outcome.{taken, ◌⇒◌}
 use Rattle.records.specs.Lists.{joined}
 use Rattle.records.specs.Line.{kind_of, line_bytes}
 use Rattle.records.specs.Order.{above, key_of}
-use Rattle.records.specs.Sheet.{SheetValue, read_sheet, read_unordered, read_base, sheet_value_checks, sheet_bytes, write_sheet}
+use Rattle.records.specs.Sheet.{SheetValue, read_sheet, read_unordered, read_base, sheet_value_checks, value_lines_checks, sheet_bytes, write_sheet}
 use Rattle.records.specs.Sort.{IsIn, Rises, SameLines, Sorted, SortsBytes, fitted, OneForm, SortedForm, OneFile}
 use Rattle.records.specs.Store.{Wrote}
 use Rattle.records.specs.Types.{IsBytes, IsLineValue, IsSheet}
@@ -69,7 +69,9 @@ module _ (v w : SheetValue) (s : Sorted v w) where
       let below = in_all (Below v.clocks) w.lines (λ l m. all_in (Below v.clocks) v.lines r.0 l (s.lines.back l m)) in
       let counts = in_all HasCount w.lines (λ l m. all_in HasCount v.lines (lines-counted Any v.clocks [] v.lines h.1.1) l (s.lines.back l m)) in
       let size = le-ltb 16 (length w.lines) (omega (arith, fewer, ltb-false 16 (length v.lines) h.1.0)) in
-      rw c (h.0, (size, lines-pass v.clocks [] w.lines below counts (omega (arith, r.1, k, sporadic-total w.lines, sporadic-total v.lines)) s.rises))
+      let LinesPass : ℕ → Type 0 = λ clocks. Passed (value_lines_checks Rising clocks [] w.lines) in
+      let pass = lines-pass v.clocks [] w.lines below counts (omega (arith, r.1, k, sporadic-total w.lines, sporadic-total v.lines)) s.rises in
+      rw c (h.0, (size, subst LinesPass (sym c) pass))
 
   -- nothing but the buffer's length can refuse it
   pub sorted-fitted : Passed (sheet_value_checks Any v) → (buffer : List ℕ) → write_sheet w buffer ≡ fitted buffer (sheet_bytes w)

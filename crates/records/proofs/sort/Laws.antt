@@ -34,7 +34,7 @@ module _ {A : Type 0} (f : ℕ → A) where
   from_in i (suc n) zero h = inl (rw add-zero)
   from_in i (suc n) (suc j) h =
       let e : i + suc j ≡ i + 1 + j = omega arith in
-      inr (rw e (from_in (i + 1) n j (omega arith)))
+      inr (subst (λ (k : ℕ). IsIn (f k) (listed_from f (i + 1) n)) (sym e) (from_in (i + 1) n j (omega arith)))
 
   pub listed_in : (n i : ℕ) → i < n → IsIn (f i) (listed f n)
   listed_in n i h = rw (zero-add i) at (from_in 0 n i h)

@@ -6,14 +6,14 @@ use Rattle.records.specs.Instant.{number_length}
 use Rattle.records.proofs.form.form_of.Statement.{statement}
 use Rattle.records.proofs.form.form_of.Tie as tie
 
-word-at-requires : tie.Need-word-at-requires
-word-at-requires c κs = let e = ap number_length c.match.keys1 in omega (arith, c.before.before.requires)
+word_at-requires : tie.Need-word_at-requires
+word_at-requires c κs = let e = ap number_length c.in-33.is in omega (arith, c.requires)
 
-returns : tie.Need-returns
-returns c = rw (c.before.match.keys1, c.word_at.ensures)
+returns : tie.Need-returns-in-33
+returns c = rw (c.in-33.is, c.word_at.ensures)
 
-returns-2 : tie.Need-returns-2
-returns-2 c = simp (ne_eqb _ _ c.match.rest.1)
+returns-2 : tie.Need-returns-in_default
+returns-2 c = simp (ne_eqb _ _ c.in_default.in_default-own.rest.1)
 
-pub form-of-spec : {M : Type 1} → statement M
-form-of-spec = tie.close (tie.spec word-at-requires returns returns-2)
+pub form_of_spec : {M : Type 1} → statement M
+form_of_spec = tie.close (tie.spec word_at-requires returns returns-2)

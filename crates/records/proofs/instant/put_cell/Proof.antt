@@ -9,11 +9,11 @@ use borrow.Author.Rules.{rules}
 use Rattle.records.proofs.instant.put_cell.Statement.{statement}
 use Rattle.records.proofs.instant.put_cell.Tie as tie
 
-put-word-requires : tie.Need-put-word-requires
-put-word-requires c κs = simp length-set (omega arith)
+put_word-requires : tie.Need-put_word-requires
+put_word-requires c κs = simp length-set (omega arith)
 
-same_length : tie.Need-same-length
-same_length c = c.before.before.put_word.auto.0 ∙ simp length-set
+same_length : tie.Need-shape_of-buffer
+same_length c = c.put_word.auto.buffer ∙ simp length-set
 
 returns : tie.Need-returns
 returns c =
@@ -21,8 +21,8 @@ returns c =
     let t = p.before.before.before in
     let s = t.before.before in
     let a = s.args in
-    cell-stored a.buffer.now _ a.at a.t a.tag t.tick-byte.ensures (p.before.raw_of.ensures ∙ ap raw_of (to_z-of_z s.ranges.tag)) p.put_word.ensures
+    cell-stored a.buffer.now _ a.at a.t a.tag t.tick_byte.ensures (p.raw_of.ensures ∙ ap raw_of (to_z-of_z s.ranges.tag)) p.put_word.ensures
 
-pub put-cell-spec : {M : Type 1} → statement M
-put-cell-spec =
-    tie.close (tie.spec (λ c κs. search rules) (λ c. search rules) (λ c. search rules) (λ c κs. search rules) put-word-requires same_length returns)
+pub put_cell_spec : {M : Type 1} → statement M
+put_cell_spec =
+    tie.close (tie.spec (λ c κs. search rules) (λ c. search rules) (λ c. search rules) (λ c κs. search rules) put_word-requires same_length returns)

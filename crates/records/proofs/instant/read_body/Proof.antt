@@ -11,35 +11,35 @@ use Rattle.records.proofs.instant.read_body.Statement.{statement}
 use Rattle.records.proofs.instant.read_body.Tie as tie
 
 -- the place where the kind is known
-abbrev shaped : tie.Else2 → tie.After-form-shape
+abbrev shaped : tie.Else-body-wide_byte → tie.After-form_shape-shape
 shaped c = c.before.before.before
 
-returns : tie.Need-returns
+returns : tie.Need-returns-then-not-known
 returns c = search (rules, read-13)
 
-add-if2 : tie.Need-overflow-add-if2
+add-if2 : tie.Need-overflow_add-wide_byte
 add-if2 c =
     let f = c.before.before in
-    let s = ap (λ (t : FormShape). t.before) f.form-shape.ensures in
-    let n = number-few f.before.before.args.kind in
-    record { fits = omega (arith, c.wide-byte.ensures, f.before.before.requires) }
+    let s = ap (λ (t : FormShape). t.before) f.form_shape-shape.ensures in
+    let n = number-few f.args.kind in
+    record { fits = omega (arith, c.wide_byte.ensures, f.requires) }
 
-returns-2 : tie.Need-returns-2
+returns-2 : tie.Need-returns-then-body-wide_byte
 returns-2 c = search (rules, read-14)
 
-form-of-requires : tie.Need-form-of-requires
-form-of-requires c κs = let s = ap (λ (t : FormShape). t.before) (shaped c).form-shape.ensures in omega (arith, c.if2.false)
+form_of-requires : tie.Need-form_of-form-requires
+form_of-requires c κs = let s = ap (λ (t : FormShape). t.before) (shaped c).form_shape-shape.ensures in omega (arith, c.if-body-wide_byte.false)
 
-read-cells-requires : tie.Need-read-cells-requires
-read-cells-requires c κs =
+read_cells-requires : tie.Need-read_cells-requires
+read_cells-requires c κs =
     let e = c.before.before in
-    let k = length-drop (shaped e).form-shape.result.before (shaped e).before.before.args.body.now in
-    ((shaped e).before.before.requires, rw part-from (omega (arith, e.if2.false, e.before.wide-byte.ensures)))
+    let k = length-drop (shaped e).form_shape-shape.result.before (shaped e).args.body.now in
+    ((shaped e).requires, rw part-from (omega (arith, e.if-body-wide_byte.false, e.wide_byte.ensures)))
 
-returns-3 : tie.Need-returns-3
+returns-3 : tie.Need-returns
 returns-3 c = search (rules, read-clocks)
 
-pub read-body-spec : {M : Type 1} → statement M
-read-body-spec =
+pub read_body_spec : {M : Type 1} → statement M
+read_body_spec =
     tie.close (tie.spec (λ c κs. search rules) (λ c κs. search rules) returns (λ c κs. search rules) (λ c. search rules) add-if2
-    (λ c κs. search rules) returns-2 form-of-requires (λ c. search rules) (λ c. search rules) (λ c. search rules) read-cells-requires returns-3)
+    (λ c κs. search rules) returns-2 form_of-requires (λ c. search rules) (λ c. search rules) (λ c. search rules) read_cells-requires returns-3)

@@ -5,8 +5,8 @@ use Rattle.records.proofs.instant.with_cell.Statement.{statement}
 use Rattle.records.proofs.instant.with_cell.Tie as tie
 
 returns : tie.Need-returns
-returns c = rw (c.with_tag.ensures, to_z-of_z c.before.before.before.ranges.tag)
+returns c = rw (c.with_tag-tags.ensures, to_z-of_z c.ranges.tag)
 
-pub with-cell-spec : {M : Type 1} → statement M
-with-cell-spec =
+pub with_cell_spec : {M : Type 1} → statement M
+with_cell_spec =
     tie.close (tie.spec (λ c. search rules) (λ c κs. search rules) returns)

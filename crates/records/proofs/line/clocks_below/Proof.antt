@@ -10,25 +10,25 @@ use borrow.Author.Rules.{rules}
 use Rattle.records.proofs.line.clocks_below.Statement.{statement}
 use Rattle.records.proofs.line.clocks_below.Tie as tie
 
-abbrev invariant-loop : tie.invariant-loop
+abbrev invariant-loop : tie.invariant-loop-i
 invariant-loop body n clocks i₀ i =
     (i ≤ n) × (all_below clocks (take n body) ≡ all_below clocks (take (n - i) (drop i body)))
 
-abbrev decreases-loop : tie.decreases-loop
+abbrev decreases-loop : tie.decreases-loop-i
 decreases-loop body n clocks i₀ i = n - i
 
-loop-holds : tie.Need-loop-init invariant-loop decreases-loop
+loop-holds : tie.Need-loop-i-init invariant-loop decreases-loop
 loop-holds c = (omega arith, rw sub-zero)
 
-returns : tie.Need-returns invariant-loop decreases-loop
+returns : tie.Need-returns-then-clocks-body invariant-loop decreases-loop
 returns c = search (rules, below-no)
 
-loop-again : tie.Need-loop-preserved invariant-loop decreases-loop
+loop-again : tie.Need-loop-i-preserved invariant-loop decreases-loop
 loop-again c = (omega arith, search (rules, below_more))
 
-returns-2 : tie.Need-returns-2 invariant-loop decreases-loop
+returns-2 : tie.Need-returns invariant-loop decreases-loop
 returns-2 c = search (rules, below_end)
 
-pub clocks-below-spec : {M : Type 1} → statement M
-clocks-below-spec =
+pub clocks_below_spec : {M : Type 1} → statement M
+clocks_below_spec =
     tie.close (tie.spec invariant-loop decreases-loop loop-holds (λ c. search rules) returns (λ c. search rules) (λ c. search rules) loop-again returns-2)

@@ -6,29 +6,29 @@ use Rattle.records.proofs.line.Table.{beyond}
 use Rattle.records.proofs.line.front_clocks.Statement.{statement}
 use Rattle.records.proofs.line.front_clocks.Tie as tie
 
-returns : tie.Need-returns
+returns : tie.Need-returns-in-20
 unfolding clocks_of
-returns c = rw c.match.keys1
+returns c = rw c.in-20.is
 
-returns-2 : tie.Need-returns-2
+returns-2 : tie.Need-returns-in-24
 unfolding clocks_of
-returns-2 c = rw c.match.keys2
+returns-2 c = rw c.in-24.is
 
-returns-3 : tie.Need-returns-3
+returns-3 : tie.Need-returns-in-16-to-23
 unfolding clocks_of
 returns-3 c =
-    let m = c.before.before.match.rest in
-    simp (ne_eqb _ _ m.0.1, ne_eqb _ _ m.1, le-leb 16 _ c.before.if1.false, le-leb c.before.before.before.args.kind 24 (omega arith))
+    let m = c.in-16-to-23.in_default-own.rest in
+    simp (ne_eqb _ _ m.0.1, ne_eqb _ _ m.1, le-leb 16 _ c.in-16-to-23.if-kind-lt16-own.false, le-leb c.args.kind 24 (omega arith))
 
-returns-4 : tie.Need-returns-4
+returns-4 : tie.Need-returns-in_default
 unfolding clocks_of
-returns-4 c = let m = c.before.match.rest in simp (ne_eqb _ _ m.0.1, ne_eqb _ _ m.1, lt-leb 16 _ c.if1.true)
+returns-4 c = let m = c.in_default.in_default-own.rest in simp (ne_eqb _ _ m.0.1, ne_eqb _ _ m.1, lt-leb 16 _ c.in_default.if-kind-lt16-own.true)
 
-returns-5 : tie.Need-returns-5
+returns-5 : tie.Need-returns-in_default-2
 unfolding clocks_of
 returns-5 c =
-    let m = c.before.before.match.rest in
-    simp (ne_eqb _ _ m.0.1, ne_eqb _ _ m.1, le-leb 16 _ c.before.if1.false, lt-leb c.before.before.before.args.kind 24 (beyond _ m.1 c.if2.false))
+    let m = c.in_default.in_default-own.rest in
+    simp (ne_eqb _ _ m.0.1, ne_eqb _ _ m.1, le-leb 16 _ c.in_default.if-kind-lt16-own.false, lt-leb c.args.kind 24 (beyond _ m.1 c.in_default.if-kind-lt24-own.false))
 
-pub front-clocks-spec : {M : Type 1} → statement M
-front-clocks-spec = tie.close (tie.spec returns returns-2 returns-3 returns-4 returns-5)
+pub front_clocks_spec : {M : Type 1} → statement M
+front_clocks_spec = tie.close (tie.spec returns returns-2 returns-3 returns-4 returns-5)

@@ -6,15 +6,15 @@ use Rattle.records.specs.Line.{length_of}
 use Rattle.records.proofs.line.is_uncounted.Statement.{statement}
 use Rattle.records.proofs.line.is_uncounted.Tie as tie
 
-shared-slice-read-result : tie.Need-shared-slice-read-result
+shared_slice_read-result : tie.Need-bounds-body-3
 unfolding length_of
-shared-slice-read-result c = let e = ap length_of c.before.if1.true in omega (arith, c.before.before.requires)
+shared_slice_read-result c = let e = ap length_of c.if-kind-eq-COUNTED.true in omega (arith, c.requires)
 
-returns : tie.Need-returns
-returns c = simp (eq-eqb c.before.before.args.kind 24 c.before.if1.true)
+returns : tie.Need-returns-then-kind-eq-COUNTED
+returns c = simp (eq-eqb c.args.kind 24 c.if-kind-eq-COUNTED.true)
 
-returns-2 : tie.Need-returns-2
-returns-2 c = simp (ne_eqb c.before.args.kind 24 c.if1.false)
+returns-2 : tie.Need-returns-else-kind-eq-COUNTED
+returns-2 c = simp (ne_eqb c.args.kind 24 c.if-kind-eq-COUNTED.false)
 
-pub is-uncounted-spec : {M : Type 1} → statement M
-is-uncounted-spec = tie.close (tie.spec shared-slice-read-result returns returns-2)
+pub is_uncounted_spec : {M : Type 1} → statement M
+is_uncounted_spec = tie.close (tie.spec shared_slice_read-result returns returns-2)

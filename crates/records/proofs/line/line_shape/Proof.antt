@@ -6,39 +6,39 @@ use Rattle.records.proofs.line.Table.{beyond}
 use Rattle.records.proofs.line.line_shape.Statement.{statement}
 use Rattle.records.proofs.line.line_shape.Tie as tie
 
-returns : tie.Need-returns
+returns : tie.Need-returns-in-16
 unfolding length_of
-returns c = rw c.match.keys1
+returns c = rw c.in-16.is
 
-returns-2 : tie.Need-returns-2
+returns-2 : tie.Need-returns-in-17
 unfolding length_of
-returns-2 c = rw c.match.keys2
+returns-2 c = rw c.in-17.is
 
-returns-3 : tie.Need-returns-3
+returns-3 : tie.Need-returns-in-20
 unfolding length_of
-returns-3 c = rw c.match.keys3
+returns-3 c = rw c.in-20.is
 
-returns-4 : tie.Need-returns-4
+returns-4 : tie.Need-returns-in-24
 unfolding length_of
-returns-4 c = rw c.match.keys4
+returns-4 c = rw c.in-24.is
 
-returns-5 : tie.Need-returns-5
+returns-5 : tie.Need-returns-in-18-to-19
 unfolding length_of
 returns-5 c =
-    let m = c.before.before.match.rest in
-    simp (ne_eqb _ _ m.0.0.0.1, ne_eqb _ _ m.0.0.1, ne_eqb _ _ m.0.1, ne_eqb _ _ m.1, le-leb 16 _ c.before.if1.false, le-leb c.before.before.before.args.kind 24 (omega arith))
+    let m = c.in-18-to-19.in_default-own.rest in
+    simp (ne_eqb _ _ m.0.0.0.1, ne_eqb _ _ m.0.0.1, ne_eqb _ _ m.0.1, ne_eqb _ _ m.1, le-leb 16 _ c.in-18-to-19.if-kind-lt16-own.false, le-leb c.args.kind 24 (omega arith))
 
-returns-6 : tie.Need-returns-6
+returns-6 : tie.Need-returns-in_default
 unfolding length_of
 returns-6 c =
-    let m = c.before.match.rest in
-    simp (ne_eqb _ _ m.0.0.0.1, ne_eqb _ _ m.0.0.1, ne_eqb _ _ m.0.1, ne_eqb _ _ m.1, lt-leb 16 _ c.if1.true)
+    let m = c.in_default.in_default-own.rest in
+    simp (ne_eqb _ _ m.0.0.0.1, ne_eqb _ _ m.0.0.1, ne_eqb _ _ m.0.1, ne_eqb _ _ m.1, lt-leb 16 _ c.in_default.if-kind-lt16-own.true)
 
-returns-7 : tie.Need-returns-7
+returns-7 : tie.Need-returns-in_default-2
 unfolding length_of
 returns-7 c =
-    let m = c.before.before.match.rest in
-    simp (ne_eqb _ _ m.0.0.0.1, ne_eqb _ _ m.0.0.1, ne_eqb _ _ m.0.1, ne_eqb _ _ m.1, le-leb 16 _ c.before.if1.false, lt-leb c.before.before.before.args.kind 24 (beyond _ m.1 c.if2.false))
+    let m = c.in_default.in_default-own.rest in
+    simp (ne_eqb _ _ m.0.0.0.1, ne_eqb _ _ m.0.0.1, ne_eqb _ _ m.0.1, ne_eqb _ _ m.1, le-leb 16 _ c.in_default.if-kind-lt16-own.false, lt-leb c.args.kind 24 (beyond _ m.1 c.in_default.if-kind-lt24-own.false))
 
-pub line-shape-spec : {M : Type 1} → statement M
-line-shape-spec = tie.close (tie.spec returns returns-2 returns-3 returns-4 returns-5 returns-6 returns-7)
+pub line_shape_spec : {M : Type 1} → statement M
+line_shape_spec = tie.close (tie.spec returns returns-2 returns-3 returns-4 returns-5 returns-6 returns-7)

@@ -6,16 +6,16 @@ use borrow.Author.Rules.{rules}
 use Rattle.records.proofs.line.line_size.Statement.{statement}
 use Rattle.records.proofs.line.line_size.Tie as tie
 
-add-result : tie.Need-overflow-add-result
+add-result : tie.Need-overflow_add-result
 add-result c =
-    let e = table-size c.before.before.before.args.l c.before.line-shape.ensures c.before.before.kind-of.ensures in
-    omega (arith, (shaped c.before.before.before.args.l).short)
+    let e = table-size c.args.l c.line_shape-shape.ensures c.kind_of.ensures in
+    omega (arith, (shaped c.args.l).short)
 
 returns : tie.Need-returns
 returns c =
-    let e = table-size c.before.before.before.args.l c.before.line-shape.ensures c.before.before.kind-of.ensures in
+    let e = table-size c.args.l c.line_shape-shape.ensures c.kind_of.ensures in
     omega arith
 
-pub line-size-spec : {M : Type 1} → statement M
-line-size-spec =
+pub line_size_spec : {M : Type 1} → statement M
+line_size_spec =
     tie.close (tie.spec (λ c κs. search rules) (λ c κs. search rules) add-result returns)

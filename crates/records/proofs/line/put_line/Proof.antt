@@ -11,7 +11,7 @@ use Rattle.records.proofs.line.put_line.Statement.{statement}
 use Rattle.records.proofs.line.put_line.Tie as tie
 
 -- ---- the line's shape
-module _ (c : tie.After-line-shape) where
+module _ (c : tie.After-line_shape-shape) where
   abbrev entry : tie.Start
   entry = c.before.before.before
 
@@ -19,21 +19,21 @@ module _ (c : tie.After-line-shape) where
   line = entry.args.l
 
   -- the table's length is that of the body
-  size : c.line-shape.result.length ≡ length (body_of line)
-  size = table-size line c.line-shape.ensures c.before.kind-of.ensures
+  size : c.line_shape-shape.result.length ≡ length (body_of line)
+  size = table-size line c.line_shape-shape.ensures c.kind_of-kind.ensures
 
-cast-put-head : tie.Need-overflow-cast-put-head
-cast-put-head c = let s = c.before in omega (arith, size s, (shaped (line s)).short)
+cast-put_head : tie.Need-overflow_cast-n
+cast-put_head c = let s = c.before in omega (arith, size s, (shaped (line s)).short)
 
 -- ---- the places: the head stored, and the shape before it
-abbrev headed : tie.After-body-of → tie.After-put-head
+abbrev headed : tie.After-body_of → tie.After-put_head
 headed c = c.before.before.before.before
 
-abbrev shape : tie.After-body-of → tie.After-line-shape
+abbrev shape : tie.After-body_of → tie.After-line_shape-shape
 shape c = (headed c).before.before
 
-put-body-requires : tie.Need-put-body-requires
-put-body-requires c κs = let s = shape c in omega (arith, size s, (shaped (line s)).short, (headed c).put-head.auto.0)
+put_body-requires : tie.Need-put_body-requires
+put_body-requires c κs = let s = shape c in omega (arith, size s, (shaped (line s)).short, (headed c).put_head.auto.buffer)
 
 returns : tie.Need-returns
 returns c =
@@ -41,9 +41,9 @@ returns c =
     let b = p.before in
     let s = shape b in
     let a = (entry s).args in
-    line-stored a.l a.buffer.now _ _ a.at _ s.before.kind-of.ensures (size s) b.body_of.ensures.0 (headed b).put-head.ensures p.put-body.ensures
+    line-stored a.l a.buffer.now _ _ a.at _ s.kind_of-kind.ensures (size s) b.body_of.ensures.0 (headed b).put_head.ensures p.put_body.ensures
 
-pub put-line-spec : {M : Type 1} → statement M
-put-line-spec =
-    tie.close (tie.spec (λ c κs. search rules) (λ c κs. search rules) cast-put-head (λ c κs. search rules) (λ c. search rules) (λ c κs. search rules)
-    put-body-requires (λ c. search rules) returns)
+pub put_line_spec : {M : Type 1} → statement M
+put_line_spec =
+    tie.close (tie.spec (λ c κs. search rules) (λ c κs. search rules) cast-put_head (λ c κs. search rules) (λ c. search rules) (λ c κs. search rules)
+    put_body-requires (λ c. search rules) returns)

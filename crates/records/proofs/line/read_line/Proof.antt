@@ -11,8 +11,8 @@ use Rattle.records.proofs.line.read_line.Statement.{statement}
 use Rattle.records.proofs.line.read_line.Tie as tie
 
 -- ---- a body of the length that its kind has
-module _ (c : tie.Else4) where
-  abbrev shape : tie.After-line-shape
+module _ (c : tie.Else-body-shape) where
+  abbrev shape : tie.After-line_shape-shape
   shape = c.before.before.before.before
 
   abbrev entry : tie.Start
@@ -22,21 +22,21 @@ module _ (c : tie.Else4) where
   body = entry.args.body.now
 
   long : length body ≡ length_of entry.args.kind
-  long = size _ body _ shape.line-shape.ensures c.if4.false
+  long = size _ body _ shape.line_shape-shape.ensures c.if-body-shape.false
 
-clocks-below-requires : tie.Need-clocks-below-requires
-clocks-below-requires c κs = let l = c.before in room _ (body l) _ (shape l).line-shape.ensures l.if4.false c.front-clocks.ensures
+clocks_below-requires : tie.Need-clocks_below-requires
+clocks_below-requires c κs = let l = c.before in room _ (body l) _ (shape l).line_shape-shape.ensures l.if-body-shape.false c.front_clocks.ensures
 
-is-uncounted-requires : tie.Need-is-uncounted-requires
-is-uncounted-requires c κs = omega (arith, long c.before.before.before)
+is_uncounted-requires : tie.Need-is_uncounted-requires
+is_uncounted-requires c κs = omega (arith, long c.before.before.before)
 
-line-of-requires : tie.Need-line-of-requires
-line-of-requires c κs =
+line_of-requires : tie.Need-line_of-requires
+line_of-requires c κs =
     let l = c.before.before.before.before.before.before.before in
-    (known _ _ (shape l).line-shape.ensures l.before.before.before.if2.false, long l)
+    (known _ _ (shape l).line_shape-shape.ensures l.if-not-known.false-raw, long l)
 
-pub read-line-spec : {M : Type 1} → statement M
-read-line-spec =
+pub read_line_spec : {M : Type 1} → statement M
+read_line_spec =
     tie.close (tie.spec (λ c. search (rules, read-8) depth 12) (λ c κs. search rules) (λ c. search (rules, read-5) depth 12) (λ c. search (rules, read-later) depth 12) (λ c. search (rules, read-6) depth 12)
-    (λ c κs. search rules) clocks-below-requires (λ c. search (rules, read-7) depth 12) is-uncounted-requires (λ c. search (rules, read-18) depth 12) (λ c κs. search rules) (λ c. search (rules, read-9) depth 12)
-    line-of-requires (λ c. search (rules, read-line) depth 12))
+    (λ c κs. search rules) clocks_below-requires (λ c. search (rules, read-7) depth 12) is_uncounted-requires (λ c. search (rules, read-18) depth 12) (λ c κs. search rules) (λ c. search (rules, read-9) depth 12)
+    line_of-requires (λ c. search (rules, read-line) depth 12))

@@ -6,11 +6,11 @@ use borrow.Author.Rules.{rules}
 use Rattle.records.proofs.next.is_next.Statement.{statement}
 use Rattle.records.proofs.next.is_next.Tie as tie
 
-returns : tie.Need-returns
-returns c = rw c.enum_told.given.1
+returns : tie.Need-returns-in-Plain
+returns c = rw c.in-Plain.is
 
-returns-2 : tie.Need-returns-2
-returns-2 c = rw c.before.form.given.1 (ap (eqb c.before.form.given.0.0) (omega arith))
+returns-2 : tie.Need-returns-in-Numbered
+returns-2 c = rw c.in-Numbered.is (ap (eqb c.in-Numbered.n) (omega arith))
 
-pub is-next-spec : {M : Type 1} → statement M
-is-next-spec = tie.close (tie.spec (λ c. search rules) (λ c. search rules) (λ c. search rules) (λ c. search rules) returns returns-2)
+pub is_next_spec : {M : Type 1} → statement M
+is_next_spec = tie.close (tie.spec (λ c. search rules) (λ c. search rules) (λ c. search rules) (λ c. search rules) returns returns-2)

@@ -7,6 +7,6 @@ use Rattle.records.proofs.record.put_head.Tie as tie
 returns : tie.Need-returns
 returns c = search (rules, head-stored)
 
-pub put-head-spec : {M : Type 1} → statement M
-put-head-spec =
+pub put_head_spec : {M : Type 1} → statement M
+put_head_spec =
     tie.close (tie.spec (λ c κs. search rules) (λ c. search rules) (λ c κs. search rules) (λ c. search rules) returns)

@@ -5,12 +5,12 @@ use borrow.Author.Rules.{rules}
 use Rattle.records.proofs.record.record_at.Statement.{statement}
 use Rattle.records.proofs.record.record_at.Tie as tie
 
-returns : tie.Need-returns
-returns c = sym (torn-past _ _ c.if1.true)
+returns : tie.Need-returns-then-bytes-at
+returns c = sym (torn-past _ _ c.if-bytes-at.true)
 
-returns-2 : tie.Need-returns-2
-returns-2 c = c.first-record.ensures ∙ rw part-from (at_front _ _)
+returns-2 : tie.Need-returns
+returns-2 c = c.first_record.ensures ∙ rw part-from (at_front _ _)
 
-pub record-at-spec : {M : Type 1} → statement M
-record-at-spec =
+pub record_at_spec : {M : Type 1} → statement M
+record_at_spec =
     tie.close (tie.spec returns (λ c. search rules) (λ c. search rules) (λ c. search rules) (λ c κs. search rules) returns-2)

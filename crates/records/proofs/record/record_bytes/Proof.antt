@@ -5,23 +5,23 @@ use borrow.Author.Rules.{rules}
 use Rattle.records.proofs.record.record_bytes.Statement.{statement}
 use Rattle.records.proofs.record.record_bytes.Tie as tie
 
-returns : tie.Need-returns
-returns c = past-span _ _ c.before.if1.true
+returns : tie.Need-returns-then-bytes-at
+returns c = past-span _ _ c.if-bytes-at.true
 
-add-result-2 : tie.Need-overflow-add-result-2
-add-result-2 c = omega (arith, span_fits _ _ c.before.before.before.record-at.ensures c.before.kind.given.1)
+add-result-2 : tie.Need-overflow_add-result-in-Whole
+add-result-2 c = omega (arith, span_fits _ _ c.record_at.ensures c.in-Whole.is)
 
-part-result-end-3 : tie.Need-slice-bounds-result-end-3
-part-result-end-3 c = span_fits _ _ c.before.before.before.record-at.ensures c.before.kind.given.1
+part-result-end-3 : tie.Need-slice_bounds-result-end-in-Whole
+part-result-end-3 c = span_fits _ _ c.record_at.ensures c.in-Whole.is
 
-returns-2 : tie.Need-returns-2
-returns-2 c = torn-span _ _ c.before.before.before.record-at.ensures c.before.enum_told.given.1
+returns-2 : tie.Need-returns-in-Torn
+returns-2 c = torn-span _ _ c.record_at.ensures c.in-Torn.is
 
-returns-3 : tie.Need-returns-3
-returns-3 c = whole-span _ _ c.before.before.before.before.record-at.ensures c.before.before.kind.given.1
+returns-3 : tie.Need-returns-in-Whole
+returns-3 c = whole-span _ _ c.record_at.ensures c.in-Whole.is
 
-pub record-bytes-spec : {M : Type 1} → statement M
-record-bytes-spec =
+pub record_bytes_spec : {M : Type 1} → statement M
+record_bytes_spec =
     tie.close (tie.spec (λ c. search rules) (λ c. search rules) (λ c. search rules) returns (λ c κs. search rules) (λ c. search rules)
     (λ c. search rules) (λ c. search rules) (λ c. search rules) (λ c. search rules) (λ c. search rules) add-result-2 (λ c. search rules)
     (λ c. search rules) part-result-end-3 returns-2 returns-3)

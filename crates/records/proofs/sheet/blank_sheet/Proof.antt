@@ -4,8 +4,8 @@ use Rattle.records.proofs.sheet.blank_sheet.Statement.{statement}
 use Rattle.records.proofs.sheet.blank_sheet.Tie as tie
 
 returns : tie.Need-returns
-returns c = rw c.blank-line.ensures
+returns c = rw c.blank_line-line.ensures
 
-pub blank-sheet-spec : {M : Type 1} → statement M
-blank-sheet-spec =
+pub blank_sheet_spec : {M : Type 1} → statement M
+blank_sheet_spec =
     tie.close (tie.spec (λ c κs. search rules) returns)

@@ -4,8 +4,8 @@ use Rattle.records.proofs.sheet.refused_sheet.Statement.{statement}
 use Rattle.records.proofs.sheet.refused_sheet.Tie as tie
 
 returns : tie.Need-returns
-returns c = rw c.blank-sheet.ensures
+returns c = rw c.blank_sheet-sheet.ensures
 
-pub refused-sheet-spec : {M : Type 1} → statement M
-refused-sheet-spec =
+pub refused_sheet_spec : {M : Type 1} → statement M
+refused_sheet_spec =
     tie.close (tie.spec (λ c κs. search rules) returns)

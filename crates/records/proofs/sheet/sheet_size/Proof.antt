@@ -9,28 +9,28 @@ use borrow.Author.Rules.{rules}
 use Rattle.records.proofs.sheet.sheet_size.Statement.{statement}
 use Rattle.records.proofs.sheet.sheet_size.Tie as tie
 
-abbrev invariant-loop : tie.invariant-loop
+abbrev invariant-loop : tie.invariant-loop-i
 invariant-loop s n size₀ i₀ size i =
     (i ≤ n) × (size ≤ 5 + 10 * i) × (length (sheet_bytes (sheet_value s)) ≡ size + length (lines_left s n i))
 
-abbrev decreases-loop : tie.decreases-loop
+abbrev decreases-loop : tie.decreases-loop-i
 decreases-loop s n size₀ i₀ size i = n - i
 
-loop-holds : tie.Need-loop-init invariant-loop decreases-loop
+loop-holds : tie.Need-loop-i-init invariant-loop decreases-loop
 loop-holds c = (omega arith, omega arith, sheet-length c.args.s)
 
-add-size-2 : tie.Need-overflow-add-size-2 invariant-loop decreases-loop
-add-size-2 c = omega (arith, size_small c.line-size.result c.before.line_at_lem.result c.line-size.ensures)
+add-size-2 : tie.Need-overflow_add-size-in-loop-i invariant-loop decreases-loop
+add-size-2 c = omega (arith, size_small c.line_size-size.result c.line_at.result c.line_size-size.ensures)
 
-loop-again : tie.Need-loop-preserved invariant-loop decreases-loop
+loop-again : tie.Need-loop-i-preserved invariant-loop decreases-loop
 loop-again c =
-    let b = size_small c.line-size.result c.before.line_at_lem.result c.line-size.ensures in
+    let b = size_small c.line_size-size.result c.line_at.result c.line_size-size.ensures in
     (omega arith, omega arith, search (rules, size-more) depth 8)
 
 returns : tie.Need-returns invariant-loop decreases-loop
 returns c = search (rules, size-all) depth 8
 
-pub sheet-size-spec : {M : Type 1} → statement M
-sheet-size-spec =
+pub sheet_size_spec : {M : Type 1} → statement M
+sheet_size_spec =
     tie.close (tie.spec invariant-loop decreases-loop (λ c. search rules) loop-holds (λ c κs. search rules) (λ c κs. search rules) add-size-2 (λ c. search rules)
     (λ c. search rules) loop-again returns)

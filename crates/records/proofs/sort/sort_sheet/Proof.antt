@@ -7,22 +7,22 @@ use Rattle.records.proofs.sort.sort_sheet.Statement.{statement}
 use Rattle.records.proofs.sort.sort_sheet.Tie as tie
 
 -- the bytes read are bytes
-bytes : (c : tie.After-read-unordered) → IsBytes c.before.before.before.args.bytes.now
-bytes c = each-byte c.before.before.before.args.bytes.now (λ i. (c.before.before.shared-slice-known.given i).fits)
+bytes : (c : tie.After-read_unordered-read) → IsBytes c.args.bytes.now
+bytes c = each-byte c.args.bytes.now (λ i. (c.shared_slice_known-1.given i).fits)
 
 -- what was read, seen from the sheet that is sorted
-abbrev read : tie.After-sheet → tie.After-read-unordered
-read c = c.before.before.before
+abbrev read : tie.After-sheet-1 → tie.After-read_unordered-read
+read c = c.before.before
 
-sort-lines-requires : tie.Need-sort-lines-requires
-sort-lines-requires c κs = let h = bytes (read c) in search (rules, bytes-sortable) depth 12
+sort_lines-requires : tie.Need-sort_lines-requires
+sort_lines-requires c κs = let h = bytes (read c) in search (rules, bytes-sortable) depth 12
 
-returns : tie.Need-returns
+returns : tie.Need-returns-in-Refused
 returns c = search (rules, bytes-refused) depth 12
 
-returns-2 : tie.Need-returns-2
+returns-2 : tie.Need-returns-in-Done
 returns-2 c = let h = bytes (read c.before.before.before.before.before) in search (rules, bytes-sorted) depth 12
 
-pub sort-sheet-spec : {M : Type 1} → statement M
-sort-sheet-spec =
-    tie.close (tie.spec (λ c κs. search rules) (λ c. search rules) (λ c. search rules) sort-lines-requires (λ c κs. search rules) returns (λ c. search rules) returns-2)
+pub sort_sheet_spec : {M : Type 1} → statement M
+sort_sheet_spec =
+    tie.close (tie.spec (λ c κs. search rules) (λ c. search rules) (λ c. search rules) sort_lines-requires (λ c κs. search rules) returns (λ c. search rules) returns-2)
