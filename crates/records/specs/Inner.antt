@@ -1,5 +1,5 @@
 -- What contracts cite beside the definitions above: the same outcomes in the functions' own types.
-use Rattle.std.specs.Prelude.{ℕ, ◌+◌, ◌≤◌, ◌<◌, ◌≡◌, Bool, true, false, cond, List, [], ◌∷◌, ◌++◌, map, length, set, ℤ}
+use Rattle.std.specs.Prelude.{ℕ, ◌+◌, ◌≤◌, ◌<◌, ◌≡◌, Bool, true, false, cond, List, [], ◌∷◌, ◌++◌, map, set, ℤ}
 use Rattle.records.specs.declared.form.Form.{Form}
 use Rattle.records.specs.declared.form.FormShape.{FormShape}
 use Rattle.records.specs.declared.instant.Tick.{Tick}

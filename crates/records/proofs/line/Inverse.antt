@@ -10,7 +10,7 @@ use borrow.Author.Tests.{leb-true}
 use Rattle.records.specs.declared.line.Line.{Line}
 use Rattle.records.specs.declared.line.Line.TheVariants.{Sporadic, Relation, Implies, Excludes, Delayed, Weakly, Strictly, Kills, Counted}
 use Rattle.records.specs.Lists.{listed_from}
-use Rattle.records.specs.Word.{at, word_at, tag_of}
+use Rattle.records.specs.Word.{word_at, tag_of}
 use Rattle.records.specs.Line.{is_line, length_of, line_of, kind_of, body_of}
 use Rattle.records.specs.Types.{IsBytes, IsTag, IsLineValue}
 use Rattle.records.proofs.Lists.{both}

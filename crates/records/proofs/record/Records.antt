@@ -12,7 +12,7 @@ use lib.Dec.{leb, ltb}
 use borrow.Author.Tests.{leb-true, leb-false, ltb-true, ltb-false}
 use Rattle.records.specs.declared.record.Record.{Record}
 use Rattle.records.specs.declared.record.Record.TheVariants.{Whole, Torn}
-use Rattle.records.specs.Word.{at, word_at}
+use Rattle.records.specs.Word.{word_at}
 use Rattle.records.specs.Record.{Piece, whole, torn, Stands, Breaks, Records, length_field, kind_field, is_torn, pieces, PiecesAre, record_at}
 use Rattle.records.proofs.record.Cut.{no_pieces, fits_whole, front-whole}
 use Rattle.records.proofs.record.Laws.{whole-at, torn-at, pieces-at, pieces-torn-at}

@@ -1,6 +1,6 @@
 -- The sorted form of a sheet is one: two rising lists with the same lines are equal. It passes every check that the sheet passes, since no line of it is new and none stands twice; so it is written and reads back. Assumes nothing.
 use mathlib.Core.Path.{◌≡◌, refl, sym, ap, subst, ◌∙◌}
-use mathlib.Core.Bool.{true, false, true≢false}
+use mathlib.Core.Bool.{true, true≢false}
 use mathlib.Core.List.{List, [], ◌∷◌, map}
 use Prim.Native.Nat.{ℕ, ◌*◌, ◌≤◌}
 use native.Mathlib.Omega.{arith}

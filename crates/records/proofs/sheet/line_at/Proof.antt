@@ -1,7 +1,7 @@
 -- `line_at` meets its contract: past the end of the array the default is read. Assumes nothing.
 use mathlib.Core.Path.{◌≡◌}
 use native.Mathlib.Omega.{arith}
-use lib.ListN.{length, length-map, get_or-eq_default}
+use lib.ListN.{length, get_or-eq_default}
 use Rattle.records.specs.Line.{blank_line}
 use Rattle.records.specs.Sheet.{slot_of}
 use borrow.Author.Rules.{rules}
