@@ -54,7 +54,7 @@ loop-again c =
     let t = turn n in
     let s = start t in
     let m = t.loop-i in
-    let more = sorted_more m.inv.1 (omega (arith, s.requires.few-lines)) (words (row e)).words_of_line-w.ensures.line
+    let more = sorted_more m.invariant.1 (omega (arith, s.requires.few-lines)) (words (row e)).words_of_line-w.ensures.line
     (row e).put_words.ensures e.put_part-relations.ensures r.put_part-rules.ensures d.put_part-delays.ensures n.put_part-counted.ensures
     e.is_relation.ensures r.is_rule.ensures d.is_delay.ensures n.is_counted.ensures
     c.precedes-leads.ensures c.leaders_with-leaders.ensures c.flag_line-flags.ensures in
