@@ -60,8 +60,9 @@ pub holds-ordered : (ls : List Line) (run : List Filled) → EachHolds ls run �
 holds-ordered ls run h = by_lines ls run (λ A B m. of-line ls h m) (λ A B m. of-line ls h m)
   where
     of-line : {l : Line} (ls : List Line) → EachHolds ls run → Memᴰ l ls → Holds l run
-    of-line (k ∷ ls) h (Memᴰ.head e) = subst (λ (l : Line). Holds l run) (sym e) h.0
-    of-line (k ∷ ls) h (Memᴰ.tail m) = of-line ls h.1 m
+    of-line {l} [] h x = elim x [ ]
+    of-line {l} (k ∷ ls) h (Memᴰ.head e) = subst (λ (l : Line). Holds l run) (sym e) h.0
+    of-line {l} (k ∷ ls) h (Memᴰ.tail m) = of-line {l = l} ls h.1 m
 
 pub never-ahead : (s : SheetValue) (run : List Filled) → T (fits s run) → NeverAhead s.lines run
 never-ahead s run t = by_lines s.lines run (λ A B m. (weakly-law most_tag run A B).0 (of-line s.lines parts m)) (λ A B m. (strictly-law most_tag run A B).0 (of-line s.lines parts m))
@@ -70,8 +71,9 @@ never-ahead s run t = by_lines s.lines run (λ A B m. (weakly-law most_tag run A
     parts = ((fits-by-line s run).0 t).1
 
     of-line : {l : Line} (ls : List Line) → EachPart most_tag ls run → Memᴰ l ls → Part most_tag l run
-    of-line (k ∷ ls) h (Memᴰ.head e) = subst (λ (l : Line). Part most_tag l run) (sym e) h.0
-    of-line (k ∷ ls) h (Memᴰ.tail m) = of-line ls h.1 m
+    of-line {l} [] h x = elim x [ ]
+    of-line {l} (k ∷ ls) h (Memᴰ.head e) = subst (λ (l : Line). Part most_tag l run) (sym e) h.0
+    of-line {l} (k ∷ ls) h (Memᴰ.tail m) = of-line {l = l} ls h.1 m
 
 -- ---- obligations and countdowns: where the same are equal, the same set has the same members
 
@@ -112,6 +114,7 @@ module _ {A B : Type 0} (h k : A → B) where
   map_same (x ∷ xs) e = λ i. e x (Memᴰ.head refl) i ∷ map_same xs (λ y m. e y (Memᴰ.tail m)) i
 
   map_at : {x : A} (xs : List A) → map h xs ≡ map k xs → Memᴰ x xs → h x ≡ k x
+  map_at [] e x = elim x [ ]
   map_at (y ∷ xs) e (Memᴰ.head q) = cc
   map_at (y ∷ xs) e (Memᴰ.tail m) = map_at xs (cc) m
 

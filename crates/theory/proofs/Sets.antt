@@ -187,7 +187,7 @@ module _ {A : Type 0} (same : A → A → Bool) (E : Equivalence same) where
   pub insert_all-once : {xs ys : List A} → EachOnce same xs ys → (zs : List A) → EachOnce same (insert_all same xs zs) (ys ++ zs)
   insert_all-once {xs} {ys} h [] = subst (EachOnce same xs) (sym (append-nil ys)) h
   insert_all-once {xs} {ys} h (z ∷ zs) =
-      subst (EachOnce same (insert_all same (insert same xs z) zs)) (append_assoc ys (z ∷ []) zs) (insert_all-once (one (any (same z) xs) (λ t. t) (λ t. t)) zs)
+      subst (EachOnce same (insert_all same (insert same xs z) zs)) (append_assoc ys (z ∷ []) zs) (insert_all-once {xs = insert same xs z} {ys = ys ++ (z ∷ [])} (one (any (same z) xs) (λ t. t) (λ t. t)) zs)
     where
       one : (b : Bool) → (T b → T (any (same z) xs)) → (T (not b) → T (not (any (same z) xs))) → EachOnce same (cond b xs (xs ++ (z ∷ []))) (ys ++ (z ∷ []))
       one true t n = again h z z (E.reflex z) (t tt)
