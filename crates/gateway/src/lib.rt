@@ -2,6 +2,7 @@
 // A result of 64 bits, from its lowest byte up: the number of the refusal, or 0; the answer, 1 exhausted, 2 broken, 3 holding, 0 after a refusal;
 // live, 0 unless holding; 1 if clear, else 0; and in the upper 32 bits the count of instants taken, or held in a state.
 #![tactic(auto)]
+
 mod owing;
 mod pack;
 
