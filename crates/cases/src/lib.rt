@@ -1,5 +1,6 @@
 // Made cases for tests, of a fixed sequence: a sheet, its instants, damaged records between them, the sheet with its lines out of order, and what is counted and printed of them.
 #![tactic(auto)]
+
 mod counting;
 pub mod course;
 pub mod damage;

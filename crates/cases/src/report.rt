@@ -2,30 +2,30 @@
 ghost use Rattle.std.specs.Prelude.{◌≤◌};
 
 use crate::tally::{Tally, counted};
-use libc::STDOUT_FILENO;
+use std::io;
 
 // Ends a label.
 const LABEL_END: u8 = b'\n';
 
-pub fn say(words: &[u8]) {
-    io::write_all(STDOUT_FILENO, words);
+pub fn say(rt: &impl Print, words: &[u8]) -> io::Result<()> {
+    rt.write_all(words)
 }
 
-pub fn number(n: u64) {
-    io::print_decimal(STDOUT_FILENO, n);
+pub fn number(rt: &impl Print, n: u64) -> io::Result<()> {
+    print!(rt; "{n}")
 }
 
 // A row: what is counted, and how often.
-fn row(label: &[u8], n: u64) {
-    say(b"  ");
-    say(label);
-    say(b": ");
-    number(n);
-    say(b"\n");
+fn row(rt: &impl Print, label: &[u8], n: u64) -> io::Result<()> {
+    say(rt, b"  ")?;
+    say(rt, label)?;
+    say(rt, b": ")?;
+    number(rt, n)?;
+    say(rt, b"\n")
 }
 
 // A row for each label, of the places from the first on.
-pub fn rows(t: Tally, first: usize, labels: &[u8])
+pub fn rows(rt: &impl Print, t: Tally, first: usize, labels: &[u8]) -> io::Result<()>
     requires { first ≤ 64 }
 {
     let mut at = first;
@@ -36,20 +36,22 @@ pub fn rows(t: Tally, first: usize, labels: &[u8])
             i += 1;
             continue;
         }
-        row(&labels[from..i], counted(t, at));
+        row(rt, &labels[from..i], counted(t, at))?;
         at += 1;
         i += 1;
         from = i;
     }
+    Ok(())
 }
 
 // The rows of the four answers, from the place of the first on.
-pub fn answers(t: Tally, first: usize)
+pub fn answers(rt: &impl Print, t: Tally, first: usize) -> io::Result<()>
     requires { first ≤ 60 }
 {
     rows(
+        rt,
         t,
         first,
         b"holding, clear\nholding, owed\nbroken\nexhausted\n",
-    );
+    )
 }

@@ -1,6 +1,8 @@
 // columns SHEET LOG: a line per tag, with its raw word and the count in hundredths of a degree.
 #![tactic(auto)]
 
-fn main() {
-    programs::columns::run(1, 2);
+use std::io;
+
+fn main(rt: HostRuntime) -> io::Result<()> {
+    programs::columns::run(&rt, 1, 2)
 }

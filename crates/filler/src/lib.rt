@@ -1,5 +1,6 @@
 // A judge for tests: it tries every filling of the whole run and carries nothing from instant to instant.
 #![tactic(auto)]
+
 mod fits;
 mod found;
 mod history;

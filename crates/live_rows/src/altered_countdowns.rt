@@ -4,6 +4,7 @@ use crate::place;
 use crate::text::say;
 use gateway::{lift_observe, lift_open};
 use lent::live::STATE_WORDS;
+use std::io;
 
 // Ticks, each of which begins a countdown.
 const TICKS: usize = 8;
@@ -34,41 +35,47 @@ fn eight_countdowns() -> [u32; STATE_WORDS] {
     state
 }
 
-pub fn outside() {
-    say(b"Eight countdowns: a word made another, outside the limits\n");
+pub fn outside(rt: &impl Print) -> io::Result<()> {
+    say(
+        rt,
+        b"Eight countdowns: a word made another, outside the limits\n",
+    )?;
     let s = eight_countdowns();
     let row = place::HELD;
-    refused(b"a count of 0", s, place::LINE_NUMBER, 0);
-    refused(b"9 countdowns", s, row + place::COUNTING, 9);
+    refused(rt, b"a count of 0", s, place::LINE_NUMBER, 0)?;
+    refused(rt, b"9 countdowns", s, row + place::COUNTING, 9)?;
     refused(
+        rt,
         b"a countdown of clock 2",
         s,
         row + place::COUNTDOWN,
         OF_CLOCK_2,
-    );
+    )?;
     refused(
+        rt,
         b"a countdown on clock 2",
         s,
         row + place::COUNTDOWN,
         ON_CLOCK_2,
-    );
-    refused(b"0 wanted", s, row + place::COUNTDOWN, WANTS_0);
-    refused(b"256 wanted", s, row + place::COUNTDOWN, WANTS_256);
+    )?;
+    refused(rt, b"0 wanted", s, row + place::COUNTDOWN, WANTS_0)?;
+    refused(rt, b"256 wanted", s, row + place::COUNTDOWN, WANTS_256)?;
     refused(
+        rt,
         b"0 wanted by the eighth",
         s,
         row + place::EIGHTH_COUNTDOWN,
         WANTS_0,
-    );
+    )
 }
 
-pub fn at_limits() {
-    say(b"The same state: a word made another, at its limit\n");
+pub fn at_limits(rt: &impl Print) -> io::Result<()> {
+    say(rt, b"The same state: a word made another, at its limit\n")?;
     let s = eight_countdowns();
     let row = place::HELD;
-    held(b"a count of 1", s, place::LINE_NUMBER, 1);
-    held(b"8 countdowns", s, row + place::COUNTING, 8);
-    held(b"no countdown", s, row + place::COUNTING, 0);
-    held(b"1 wanted", s, row + place::COUNTDOWN, WANTS_1);
-    held(b"255 wanted", s, row + place::COUNTDOWN, WANTS_255);
+    held(rt, b"a count of 1", s, place::LINE_NUMBER, 1)?;
+    held(rt, b"8 countdowns", s, row + place::COUNTING, 8)?;
+    held(rt, b"no countdown", s, row + place::COUNTING, 0)?;
+    held(rt, b"1 wanted", s, row + place::COUNTDOWN, WANTS_1)?;
+    held(rt, b"255 wanted", s, row + place::COUNTDOWN, WANTS_255)
 }

@@ -4,6 +4,7 @@ use crate::state::{last, observe};
 use crate::text::say;
 use gateway::{lift_observe, lift_open};
 use lent::live::STATE_WORDS;
+use std::io;
 
 // Instants before the rows.
 const UNTOLD: usize = 3998;
@@ -19,35 +20,45 @@ fn idle_instants(state: &mut [u32; STATE_WORDS], times: usize) -> u64 {
     r
 }
 
-fn idle(state: &mut [u32; STATE_WORDS]) {
-    observe(state, b"observe, idle", b"\x03\x00\x20\x00\x00\x00\x00");
+fn idle(rt: &impl Print, state: &mut [u32; STATE_WORDS]) -> io::Result<()> {
+    observe(rt, state, b"observe, idle", b"\x03\x00\x20\x00\x00\x00\x00")
 }
 
 // An idle instant with a number from 3,840 on, by its low byte.
-fn numbered(state: &mut [u32; STATE_WORDS], what: &[u8], low: u8) {
+fn numbered(
+    rt: &impl Print,
+    state: &mut [u32; STATE_WORDS],
+    what: &[u8],
+    low: u8,
+) -> io::Result<()> {
     let mut r = [0u8; 9];
     r[0] = 5;
     r[2] = 33;
     r[4] = low;
     r[5] = 15;
-    observe(state, what, &r);
+    observe(rt, state, what, &r)
 }
 
-pub fn run() {
-    say(b"4,000 instants of one clock and no line\n");
+pub fn run(rt: &impl Print) -> io::Result<()> {
+    say(rt, b"4,000 instants of one clock and no line\n")?;
     let mut state = [0u32; STATE_WORDS];
-    row(b"open", lift_open(b"\x01\x00\x01\x00\x01", &mut state));
-    row(b"observe, 3,998 times", idle_instants(&mut state, UNTOLD));
-    idle(&mut state);
-    numbered(&mut state, b"observe, number 3,999", 159);
-    numbered(&mut state, b"observe, number 4,000", 160);
-    numbered(&mut state, b"observe, number 4,001", 161);
-    numbered(&mut state, b"observe, number 3,840", 0);
-    idle(&mut state);
+    row(rt, b"open", lift_open(b"\x01\x00\x01\x00\x01", &mut state))?;
+    row(
+        rt,
+        b"observe, 3,998 times",
+        idle_instants(&mut state, UNTOLD),
+    )?;
+    idle(rt, &mut state)?;
+    numbered(rt, &mut state, b"observe, number 3,999", 159)?;
+    numbered(rt, &mut state, b"observe, number 4,000", 160)?;
+    numbered(rt, &mut state, b"observe, number 4,001", 161)?;
+    numbered(rt, &mut state, b"observe, number 3,840", 0)?;
+    idle(rt, &mut state)?;
     observe(
+        rt,
         &mut state,
         b"observe, tick byte 3",
         b"\x03\x00\x20\x00\x03\x00\x00",
-    );
-    last(&state);
+    )?;
+    last(rt, &state)
 }

@@ -1,5 +1,6 @@
 // The calls on a state of words, for C and Rust: a row per call, with the whole result.
 #![tactic(auto)]
+
 mod altered;
 mod altered_countdowns;
 mod countdowns;
@@ -15,22 +16,24 @@ mod scale;
 mod state;
 mod text;
 
-fn main() {
-    listing::plain();
-    listing::with_refusals();
-    numbered::all();
-    long_delay::ticks();
-    long_delay::unseen_ticks();
-    long_delay::restarted();
-    countdowns::fourth_pulse();
-    countdowns::many();
-    scale::all();
-    altered::outside();
-    altered::at_limits();
-    altered::unused();
-    altered_countdowns::outside();
-    altered_countdowns::at_limits();
-    altered::no_monitor();
-    reopened::all();
-    full::run();
+use std::io;
+
+fn main(rt: HostRuntime) -> io::Result<()> {
+    listing::plain(&rt)?;
+    listing::with_refusals(&rt)?;
+    numbered::all(&rt)?;
+    long_delay::ticks(&rt)?;
+    long_delay::unseen_ticks(&rt)?;
+    long_delay::restarted(&rt)?;
+    countdowns::fourth_pulse(&rt)?;
+    countdowns::many(&rt)?;
+    scale::all(&rt)?;
+    altered::outside(&rt)?;
+    altered::at_limits(&rt)?;
+    altered::unused(&rt)?;
+    altered_countdowns::outside(&rt)?;
+    altered_countdowns::at_limits(&rt)?;
+    altered::no_monitor(&rt)?;
+    reopened::all(&rt)?;
+    full::run(&rt)
 }

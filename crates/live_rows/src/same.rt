@@ -1,6 +1,7 @@
 // Words compared.
 use crate::text::say;
 use lent::live::STATE_WORDS;
+use std::io;
 
 fn are_same(a: &[u32; STATE_WORDS], b: &[u32; STATE_WORDS]) -> bool {
     let mut i = 0;
@@ -14,10 +15,15 @@ fn are_same(a: &[u32; STATE_WORDS], b: &[u32; STATE_WORDS]) -> bool {
 }
 
 // Whether calls left a state's words as they were.
-pub fn compared(before: &[u32; STATE_WORDS], after: &[u32; STATE_WORDS]) {
+pub fn compared(
+    rt: &impl Print,
+    before: &[u32; STATE_WORDS],
+    after: &[u32; STATE_WORDS],
+) -> io::Result<()> {
     if are_same(before, after) {
-        say(b"  no word changed\n");
+        say(rt, b"  no word changed\n")?;
     } else {
-        say(b"  words changed\n");
+        say(rt, b"  words changed\n")?;
     }
+    Ok(())
 }

@@ -4,6 +4,7 @@ use crate::state::{IDLE, TICK, UNSEEN, last, observe, owing};
 use crate::text::say;
 use gateway::lift_open;
 use lent::live::STATE_WORDS;
+use std::io;
 
 // The high byte of each tag here, and the low bytes of 32,600, 32,700 and 32,759; the end has 255.
 const HIGH: u8 = 127;
@@ -16,93 +17,180 @@ const AT_32759: u8 = 247;
 
 const AT_END: u8 = 255;
 
-fn opened(state: &mut [u32; STATE_WORDS], delay: u8) {
+fn opened(rt: &impl Print, state: &mut [u32; STATE_WORDS], delay: u8) -> io::Result<()> {
     let mut sheet = [1u8, 0, 1, 0, 2, 5, 0, 20, 0, 0, 0, 1, 0, 0];
     sheet[12] = delay;
-    row(b"open", lift_open(&sheet, state));
+    row(rt, b"open", lift_open(&sheet, state))
 }
 
 // Clocks 0 and 1 as seen, 0 at a tag of that low byte.
-fn seen(state: &mut [u32; STATE_WORDS], call: &[u8], zero: u8, low: u8, one: u8) {
+fn seen(
+    rt: &impl Print,
+    state: &mut [u32; STATE_WORDS],
+    call: &[u8],
+    zero: u8,
+    low: u8,
+    one: u8,
+) -> io::Result<()> {
     let mut bytes = [6u8, 0, 32, 0, 0, 0, HIGH, 0, 0, 0];
     bytes[4] = zero;
     bytes[5] = low;
     bytes[7] = one;
-    observe(state, call, &bytes);
-    owing(state, 1);
+    observe(rt, state, call, &bytes)?;
+    owing(rt, state, 1)
 }
 
 // A delay from the end, and one past it.
-fn from_end() {
-    step(b"d = 0, begun at 32,767");
+fn from_end(rt: &impl Print) -> io::Result<()> {
+    step(rt, b"d = 0, begun at 32,767")?;
     let mut state = [0u32; STATE_WORDS];
-    opened(&mut state, 0);
-    seen(&mut state, b"observe, tick at 32,767", TICK, AT_END, IDLE);
+    opened(rt, &mut state, 0)?;
     seen(
+        rt,
+        &mut state,
+        b"observe, tick at 32,767",
+        TICK,
+        AT_END,
+        IDLE,
+    )?;
+    seen(
+        rt,
         &mut state,
         b"observe, reading at 32,767",
         IDLE,
         AT_END,
         TICK,
-    );
-    step(b"d = 1, begun at 32,767");
+    )?;
+    step(rt, b"d = 1, begun at 32,767")?;
     let mut state = [0u32; STATE_WORDS];
-    opened(&mut state, 1);
-    seen(&mut state, b"observe, tick at 32,767", TICK, AT_END, IDLE);
+    opened(rt, &mut state, 1)?;
+    seen(
+        rt,
+        &mut state,
+        b"observe, tick at 32,767",
+        TICK,
+        AT_END,
+        IDLE,
+    )
 }
 
 // A long lift: owed until its reading, and clear to its end.
-fn long_lift() {
-    step(b"d = 100, a long lift");
+fn long_lift(rt: &impl Print) -> io::Result<()> {
+    step(rt, b"d = 100, a long lift")?;
     let mut state = [0u32; STATE_WORDS];
-    opened(&mut state, 100);
-    seen(&mut state, b"observe, tick at 32,600", TICK, AT_32600, IDLE);
+    opened(rt, &mut state, 100)?;
     seen(
+        rt,
+        &mut state,
+        b"observe, tick at 32,600",
+        TICK,
+        AT_32600,
+        IDLE,
+    )?;
+    seen(
+        rt,
         &mut state,
         b"observe, reading at 32,700",
         IDLE,
         AT_32700,
         TICK,
-    );
-    seen(&mut state, b"observe, tick at 32,700", TICK, AT_32700, IDLE);
+    )?;
     seen(
+        rt,
+        &mut state,
+        b"observe, tick at 32,700",
+        TICK,
+        AT_32700,
+        IDLE,
+    )?;
+    seen(
+        rt,
         &mut state,
         b"observe, unseen at 32,767",
         UNSEEN,
         AT_END,
         IDLE,
-    );
-    last(&state);
+    )?;
+    last(rt, &state)
 }
 
 // Nine ticks, at 32,759 to 32,767.
-fn ticks(state: &mut [u32; STATE_WORDS]) {
-    seen(state, b"observe, tick at 32,759", TICK, AT_32759, IDLE);
-    seen(state, b"observe, tick at 32,760", TICK, AT_32759 + 1, IDLE);
-    seen(state, b"observe, tick at 32,761", TICK, AT_32759 + 2, IDLE);
-    seen(state, b"observe, tick at 32,762", TICK, AT_32759 + 3, IDLE);
-    seen(state, b"observe, tick at 32,763", TICK, AT_32759 + 4, IDLE);
-    seen(state, b"observe, tick at 32,764", TICK, AT_32759 + 5, IDLE);
-    seen(state, b"observe, tick at 32,765", TICK, AT_32759 + 6, IDLE);
-    seen(state, b"observe, tick at 32,766", TICK, AT_32759 + 7, IDLE);
-    seen(state, b"observe, tick at 32,767", TICK, AT_END, IDLE);
+fn ticks(rt: &impl Print, state: &mut [u32; STATE_WORDS]) -> io::Result<()> {
+    seen(rt, state, b"observe, tick at 32,759", TICK, AT_32759, IDLE)?;
+    seen(
+        rt,
+        state,
+        b"observe, tick at 32,760",
+        TICK,
+        AT_32759 + 1,
+        IDLE,
+    )?;
+    seen(
+        rt,
+        state,
+        b"observe, tick at 32,761",
+        TICK,
+        AT_32759 + 2,
+        IDLE,
+    )?;
+    seen(
+        rt,
+        state,
+        b"observe, tick at 32,762",
+        TICK,
+        AT_32759 + 3,
+        IDLE,
+    )?;
+    seen(
+        rt,
+        state,
+        b"observe, tick at 32,763",
+        TICK,
+        AT_32759 + 4,
+        IDLE,
+    )?;
+    seen(
+        rt,
+        state,
+        b"observe, tick at 32,764",
+        TICK,
+        AT_32759 + 5,
+        IDLE,
+    )?;
+    seen(
+        rt,
+        state,
+        b"observe, tick at 32,765",
+        TICK,
+        AT_32759 + 6,
+        IDLE,
+    )?;
+    seen(
+        rt,
+        state,
+        b"observe, tick at 32,766",
+        TICK,
+        AT_32759 + 7,
+        IDLE,
+    )?;
+    seen(rt, state, b"observe, tick at 32,767", TICK, AT_END, IDLE)
 }
 
 // With a delay of 100 all are due past the end, with one of 8 the first at it.
-fn nine_ticks() {
-    step(b"d = 100, nine ticks up to 32,767");
+fn nine_ticks(rt: &impl Print) -> io::Result<()> {
+    step(rt, b"d = 100, nine ticks up to 32,767")?;
     let mut state = [0u32; STATE_WORDS];
-    opened(&mut state, 100);
-    ticks(&mut state);
-    step(b"d = 8, nine ticks up to 32,767");
+    opened(rt, &mut state, 100)?;
+    ticks(rt, &mut state)?;
+    step(rt, b"d = 8, nine ticks up to 32,767")?;
     let mut state = [0u32; STATE_WORDS];
-    opened(&mut state, 8);
-    ticks(&mut state);
+    opened(rt, &mut state, 8)?;
+    ticks(rt, &mut state)
 }
 
-pub fn all() {
-    say(b"The end of the scale\n");
-    from_end();
-    long_lift();
-    nine_ticks();
+pub fn all(rt: &impl Print) -> io::Result<()> {
+    say(rt, b"The end of the scale\n")?;
+    from_end(rt)?;
+    long_lift(rt)?;
+    nine_ticks(rt)
 }

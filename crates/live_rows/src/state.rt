@@ -2,6 +2,7 @@
 use crate::row::{row, row_of};
 use gateway::{lift_last, lift_observe, lift_owing};
 use lent::live::STATE_WORDS;
+use std::io;
 
 // How a clock is seen.
 pub const IDLE: u8 = 0;
@@ -11,14 +12,19 @@ pub const TICK: u8 = 1;
 pub const UNSEEN: u8 = 2;
 
 // How many owe a clock.
-pub fn owing(state: &[u32; STATE_WORDS], clock: u8) {
-    row_of(b"owing, clock ", clock as u64, lift_owing(state, clock));
+pub fn owing(rt: &impl Print, state: &[u32; STATE_WORDS], clock: u8) -> io::Result<()> {
+    row_of(rt, b"owing, clock ", clock as u64, lift_owing(state, clock))
 }
 
-pub fn last(state: &[u32; STATE_WORDS]) {
-    row(b"last", lift_last(state));
+pub fn last(rt: &impl Print, state: &[u32; STATE_WORDS]) -> io::Result<()> {
+    row(rt, b"last", lift_last(state))
 }
 
-pub fn observe(state: &mut [u32; STATE_WORDS], call: &[u8], instant: &[u8]) {
-    row(call, lift_observe(state, instant));
+pub fn observe(
+    rt: &impl Print,
+    state: &mut [u32; STATE_WORDS],
+    call: &[u8],
+    instant: &[u8],
+) -> io::Result<()> {
+    row(rt, call, lift_observe(state, instant))
 }

@@ -5,7 +5,6 @@ use crate::due::{Due, Entry, entry_bytes, holding, pack, panel_due, result_due, 
 use crate::tally;
 use cases::tally::{Tally, count, count_answer, count_if};
 use cases::tape::front;
-use check::same;
 use gateway::{lift_judge, lift_panel, lift_watch};
 use judge::answer::{Answer, Reply};
 use logs::log::{Judged, judge_log};
@@ -102,8 +101,8 @@ fn is_watched(w: Outcome, wanted: u64, entries: [u8; 51], n: usize) -> bool {
     }
     let out = w.out;
     let blank = [BLANK; 64];
-    if same(behind(&out, n), behind(&blank, n)) {
-        return same(front(&out, n), front(behind(&entries, 3), n));
+    if behind(&out, n) == behind(&blank, n) {
+        return front(&out, n) == front(behind(&entries, 3), n);
     }
     false
 }

@@ -2,10 +2,12 @@
 use crate::tally;
 use cases::report::{answers, rows, say};
 use cases::tally::Tally;
+use std::io;
 
-fn calls(t: Tally) {
-    say(b"Calls compared with the judge of the whole run\n");
+fn calls(rt: &impl Print, t: Tally) -> io::Result<()> {
+    say(rt, b"Calls compared with the judge of the whole run\n")?;
     rows(
+        rt,
         t,
         tally::JUDGE_LOG,
         b"judge_log\n\
@@ -17,40 +19,45 @@ fn calls(t: Tally) {
         lift_panel, a tick is owed, all lines counted\n\
         lift_sheet_number\n\
         lift_instant_number\n",
-    );
+    )
 }
 
 // A row for each number; 11 and 16 are beyond these logs.
-fn numbers(t: Tally) {
+fn numbers(rt: &impl Print, t: Tally) -> io::Result<()> {
     say(
+        rt,
         b"Refusals of lift_judge, lift_sheet_number and lift_instant_number, and of a buffer too short\n",
-    );
+    )?;
     rows(
+        rt,
         t,
         tally::NUMBERS + 1,
         b"1\n2\n3\n4\n5\n6\n7\n8\n9\n10\n11\n12\n13\n14\n15\n16\n17\n18\n19\n",
-    );
+    )
 }
 
-pub fn table(t: Tally) {
+pub fn table(rt: &impl Print, t: Tally) -> io::Result<()> {
     say(
+        rt,
         b"Cases, each with a whole log of plain and numbered instants, a beginning of it, a damaged log, one with a wrong number and a damaged sheet\n",
-    );
+    )?;
     rows(
+        rt,
         t,
         tally::NARROW,
         b"of at most four clocks\nof five to eight clocks\nwith a counted line\n",
-    );
-    calls(t);
-    say(b"Answers of lift_judge\n");
-    answers(t, tally::ANSWERS);
-    say(b"Answers of lift_judge, all lines counted\n");
-    answers(t, tally::COUNTED_ANSWERS);
-    numbers(t);
-    say(b"Differences\n");
+    )?;
+    calls(rt, t)?;
+    say(rt, b"Answers of lift_judge\n")?;
+    answers(rt, t, tally::ANSWERS)?;
+    say(rt, b"Answers of lift_judge, all lines counted\n")?;
+    answers(rt, t, tally::COUNTED_ANSWERS)?;
+    numbers(rt, t)?;
+    say(rt, b"Differences\n")?;
     rows(
+        rt,
         t,
         tally::DIFFERENT,
         b"calls unlike the judge of the whole run\n",
-    );
+    )
 }

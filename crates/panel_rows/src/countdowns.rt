@@ -5,25 +5,26 @@ use crate::text::say;
 use judge::monitor::Monitor;
 use remainders::held::Status;
 use remainders::obligation::Obligation;
+use std::io;
 
 // The number of the due 0, which is counted from the least tag.
 const DUE_AT_0: u16 = 32768;
 
 // After each tick of 0, 1 ticks at the second later tick of 0.
-fn observed() {
-    say(b"A delay of two ticks\n");
+fn observed(rt: &impl Print) -> io::Result<()> {
+    say(rt, b"A delay of two ticks\n")?;
     let mut m = opened(b"\x01\x00\x01\x00\x02\x04\x00\x18\x00\x00\x00\x01\x02");
-    row(b"opened", m);
+    row(rt, b"opened", m)?;
     m = after(m, b"\x06\x00\x20\x00\x01\x01\x00\x00\x00\x00");
-    row(b"tick", m);
+    row(rt, b"tick", m)?;
     m = after(m, b"\x06\x00\x20\x00\x02\x02\x00\x00\x00\x00");
-    row(b"unseen", m);
+    row(rt, b"unseen", m)?;
     m = after(m, b"\x06\x00\x20\x00\x01\x03\x00\x00\x00\x00");
-    row(b"tick, which one of the two misses", m);
+    row(rt, b"tick, which one of the two misses", m)?;
     m = after(m, b"\x06\x00\x20\x00\x01\x04\x00\x01\x00\x00");
-    row(b"tick, clock 1 ticks", m);
+    row(rt, b"tick, clock 1 ticks", m)?;
     m = after(m, b"\x06\x00\x20\x00\x01\x05\x00\x00\x00\x00");
-    row(b"tick, broken", m);
+    row(rt, b"tick, broken", m)
 }
 
 // Two clocks and no line, in its remainder so many obligations of a clock on the other, and so many countdowns of clock 1 on 0.
@@ -50,28 +51,33 @@ fn together(owed: usize, counting: usize) -> Monitor {
     owing_both(owed, 1, 0, counting)
 }
 
-fn of_two_clocks() {
-    say(b"Made to owe clock 0 by obligations and clock 1 by countdowns on clock 0\n");
-    row(b"one countdown", apart(0, 1));
-    row(b"eight countdowns", apart(0, 8));
-    row(b"one and one", apart(1, 1));
-    row(b"eight and eight", apart(8, 8));
+fn of_two_clocks(rt: &impl Print) -> io::Result<()> {
+    say(
+        rt,
+        b"Made to owe clock 0 by obligations and clock 1 by countdowns on clock 0\n",
+    )?;
+    row(rt, b"one countdown", apart(0, 1))?;
+    row(rt, b"eight countdowns", apart(0, 8))?;
+    row(rt, b"one and one", apart(1, 1))?;
+    row(rt, b"eight and eight", apart(8, 8))?;
     row(
+        rt,
         b"eight and eight, made 32 live",
         counted(apart(8, 8), Status::Live(32)),
-    );
-    row(b"one obligation and nine countdowns", apart(1, 9));
-    row(b"nine obligations and one countdown", apart(9, 1));
+    )?;
+    row(rt, b"one obligation and nine countdowns", apart(1, 9))?;
+    row(rt, b"nine obligations and one countdown", apart(9, 1))
 }
 
-fn of_one_clock() {
-    say(b"Made to owe clock 1 by both: an entry counts once\n");
-    row(b"one and one", together(1, 1));
-    row(b"eight and eight", together(8, 8));
+fn of_one_clock(rt: &impl Print) -> io::Result<()> {
+    say(rt, b"Made to owe clock 1 by both: an entry counts once\n")?;
+    row(rt, b"one and one", together(1, 1))?;
+    row(rt, b"eight and eight", together(8, 8))?;
     row(
+        rt,
         b"eight and eight, made 32 live",
         counted(together(8, 8), Status::Live(32)),
-    );
+    )
 }
 
 // Two clocks and no line, in its remainder one countdown; the places of obligations are not in use.
@@ -85,19 +91,19 @@ fn one_countdown(clock: u8, on: u8, wanted: u16) -> Monitor {
     with_sets(m, 0, countdown, 1, countdown)
 }
 
-fn at_limits() {
-    say(b"Made to owe by one countdown\n");
-    row(b"1 tick wanted", one_countdown(1, 0, 1));
-    row(b"255 ticks wanted", one_countdown(1, 0, 255));
-    row(b"0 ticks wanted", one_countdown(1, 0, 0));
-    row(b"256 ticks wanted", one_countdown(1, 0, 256));
-    row(b"of clock 2", one_countdown(2, 0, 1));
-    row(b"on clock 2", one_countdown(1, 2, 1));
+fn at_limits(rt: &impl Print) -> io::Result<()> {
+    say(rt, b"Made to owe by one countdown\n")?;
+    row(rt, b"1 tick wanted", one_countdown(1, 0, 1))?;
+    row(rt, b"255 ticks wanted", one_countdown(1, 0, 255))?;
+    row(rt, b"0 ticks wanted", one_countdown(1, 0, 0))?;
+    row(rt, b"256 ticks wanted", one_countdown(1, 0, 256))?;
+    row(rt, b"of clock 2", one_countdown(2, 0, 1))?;
+    row(rt, b"on clock 2", one_countdown(1, 2, 1))
 }
 
-pub fn all() {
-    observed();
-    of_two_clocks();
-    of_one_clock();
-    at_limits();
+pub fn all(rt: &impl Print) -> io::Result<()> {
+    observed(rt)?;
+    of_two_clocks(rt)?;
+    of_one_clock(rt)?;
+    at_limits(rt)
 }

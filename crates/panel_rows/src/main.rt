@@ -1,5 +1,6 @@
 // The panel's counts along stored runs: a row per monitor.
 #![tactic(auto)]
+
 mod countdowns;
 mod made;
 mod row;
@@ -11,22 +12,23 @@ use crate::row::row;
 use crate::text::say;
 use judge::monitor::Monitor;
 use remainders::held::Status;
+use std::io;
 
 // 0 delayed by 2 on 0 implies 1.
-fn listing() {
-    say(b"Document 01's listing\n");
+fn listing(rt: &impl Print) -> io::Result<()> {
+    say(rt, b"Document 01's listing\n")?;
     let mut m = opened(b"\x01\x00\x01\x00\x02\x05\x00\x14\x00\x00\x00\x01\x02\x00");
-    row(b"opened", m);
+    row(rt, b"opened", m)?;
     m = after(m, b"\x06\x00\x20\x00\x01\xfd\xff\x00\x00\x00");
-    row(b"tick at -3", m);
+    row(rt, b"tick at -3", m)?;
     m = after(m, b"\x06\x00\x20\x00\x02\xfe\xff\x00\x00\x00");
-    row(b"unseen at -2", m);
+    row(rt, b"unseen at -2", m)?;
     m = after(m, b"\x06\x00\x20\x00\x00\xff\xff\x01\x00\x00");
-    row(b"idle at -1, clock 1 ticks", m);
+    row(rt, b"idle at -1, clock 1 ticks", m)?;
     m = after(m, b"\x06\x00\x20\x00\x00\x01\x00\x00\x00\x00");
-    row(b"idle at 1", m);
+    row(rt, b"idle at 1", m)?;
     m = after(m, b"\x06\x00\x20\x00\x00\x00\x00\x00\x00\x00");
-    row(b"idle at 0, broken", m);
+    row(rt, b"idle at 0, broken", m)
 }
 
 // Clock 0 unseen at a tag.
@@ -37,46 +39,49 @@ fn unseen(m: Monitor, tag: u8) -> Monitor {
 }
 
 // 0 delayed by 100 on 0 implies 1.
-fn long_delay() {
-    say(b"A delay of 100, unseen ticks\n");
+fn long_delay(rt: &impl Print) -> io::Result<()> {
+    say(rt, b"A delay of 100, unseen ticks\n")?;
     let mut m = opened(b"\x01\x00\x01\x00\x02\x05\x00\x14\x00\x00\x00\x01\x64\x00");
     m = unseen(m, 1);
-    row(b"at 1", m);
+    row(rt, b"at 1", m)?;
     m = unseen(m, 2);
-    row(b"at 2", m);
+    row(rt, b"at 2", m)?;
     m = unseen(m, 3);
-    row(b"at 3", m);
+    row(rt, b"at 3", m)?;
     m = unseen(m, 4);
-    row(b"at 4", m);
+    row(rt, b"at 4", m)?;
     m = unseen(m, 5);
-    row(b"at 5", m);
+    row(rt, b"at 5", m)?;
     m = unseen(m, 6);
-    row(b"at 6, exhausted", m);
+    row(rt, b"at 6, exhausted", m)
 }
 
 // 0 sporadic 1 on 1, 0 sporadic 2 on 1, 1 sporadic 3 on 0.
-fn sporadic() {
-    say(b"Three sporadic lines: an entry that owes twice counts once\n");
+fn sporadic(rt: &impl Print) -> io::Result<()> {
+    say(
+        rt,
+        b"Three sporadic lines: an entry that owes twice counts once\n",
+    )?;
     let m = opened(
         b"\x01\x00\x01\x00\x02\x04\x00\x10\x00\x00\x01\x01\x00\x04\x00\x10\x00\x00\x01\x02\x00\x04\x00\x10\x00\x01\x00\x03\x00",
     );
-    row(b"opened", m);
-    row(b"made broken", counted(m, Status::Live(0)));
-    row(b"made exhausted", counted(m, Status::Exhausted));
-    row(b"made 32 live", counted(m, Status::Live(32)));
-    row(b"made 33 live", counted(m, Status::Live(33)));
-    row(b"made to owe two", owing(m, 2));
-    row(b"made to owe nine", owing(m, 9));
+    row(rt, b"opened", m)?;
+    row(rt, b"made broken", counted(m, Status::Live(0)))?;
+    row(rt, b"made exhausted", counted(m, Status::Exhausted))?;
+    row(rt, b"made 32 live", counted(m, Status::Live(32)))?;
+    row(rt, b"made 33 live", counted(m, Status::Live(33)))?;
+    row(rt, b"made to owe two", owing(m, 2))?;
+    row(rt, b"made to owe nine", owing(m, 9))?;
     let mut late = m;
     late.instants = 4001;
-    row(b"made 4,001 instants", late);
-    row(b"no sheet", opened(b""));
+    row(rt, b"made 4,001 instants", late)?;
+    row(rt, b"no sheet", opened(b""))
 }
 
-fn main() {
-    listing();
-    long_delay();
-    sporadic();
-    countdowns::all();
-    scale::all();
+fn main(rt: HostRuntime) -> io::Result<()> {
+    listing(&rt)?;
+    long_delay(&rt)?;
+    sporadic(&rt)?;
+    countdowns::all(&rt)?;
+    scale::all(&rt)
 }

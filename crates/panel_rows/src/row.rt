@@ -2,32 +2,34 @@
 use crate::text::{byte, number, say};
 use judge::monitor::Monitor;
 use panel::{Panel, panel_count};
+use std::io;
 
-fn shown(m: Monitor, clock: u8) {
-    say(b" clock ");
-    byte(clock);
-    say(b": ");
+fn shown(rt: &impl Print, m: Monitor, clock: u8) -> io::Result<()> {
+    say(rt, b" clock ")?;
+    byte(rt, clock)?;
+    say(rt, b": ")?;
     let shown = panel_count(m, clock);
     match shown {
-        Panel::Count(n) => number(n),
+        Panel::Count(n) => number(rt, n)?,
         Panel::Refused(n) => {
-            say(b"refused ");
-            byte(n);
+            say(rt, b"refused ")?;
+            byte(rt, n)?;
         }
     }
+    Ok(())
 }
 
 // The last two clocks are on none of the sheets.
-pub fn row(name: &[u8], m: Monitor) {
-    say(b"  ");
-    say(name);
-    say(b";");
-    shown(m, 0);
-    say(b",");
-    shown(m, 1);
-    say(b",");
-    shown(m, 2);
-    say(b",");
-    shown(m, 255);
-    say(b"\n");
+pub fn row(rt: &impl Print, name: &[u8], m: Monitor) -> io::Result<()> {
+    say(rt, b"  ")?;
+    say(rt, name)?;
+    say(rt, b";")?;
+    shown(rt, m, 0)?;
+    say(rt, b",")?;
+    shown(rt, m, 1)?;
+    say(rt, b",")?;
+    shown(rt, m, 2)?;
+    say(rt, b",")?;
+    shown(rt, m, 255)?;
+    say(rt, b"\n")
 }

@@ -1,14 +1,14 @@
 // What a row is made of.
-use libc::STDOUT_FILENO;
+use std::io;
 
-pub fn say(words: &[u8]) {
-    io::write_all(STDOUT_FILENO, words);
+pub fn say(rt: &impl Print, words: &[u8]) -> io::Result<()> {
+    rt.write_all(words)
 }
 
-pub fn number(n: usize) {
-    io::print_decimal(STDOUT_FILENO, n as u64);
+pub fn number(rt: &impl Print, n: usize) -> io::Result<()> {
+    print!(rt; "{n}")
 }
 
-pub fn byte(x: u8) {
-    number(x as usize);
+pub fn byte(rt: &impl Print, x: u8) -> io::Result<()> {
+    number(rt, x as usize)
 }

@@ -1,23 +1,16 @@
 -- What is printed for the front of files is printed for the whole files, where the front decides. Assumes nothing.
-use mathlib.Core.List.{List, ◌++◌}
-use mathlib.Core.Path.{◌≡◌, sym, ap, ◌∙◌}
-use Prim.Native.Nat.{ℕ, ◌≤◌}
-use native.Mathlib.Omega.{arith}
-use lib.ListN.{length, take, drop, length-append}
-use lib.Seq.{length-take-le}
+use Rattle.std.proofs.Common.{List, ◌++◌, ◌≡◌, ap, ◌∙◌, ℕ, ◌≤◌, arith, length, take, drop, length-append}
 use Rattle.records.specs.Types.{IsBytes}
-use Rattle.io.specs.Counts.{IsPrefixLen}
 use Rattle.text.specs.Output.{watch_text, columns_text, Printed, printed, printed_as, SortPrinted}
 use Rattle.text.proofs.Front.{front-decides, sort-front-decides}
 use Rattle.programs.specs.Files.{FilesPrinted, SortedFilePrinted}
 
 -- what is printed is within the buffer
-printed-within : (text before : List ℕ) {after : List ℕ} {size : ℕ} → printed_as size after ≡ printed text before → IsPrefixLen size after
+printed-within : (text before : List ℕ) {after : List ℕ} {size : ℕ} → printed_as size after ≡ printed text before → size ≤ length after
 printed-within text before {after} {size} p =
     let n : size ≡ length text = ap (λ (x : Printed). x.size) p in
     let e : after ≡ text ++ drop (length text) before = ap (λ (x : Printed). x.buffer) p in
-    let l : size ≤ length after = omega (arith, ap length e, length-append text (drop (length text) before)) in
-    (l, sym (length-take-le size after l))
+    omega (arith, ap length e, length-append text (drop (length text) before))
 
 module _ (text : List ℕ → List ℕ → List ℕ) (a b : ℕ) (decides : (s l : List ℕ) → IsBytes s → IsBytes l → text (take a s) (take b l) ≡ text s l) where
   files-printed : (sheet log : List ℕ) {before after : List ℕ} {size : ℕ} → printed_as size after ≡ printed (text sheet log) before → FilesPrinted text a b sheet log before size after

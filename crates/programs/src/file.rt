@@ -1,8 +1,10 @@
 // The files that a program's arguments name.
-ghost use Rattle.std.specs.Prelude.{◌≡◌, take};
-ghost use Rattle.io.specs.Counts.{IsPrefixLen};
+ghost use Rattle.std.specs.Prelude.{◌≡◌, ◌≤◌, take, length};
 
 use records::number;
+use std::fs;
+use std::io::Read;
+use std::rt::{Env, Files};
 
 // The length of a body is a word.
 const LONGEST_RECORD: usize = number::HEAD_LENGTH + 65535;
@@ -13,28 +15,44 @@ pub(crate) const SHEET_ROOM: usize = number::MAX_SHEET + LONGEST_RECORD;
 // How much of a log file is read: 4,000 of the longest instants and one record more, which is refused whatever it is.
 pub(crate) const LOG_ROOM: usize = number::MAX_INSTANTS * number::MAX_INSTANT + LONGEST_RECORD;
 
+// No path of the system is longer.
+const LONGEST_NAME: usize = 4096;
+
 // The bytes that were read.
 pub(crate) fn front(buffer: &[u8], n: usize) -> &[u8]
-    requires { IsPrefixLen n buffer.now }
+    requires { n ≤ length buffer.now }
     ensures { result.now ≡ take n buffer.now }
 {
     &buffer[..n]
 }
 
-// Puts the file that an argument names at the buffer's front, as far as it has room, and says how many bytes that are. A file that isn't named or can't be opened counts as empty; a read that fails ends the file.
-pub(crate) fn read_file(argument: usize, buffer: &mut [u8]) -> usize
-    ensures { IsPrefixLen result buffer.new }
+// Reads until the buffer is full, the file ends or a read fails, and says how many bytes that are.
+fn read_full(file: &mut impl Read, buffer: &mut [u8]) -> usize
+    ensures { result ≤ length buffer.new }
 {
-    let mut name = io::buffer();
-    let length = os::arg(argument, &mut name);
-    if os::errno() != 0 {
-        return 0;
+    let mut done = 0;
+    while done < buffer.len() {
+        match file.read(&mut buffer[done..]) {
+            Ok(0) | Err(_) => break,
+            Ok(n) => done += n,
+        }
     }
-    let file = os::open_read(&name[..length]);
-    if file < 0 {
+    done
+}
+
+// Puts the file that an argument names at the buffer's front, as far as it has room, and says how many bytes that are. A file that isn't named, or whose name isn't UTF-8, or that can't be opened counts as empty; a read that fails ends the file.
+pub(crate) fn read_file(rt: &(impl Env + Files), argument: usize, buffer: &mut [u8]) -> usize
+    ensures { result ≤ length buffer.new }
+{
+    let mut name = [0u8; LONGEST_NAME];
+    let Ok(length) = rt.arg(argument, &mut name) else {
         return 0;
+    };
+    let Ok(path) = std::str::from_utf8(&name[..length]) else {
+        return 0;
+    };
+    match fs::open(rt, path) {
+        Ok(mut file) => read_full(&mut file, buffer),
+        Err(_) => 0,
     }
-    let count = io::read_full(file, buffer);
-    libc::close(file);
-    count
 }

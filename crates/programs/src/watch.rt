@@ -1,11 +1,11 @@
 // Watch: a line per instant, with its number, the answer, live, and clear or owed.
-ghost use Rattle.std.specs.Prelude.{take};
-ghost use Rattle.io.specs.Counts.{IsPrefixLen};
+ghost use Rattle.std.specs.Prelude.{◌≤◌, take, length};
 ghost use Rattle.text.specs.Output.{watch_text};
 ghost use Rattle.programs.specs.Files.{FilesPrinted};
 
 use crate::file::{LOG_ROOM, SHEET_ROOM, front, read_file};
-use libc::STDOUT_FILENO;
+use std::io;
+use std::rt::{Env, Files};
 use text::watch::{WATCH_ROOM, watch_text};
 
 // What is printed for two files whose fronts are the first m and n bytes read.
@@ -16,19 +16,20 @@ fn watch_files(
     n: usize,
     out: &mut [u8; WATCH_ROOM],
 ) -> usize
-    requires { IsPrefixLen m sheet.now × IsPrefixLen n log.now }
+    requires sheet_read { m ≤ length sheet.now }
+    requires log_read { n ≤ length log.now }
     ensures { FilesPrinted watch_text SHEET_ROOM LOG_ROOM (take m sheet.now) (take n log.now) out.old result out.new }
 {
     watch_text(front(sheet, m), front(log, n), out)
 }
 
 // The program, by the numbers of the arguments that name the sheet file and the log file.
-pub fn run(sheet_name: usize, log_name: usize) {
+pub fn run(rt: &(impl Env + Files + Print), sheet_name: usize, log_name: usize) -> io::Result<()> {
     let mut sheet = [0u8; SHEET_ROOM];
     let mut log = [0u8; LOG_ROOM];
     let mut out = [0u8; WATCH_ROOM];
-    let m = read_file(sheet_name, &mut sheet);
-    let n = read_file(log_name, &mut log);
+    let m = read_file(rt, sheet_name, &mut sheet);
+    let n = read_file(rt, log_name, &mut log);
     let size = watch_files(&sheet, m, &log, n, &mut out);
-    io::write_all(STDOUT_FILENO, &out[..size]);
+    rt.write_all(&out[..size])
 }

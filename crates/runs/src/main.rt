@@ -1,6 +1,8 @@
 // Runs of the programs on small files: for each a heading, then what the program prints.
 #![tactic(auto)]
-use libc::STDOUT_FILENO;
+
+use std::io;
+use std::rt::{Env, Files};
 
 // The arguments, in the order of the file `args`: files of data/, among them a folder and a name of no file; and one more than there are.
 const SHEET: usize = 1;
@@ -49,75 +51,99 @@ const LOG_SKIPPED: usize = 22;
 
 const NOT_NAMED: usize = 23;
 
-fn heading(program: &[u8], case: &[u8]) {
-    io::write_all(STDOUT_FILENO, program);
-    io::write_all(STDOUT_FILENO, case);
-    io::write_all(STDOUT_FILENO, b"\n");
+fn heading(rt: &impl Print, program: &[u8], case: &[u8]) -> io::Result<()> {
+    rt.write_all(program)?;
+    rt.write_all(case)?;
+    rt.write_all(b"\n")
 }
 
-fn both(case: &[u8], sheet: usize, log: usize) {
-    heading(b"watch: ", case);
-    programs::watch::run(sheet, log);
-    heading(b"columns: ", case);
-    programs::columns::run(sheet, log);
+fn both(rt: &(impl Env + Files + Print), case: &[u8], sheet: usize, log: usize) -> io::Result<()> {
+    heading(rt, b"watch: ", case)?;
+    programs::watch::run(rt, sheet, log)?;
+    heading(rt, b"columns: ", case)?;
+    programs::columns::run(rt, sheet, log)
 }
 
 // What *sort* prints ends where the sheet ends; the newline behind it is put here.
-fn sorted(case: &[u8], sheet: usize) {
-    heading(b"sort: ", case);
-    programs::sort::run(sheet);
-    io::write_all(STDOUT_FILENO, b"\n");
+fn sorted(rt: &(impl Env + Files + Print), case: &[u8], sheet: usize) -> io::Result<()> {
+    heading(rt, b"sort: ", case)?;
+    programs::sort::run(rt, sheet)?;
+    rt.write_all(b"\n")
 }
 
 // Logs of plain and numbered instants.
-fn numbered() {
+fn numbered(rt: &(impl Env + Files + Print)) -> io::Result<()> {
     both(
+        rt,
         b"the listing, its first, third and fifth record numbered",
         SHEET,
         LOG_MIXED,
-    );
+    )?;
     both(
+        rt,
         b"the third record numbered 4, the first being numbered 1 and the second plain",
         SHEET,
         LOG_SKIPPED,
-    );
+    )
 }
 
-fn main() {
-    both(b"document 01's listing", SHEET, LOG);
-    both(b"an empty log", SHEET, EMPTY);
-    both(b"a log that is a folder", SHEET, FOLDER);
-    both(b"a log that can't be opened", SHEET, NO_FILE);
-    both(b"a log that isn't named", SHEET, NOT_NAMED);
-    both(b"a sheet that can't be opened", NO_FILE, LOG);
+fn main(rt: HostRuntime) -> io::Result<()> {
+    both(&rt, b"document 01's listing", SHEET, LOG)?;
+    both(&rt, b"an empty log", SHEET, EMPTY)?;
+    both(&rt, b"a log that is a folder", SHEET, FOLDER)?;
+    both(&rt, b"a log that can't be opened", SHEET, NO_FILE)?;
+    both(&rt, b"a log that isn't named", SHEET, NOT_NAMED)?;
+    both(&rt, b"a sheet that can't be opened", NO_FILE, LOG)?;
     both(
+        &rt,
         b"a sheet with a clock not below C, and a log with a fault",
         SHEET_REFUSED,
         LOG_TICK,
-    );
-    both(b"the fifth record's body torn", SHEET, LOG_TORN_BODY);
-    both(b"three bytes after the fifth record", SHEET, LOG_TORN_HEAD);
-    both(b"the third record of kind 31", SHEET, LOG_KIND);
-    both(b"the third record for three clocks", SHEET, LOG_LENGTH);
+    )?;
+    both(&rt, b"the fifth record's body torn", SHEET, LOG_TORN_BODY)?;
     both(
+        &rt,
+        b"three bytes after the fifth record",
+        SHEET,
+        LOG_TORN_HEAD,
+    )?;
+    both(&rt, b"the third record of kind 31", SHEET, LOG_KIND)?;
+    both(&rt, b"the third record for three clocks", SHEET, LOG_LENGTH)?;
+    both(
+        &rt,
         b"a tick byte 3 in the third record's second clock",
         SHEET,
         LOG_TICK,
-    );
-    numbered();
-    both(b"L9", SHEET_100, LOG_NINE);
-    both(b"twelve instants of eight clocks", SHEET_EIGHT, LOG_TWELVE);
-    both(b"4,000 instants of eight clocks", SHEET_EIGHT, LOG_4000);
+    )?;
+    numbered(&rt)?;
+    both(&rt, b"L9", SHEET_100, LOG_NINE)?;
     both(
+        &rt,
+        b"twelve instants of eight clocks",
+        SHEET_EIGHT,
+        LOG_TWELVE,
+    )?;
+    both(
+        &rt,
+        b"4,000 instants of eight clocks",
+        SHEET_EIGHT,
+        LOG_4000,
+    )?;
+    both(
+        &rt,
         b"4,001 numbered instants of eight clocks, the last numbered 1",
         SHEET_EIGHT,
         LOG_4001,
-    );
-    both(b"a sheet out of order", SHEET_UNSORTED, LOG);
-    sorted(b"a sheet out of order, with repeats", SHEET_UNSORTED);
-    sorted(b"the same sorted", SHEET_SORTED);
-    sorted(b"a sheet with a clock not below C", SHEET_REFUSED);
-    sorted(b"seventeen lines of which sixteen differ", SHEET_SEVENTEEN);
-    sorted(b"a sheet that can't be opened", NO_FILE);
-    sorted(b"a sheet that isn't named", NOT_NAMED);
+    )?;
+    both(&rt, b"a sheet out of order", SHEET_UNSORTED, LOG)?;
+    sorted(&rt, b"a sheet out of order, with repeats", SHEET_UNSORTED)?;
+    sorted(&rt, b"the same sorted", SHEET_SORTED)?;
+    sorted(&rt, b"a sheet with a clock not below C", SHEET_REFUSED)?;
+    sorted(
+        &rt,
+        b"seventeen lines of which sixteen differ",
+        SHEET_SEVENTEEN,
+    )?;
+    sorted(&rt, b"a sheet that can't be opened", NO_FILE)?;
+    sorted(&rt, b"a sheet that isn't named", NOT_NAMED)
 }

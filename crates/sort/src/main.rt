@@ -1,6 +1,8 @@
 // sort SHEET: the bytes of the sheet whose lines are sorted, repeats dropped.
 #![tactic(auto)]
 
-fn main() {
-    programs::sort::run(1);
+use std::io;
+
+fn main(rt: HostRuntime) -> io::Result<()> {
+    programs::sort::run(&rt, 1)
 }

@@ -10,6 +10,7 @@ use cases::tally::Tally;
 use records::instant::{Instant, Tick};
 use records::line::Line;
 use records::sheet::Sheet;
+use std::io;
 
 // The tag 32,640, counted from the least tag: the end of the scale is 127 above.
 const NEAR_END: u64 = 65408;
@@ -39,41 +40,48 @@ fn instant_of(b: &[u8], middle: u64) -> Instant {
 }
 
 // A sheet and its instants, four bytes each, with tags around a middle.
-fn example_by(name: &[u8], s: Sheet, middle: u64, log: &[u8], tally: Tally) -> Tally {
+fn example_by(
+    rt: &impl Print,
+    name: &[u8],
+    s: Sheet,
+    middle: u64,
+    log: &[u8],
+    tally: Tally,
+) -> io::Result<Tally> {
     let mut t = opened(s, 0, tally);
-    say(b"  ");
-    say(name);
-    say(b": ");
+    say(rt, b"  ")?;
+    say(rt, name)?;
+    say(rt, b": ")?;
     let first = t.answer;
-    answer(first);
+    answer(rt, first)?;
     let mut left = log.len();
     while 3 < left {
         let at = log.len() - left;
         left -= 4;
         let v = instant_of(&log[at..], middle);
         t = taken(t, v);
-        say(b", ");
+        say(rt, b", ")?;
         let next = t.answer;
-        answer(next);
+        answer(rt, next)?;
     }
-    say(b"\n");
+    say(rt, b"\n")?;
     let told = t.tally;
-    told
+    Ok(told)
 }
 
 // With tags around 0.
-fn example(name: &[u8], s: Sheet, log: &[u8], t: Tally) -> Tally {
-    example_by(name, s, ZERO, log, t)
+fn example(rt: &impl Print, name: &[u8], s: Sheet, log: &[u8], t: Tally) -> io::Result<Tally> {
+    example_by(rt, name, s, ZERO, log, t)
 }
 
 // With tags up to the end of the scale.
-fn near_end(name: &[u8], s: Sheet, log: &[u8], t: Tally) -> Tally {
-    example_by(name, s, NEAR_END, log, t)
+fn near_end(rt: &impl Print, name: &[u8], s: Sheet, log: &[u8], t: Tally) -> io::Result<Tally> {
+    example_by(rt, name, s, NEAR_END, log, t)
 }
 
 // An example of two clocks and one line.
-fn of_line(name: &[u8], line: Line, log: &[u8], t: Tally) -> Tally {
-    example(name, with(empty_sheet(2), line), log, t)
+fn of_line(rt: &impl Print, name: &[u8], line: Line, log: &[u8], t: Tally) -> io::Result<Tally> {
+    example(rt, name, with(empty_sheet(2), line), log, t)
 }
 
 // Nine instants where 0 has a tick byte, its tags rising by one from the first.
@@ -89,11 +97,18 @@ fn nine(tick: u8, first: u8) -> [u8; 36] {
 }
 
 // A sheet and ticks of 0 at tags 1 to 8, then one at a tag, where 1 has a tick byte.
-fn ninth(name: &[u8], s: Sheet, tag: u8, other: u8, t: Tally) -> Tally {
+fn ninth(
+    rt: &impl Print,
+    name: &[u8],
+    s: Sheet,
+    tag: u8,
+    other: u8,
+    t: Tally,
+) -> io::Result<Tally> {
     let mut log = nine(1, 1);
     log[33] = tag;
     log[34] = other;
-    example(name, s, &log, t)
+    example(rt, name, s, &log, t)
 }
 
 // 0 delayed by d on 0 implies 1.
@@ -101,15 +116,17 @@ fn later(d: u64) -> Sheet {
     with(empty_sheet(2), delayed(0, d, 0, 1))
 }
 
-fn l2_l3(t: Tally) -> Tally {
-    let t = of_line(b"L2 sporadic", sporadic(0, 1, ZERO), b"", t);
+fn l2_l3(rt: &impl Print, t: Tally) -> io::Result<Tally> {
+    let t = of_line(rt, b"L2 sporadic", sporadic(0, 1, ZERO), b"", t)?;
     let t = of_line(
+        rt,
         b"L3 0 excludes 0, a tick",
         pair(19, 0, 0),
         b"\x01\x00\x00\x00",
         t,
-    );
+    )?;
     of_line(
+        rt,
         b"L3 0 implies 0, unseen",
         pair(18, 0, 0),
         b"\x02\x00\x00\x00",
@@ -117,27 +134,29 @@ fn l2_l3(t: Tally) -> Tally {
     )
 }
 
-fn l4_l5(t: Tally) -> Tally {
+fn l4_l5(rt: &impl Print, t: Tally) -> io::Result<Tally> {
     let both = b"\x01\x00\x01\x00";
     let kills = pair(23, 0, 1);
-    let t = of_line(b"L4 weakly, both tick", pair(21, 0, 1), both, t);
-    let t = of_line(b"L4 strictly, both tick", pair(22, 0, 1), both, t);
-    let t = of_line(b"L5 0 kills 1, both tick", kills, both, t);
-    of_line(b"L5 0 kills 1, 1 unseen", kills, b"\x01\x00\x02\x00", t)
+    let t = of_line(rt, b"L4 weakly, both tick", pair(21, 0, 1), both, t)?;
+    let t = of_line(rt, b"L4 strictly, both tick", pair(22, 0, 1), both, t)?;
+    let t = of_line(rt, b"L5 0 kills 1, both tick", kills, both, t)?;
+    of_line(rt, b"L5 0 kills 1, 1 unseen", kills, b"\x01\x00\x02\x00", t)
 }
 
-fn l6_l7(t: Tally) -> Tally {
+fn l6_l7(rt: &impl Print, t: Tally) -> io::Result<Tally> {
     let times_60 = relation(0, 1, 60, 0);
     let due = sporadic(0, 1, ZERO - 1);
-    let t = of_line(b"L6 -60 = 60 x -1", times_60, b"\x00\xC4\x00\xFF", t);
-    let t = of_line(b"L6 -59 = 60 x -1", times_60, b"\x00\xC5\x00\xFF", t);
+    let t = of_line(rt, b"L6 -60 = 60 x -1", times_60, b"\x00\xC4\x00\xFF", t)?;
+    let t = of_line(rt, b"L6 -59 = 60 x -1", times_60, b"\x00\xC5\x00\xFF", t)?;
     let t = of_line(
+        rt,
         b"L7 idle at -1, a tick at -1",
         due,
         b"\x00\x00\x00\xFF\x01\x00\x00\xFF",
         t,
-    );
+    )?;
     of_line(
+        rt,
         b"L7 idle at -1, a tick at 0",
         due,
         b"\x00\x00\x00\xFF\x01\x00\x00\x00",
@@ -145,17 +164,19 @@ fn l6_l7(t: Tally) -> Tally {
     )
 }
 
-fn l8_l11(t: Tally) -> Tally {
+fn l8_l11(rt: &impl Print, t: Tally) -> io::Result<Tally> {
     let by_100 = later(100);
-    let t = example(b"L8 d = 0, both tick", later(0), b"\x01\x00\x01\x00", t);
-    let t = ninth(b"L9 ticks at 1 to 9", by_100, 9, 0, t);
+    let t = example(rt, b"L8 d = 0, both tick", later(0), b"\x01\x00\x01\x00", t)?;
+    let t = ninth(rt, b"L9 ticks at 1 to 9", by_100, 9, 0, t)?;
     let t = example(
+        rt,
         b"L10 unseen at 1 to 6",
         by_100,
         b"\x02\x01\x00\x00\x02\x02\x00\x00\x02\x03\x00\x00\x02\x04\x00\x00\x02\x05\x00\x00\x02\x06\x00\x00",
         t,
-    );
+    )?;
     example(
+        rt,
         b"L11 the listing",
         later(2),
         b"\x01\xFD\x00\x00\x02\xFE\x00\x00\x00\xFF\x01\x00\x00\x01\x00\x00\x00\x00\x00\x00",
@@ -164,17 +185,19 @@ fn l8_l11(t: Tally) -> Tally {
 }
 
 // 31: a tick of 1 has one of 0 before it. 33: 1 may tick where 0 never did.
-fn lives(t: Tally) -> Tally {
+fn lives(rt: &impl Print, t: Tally) -> io::Result<Tally> {
     let by_100 = later(100);
     let weakly = with(by_100, pair(21, 0, 1));
     let kills = with(with(by_100, delayed(1, 100, 0, 0)), pair(23, 0, 1));
     let t = example(
+        rt,
         b"live 31, then 62",
         weakly,
         b"\x02\x01\x00\x00\x02\x02\x00\x00\x02\x03\x00\x00\x02\x04\x00\x00\x02\x05\x00\x00\x00\x06\x01\x00\x02\x07\x00\x00",
         t,
-    );
+    )?;
     example(
+        rt,
         b"live 32, then 33",
         kills,
         b"\x02\x01\x00\x00\x02\x02\x00\x00\x02\x03\x00\x00\x02\x04\x00\x00\x02\x05\x00\x00\x00\x06\x02\x00",
@@ -183,27 +206,30 @@ fn lives(t: Tally) -> Tally {
 }
 
 // A ninth obligation begins where one of eight is met, or is late.
-fn ninths(t: Tally) -> Tally {
+fn ninths(rt: &impl Print, t: Tally) -> io::Result<Tally> {
     let by_8 = later(8);
-    let t = ninth(b"a ninth, one met", by_8, 9, 1, t);
-    ninth(b"a ninth, one late", by_8, 10, 0, t)
+    let t = ninth(rt, b"a ninth, one met", by_8, 9, 1, t)?;
+    ninth(rt, b"a ninth, one late", by_8, 10, 0, t)
 }
 
 // A count met by its own instant's ticks would be clear; one that an unseen tick may have brought down has two remainders.
-fn counted(t: Tally) -> Tally {
+fn counted(rt: &impl Print, t: Tally) -> io::Result<Tally> {
     let t = of_line(
+        rt,
         b"a count of 1, both tick",
         counts(0, 1, 0, 1),
         b"\x01\x00\x01\x00",
         t,
-    );
+    )?;
     let t = of_line(
+        rt,
         b"a count of 2 on 1 for 1",
         counts(0, 2, 1, 1),
         b"\x01\x00\x01\x00\x00\x00\x01\x00\x00\x00\x01\x00",
         t,
-    );
+    )?;
     of_line(
+        rt,
         b"a count of 2 on 1 for 0, 1 unseen once",
         counts(0, 2, 1, 0),
         b"\x01\x00\x00\x00\x00\x00\x02\x00\x00\x00\x01\x00\x00\x00\x01\x00",
@@ -212,20 +238,22 @@ fn counted(t: Tally) -> Tally {
 }
 
 // Eight obligations and eight countdowns; then a ninth countdown, with an equal obligation; a ninth obligation, a countdown met; neither; a ninth obligation, a countdown missed.
-fn both(t: Tally) -> Tally {
+fn both(rt: &impl Print, t: Tally) -> io::Result<Tally> {
     let far = counts(0, 255, 0, 1);
     let near = with(later(100), counts(0, 8, 0, 1));
-    let t = ninth(b"nine countdowns", with(empty_sheet(2), far), 9, 0, t);
+    let t = ninth(rt, b"nine countdowns", with(empty_sheet(2), far), 9, 0, t)?;
     let t = ninth(
+        rt,
         b"eight and eight, a ninth countdown",
         with(later(100), far),
         8,
         0,
         t,
-    );
-    let t = ninth(b"eight and eight, a ninth obligation", near, 9, 1, t);
-    let t = ninth(b"eight and eight, and again", near, 8, 1, t);
+    )?;
+    let t = ninth(rt, b"eight and eight, a ninth obligation", near, 9, 1, t)?;
+    let t = ninth(rt, b"eight and eight, and again", near, 8, 1, t)?;
     ninth(
+        rt,
         b"eight and eight, a ninth obligation, a countdown missed",
         near,
         9,
@@ -235,15 +263,23 @@ fn both(t: Tally) -> Tally {
 }
 
 // A delay that is due at the end begins an obligation; one that would be due past it begins none.
-fn scale_end(t: Tally) -> Tally {
+fn scale_end(rt: &impl Print, t: Tally) -> io::Result<Tally> {
     let t = near_end(
+        rt,
         b"begun at 32,767, d = 0, met there",
         later(0),
         b"\x01\x7F\x00\x00\x00\x7F\x01\x00",
         t,
-    );
-    let t = near_end(b"begun at 32,767, d = 1", later(1), b"\x01\x7F\x00\x00", t);
+    )?;
+    let t = near_end(
+        rt,
+        b"begun at 32,767, d = 1",
+        later(1),
+        b"\x01\x7F\x00\x00",
+        t,
+    )?;
     near_end(
+        rt,
         b"a long lift, d = 100: a tick, its reading, a tick at 32,700",
         later(100),
         b"\x01\xD8\x00\x00\x00\x3C\x01\x00\x01\x3C\x00\x00",
@@ -252,17 +288,27 @@ fn scale_end(t: Tally) -> Tally {
 }
 
 // Nine tags up to the end: with d = 8 the first is due there.
-fn nine_at_end(t: Tally) -> Tally {
+fn nine_at_end(rt: &impl Print, t: Tally) -> io::Result<Tally> {
     let ticks = nine(1, 119);
     let unseen = nine(2, 119);
-    let t = near_end(b"nine begun past the end", later(100), &ticks, t);
-    let t = near_end(b"nine unseen past the end", later(100), &unseen, t);
-    near_end(b"one of nine due at the end", later(8), &ticks, t)
+    let t = near_end(rt, b"nine begun past the end", later(100), &ticks, t)?;
+    let t = near_end(rt, b"nine unseen past the end", later(100), &unseen, t)?;
+    near_end(rt, b"one of nine due at the end", later(8), &ticks, t)
 }
 
-pub fn all(t: Tally) -> Tally {
-    say(b"Lift examples, some at the limits, counted lines, and the end of the scale\n");
-    let t = l8_l11(l6_l7(l4_l5(l2_l3(t))));
-    let t = both(counted(ninths(lives(t))));
-    nine_at_end(scale_end(t))
+pub fn all(rt: &impl Print, t: Tally) -> io::Result<Tally> {
+    say(
+        rt,
+        b"Lift examples, some at the limits, counted lines, and the end of the scale\n",
+    )?;
+    let t = l2_l3(rt, t)?;
+    let t = l4_l5(rt, t)?;
+    let t = l6_l7(rt, t)?;
+    let t = l8_l11(rt, t)?;
+    let t = lives(rt, t)?;
+    let t = ninths(rt, t)?;
+    let t = counted(rt, t)?;
+    let t = both(rt, t)?;
+    let t = scale_end(rt, t)?;
+    nine_at_end(rt, t)
 }

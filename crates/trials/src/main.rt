@@ -1,5 +1,6 @@
 // The monitor held against a judge that tries every filling of the whole run, and against itself on the same sheet in another order: document 01's lift examples, then made cases, of at most four clocks and of five to eight, and drivers that send numbered records out of turn.
 #![tactic(auto)]
+
 mod driver;
 mod lift;
 mod made;
@@ -12,6 +13,7 @@ mod text;
 mod trial;
 
 use cases::tally::{Ended, TALLY_PLACES, Tally};
+use std::io;
 
 const NARROW_CASES: u64 = 24000;
 
@@ -48,9 +50,10 @@ fn all(sort: Sort, cases: u64, tally: Tally) -> Tally {
     told
 }
 
-fn main() {
+fn main(rt: HostRuntime) -> io::Result<()> {
     let none = [0u64; TALLY_PLACES];
-    report::table(all(Sort::Narrow, NARROW_CASES, lift::all(none)));
-    report::wide_table(all(Sort::Wide, WIDE_CASES, none));
-    report::driver_table(all(Sort::Driver, DRIVER_CASES, none));
+    let lifted = lift::all(&rt, none)?;
+    report::table(&rt, all(Sort::Narrow, NARROW_CASES, lifted))?;
+    report::wide_table(&rt, all(Sort::Wide, WIDE_CASES, none))?;
+    report::driver_table(&rt, all(Sort::Driver, DRIVER_CASES, none))
 }

@@ -6,6 +6,7 @@ use crate::values::body_length;
 use crate::words;
 use records::record::Decision;
 use records::sheet::read_sheet;
+use std::io;
 
 // A byte of a body, of the three told: before a place, there, and behind it.
 fn body_byte(three: [u8; 3], i: usize, at: usize) -> u8 {
@@ -47,39 +48,40 @@ fn sheet(what: u8, kind: u8, at: usize) -> Tape {
 }
 
 // 'taken' or the number of the refusal, a space before it.
-fn cell(t: Tape) {
-    say(b" ");
+fn cell(rt: &impl Print, t: Tape) -> io::Result<()> {
+    say(rt, b" ")?;
     let bytes = t.bytes;
     let r = read_sheet(front(&bytes, t.len));
     let answer = r.answer;
     match answer {
-        Decision::Refused(n) => byte(n),
-        Decision::Done => say(b"taken"),
+        Decision::Refused(n) => byte(rt, n),
+        Decision::Done => say(rt, b"taken"),
     }
 }
 
 // A cell for each place of the body, or for each of so many lengths.
-fn cells(what: u8, kind: u8, count: usize) {
-    say(b":");
+fn cells(rt: &impl Print, what: u8, kind: u8, count: usize) -> io::Result<()> {
+    say(rt, b":")?;
     let mut at = 0;
     while at < count {
-        cell(sheet(what, kind, at));
+        cell(rt, sheet(what, kind, at))?;
         at += 1;
     }
+    Ok(())
 }
 
-pub fn cell_row(what: u8, name: &[u8], fields: &[u8]) {
+pub fn cell_row(rt: &impl Print, what: u8, name: &[u8], fields: &[u8]) -> io::Result<()> {
     let kind = (number_of(fields) % 256) as u8;
-    say(b"  ");
-    say(name);
+    say(rt, b"  ")?;
+    say(rt, name)?;
     match what {
-        words::LENGTH => cells(what, kind, 8),
-        words::CLOCK => cells(what, kind, body_length(kind)),
+        words::LENGTH => cells(rt, what, kind, 8)?,
+        words::CLOCK => cells(rt, what, kind, body_length(kind))?,
         _ => {
-            cells(what, kind, body_length(kind));
-            say(b"; exchanged");
-            cells(words::EXCHANGED, kind, body_length(kind));
+            cells(rt, what, kind, body_length(kind))?;
+            say(rt, b"; exchanged")?;
+            cells(rt, words::EXCHANGED, kind, body_length(kind))?;
         }
     }
-    end();
+    end(rt)
 }

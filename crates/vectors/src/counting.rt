@@ -1,9 +1,11 @@
 // Lines that count, kind 24: read, written and sorted, and the refusal of a count of 0.
 // A row: read, any or older|name|bytes, write|name|size|value, sort|name|size|bytes or value|name|value. A sheet value: its clock count and its line count, then its lines, each by its kind and its body.
 use crate::rows::rows;
+use std::io;
 
-fn reading() {
+fn reading(rt: &impl Print) -> io::Result<()> {
     rows(
+        rt,
         b"#|Lines that count
 read|counts at their ends|01 00 01 00 01, 04 00 18 00 00 00 00 01, 04 00 18 00 00 00 00 FF|lines
 read|each clock another, then two the same|01 00 01 00 08, 04 00 18 00 05 06 07 08, 04 00 18 00 05 07 05 09, 04 00 18 00 06 06 05 02, 04 00 18 00 06 07 07 80|lines
@@ -29,11 +31,12 @@ read|seventeenth line, a count of 0|01 00 01 00 08, 02 00 12 00 00 00 08+, 02 00
 read|8 sporadic lines, then a count of 0|01 00 01 00 08, 04 00 10 00 00 01 FF 00 08+, 04 00 18 00 00 01 00 00
 read|8 sporadic lines, a count of 0, a ninth sporadic|01 00 01 00 08, 04 00 10 00 00 01 FF 00 08+, 04 00 18 00 00 01 00 00, 04 00 10 00 00 01 FF 08
 read|a count of 0, a byte short|01 00 01 00 02, 04 00 18 00 00 01 00",
-    );
+    )
 }
 
-fn writing() {
+fn writing(rt: &impl Print) -> io::Result<()> {
     rows(
+        rt,
         b"#|Lines that count, to write
 write|just a line|192|02 01, 18 01 00 01 C8
 write|a count of 0|192|02 01, 18 00 01 00 00
@@ -55,10 +58,10 @@ sort|behind a line of kind 23, one of kind 20 and one of kind 16|192|01 00 01 00
 sort|a count of 0 behind others|192|01 00 01 00 02, 02 00 17 00 01 01, 02 00 12 00 00 01, 04 00 18 00 00 00 01 00
 value|values, a line twice|02 03, 18 01 00 00 01, 18 00 01 01 09, 18 01 00 00 01
 value|values, a count of 0|02 03, 18 01 00 00 01, 18 00 01 01 00, 10 00 01 01 00",
-    );
+    )
 }
 
-pub fn all() {
-    reading();
-    writing();
+pub fn all(rt: &impl Print) -> io::Result<()> {
+    reading(rt)?;
+    writing(rt)
 }

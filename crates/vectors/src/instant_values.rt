@@ -1,9 +1,11 @@
 // Instant values to write.
 // A row: fill|name|size|value or double|name|value|value. An instant value: the clock count that it is written with, its kind and its number, then the tick and the tag of each clock.
 use crate::rows::rows;
+use std::io;
 
-pub fn all() {
+pub fn all(rt: &impl Print) -> io::Result<()> {
     rows(
+        rt,
         b"#|Instant values to write
 fill|listing 1|192|02, 20 00 00, 01 FD FF
 fill|listing 1, just room|10|02, 20 00 00, 01 FD FF
@@ -33,5 +35,5 @@ double|C = 2, another clock 2|02, 20 00 00, 01 FD FF|02, 20 00 00, 01 FD FF, 00 
 double|C = 2, another clock 7|02, 20 00 00, 01 FD FF|02, 20 00 00, 01 FD FF, 00 00 00 06*, 01 00 80
 double|C = 3, another clock 2|03, 20 00 00, 01 FD FF|03, 20 00 00, 01 FD FF, 00 00 00, 02 05 00
 double|C = 8, another clock 7|08, 20 00 00, 01 FD FF|08, 20 00 00, 01 FD FF, 00 00 00 06*, 01 00 80",
-    );
+    )
 }

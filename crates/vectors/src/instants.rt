@@ -1,9 +1,11 @@
 // Instants to read, each written back.
 // A row: instant|name|clocks|bytes or eight|name|clocks|bytes.
 use crate::rows::rows;
+use std::io;
 
-fn records() {
+fn records(rt: &impl Print) -> io::Result<()> {
     rows(
+        rt,
         b"#|Instants to read
 instant|listing 1|2|06 00 20 00 01 FD FF 00 00 00
 instant|listing 2|2|06 00 20 00 02 FE FF 00 00 00
@@ -31,11 +33,12 @@ instant|two records|1|03 00 20 00 00 00 00, 03 00 20 00 00 00 00
 instant|a byte short, kind 31|1|03 00 1F 00 00 00
 instant|a byte after it, kind 31|1|03 00 1F 00 00 00 00, 00
 instant|a byte after it, tick byte 3|1|03 00 20 00 03 00 00, 00",
-    );
+    )
 }
 
-fn bodies() {
+fn bodies(rt: &impl Print) -> io::Result<()> {
     rows(
+        rt,
         b"#|Instants to read: kind, length, tick bytes
 instant|kind 31|1|03 00 1F 00 00 00 00
 instant|kind 34|1|03 00 22 00 00 00 00
@@ -53,10 +56,10 @@ instant|tick byte 3|1|03 00 20 00 03 00 00
 instant|tick byte 255|1|03 00 20 00 FF 00 00
 instant|second tick byte 3|2|06 00 20 00 00 00 00 03 00 00
 instant|eighth tick byte 3|8|18 00 20 00 00 00 00 00 00 00 00 00 00 00 00 00 00 00 00 00 00 00 00 00 00 03 00 00",
-    );
+    )
 }
 
-pub fn all() {
-    records();
-    bodies();
+pub fn all(rt: &impl Print) -> io::Result<()> {
+    records(rt)?;
+    bodies(rt)
 }

@@ -1,5 +1,6 @@
 // Document 01's listing and edge vectors, read and written by `records`: a row per case, its name and what came out.
 #![tactic(auto)]
+
 mod cell_row;
 mod counting;
 mod fields;
@@ -29,20 +30,22 @@ mod values;
 mod words;
 mod write_row;
 
-fn main() {
-    tags::all();
-    places::all();
-    sheets::all();
-    sheet_refusals::all();
-    sheet_tables::all();
-    sheet_order::all();
-    unordered::all();
-    sheet_values::all();
-    value_order::all();
-    sorting::all();
-    counting::all();
-    instants::all();
-    numbered::all();
-    instant_values::all();
-    long::all();
+use std::io;
+
+fn main(rt: HostRuntime) -> io::Result<()> {
+    tags::all(&rt)?;
+    places::all(&rt)?;
+    sheets::all(&rt)?;
+    sheet_refusals::all(&rt)?;
+    sheet_tables::all(&rt)?;
+    sheet_order::all(&rt)?;
+    unordered::all(&rt)?;
+    sheet_values::all(&rt)?;
+    value_order::all(&rt)?;
+    sorting::all(&rt)?;
+    counting::all(&rt)?;
+    instants::all(&rt)?;
+    numbered::all(&rt)?;
+    instant_values::all(&rt)?;
+    long::all(&rt)
 }

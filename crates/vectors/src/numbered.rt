@@ -1,9 +1,11 @@
 // Numbered instants to read, and the next instant of a run.
 // A row: instant|name|clocks|bytes or next|name|held|bytes.
 use crate::rows::rows;
+use std::io;
 
-fn alone() {
+fn alone(rt: &impl Print) -> io::Result<()> {
     rows(
+        rt,
         b"#|Numbered instants to read
 instant|number 0|1|05 00 21 00 00 00 01 FD FF
 instant|number 1|1|05 00 21 00 01 00 01 FD FF
@@ -31,11 +33,12 @@ instant|a byte short|1|05 00 21 00 01 00 01 FD
 instant|a byte after it|1|05 00 21 00 01 00 01 FD FF, 00
 instant|C = 0|0|05 00 21 00 01 00 01 FD FF
 instant|C = 9|9|05 00 21 00 01 00 01 FD FF",
-    );
+    )
 }
 
-fn next() {
+fn next(rt: &impl Print) -> io::Result<()> {
     rows(
+        rt,
         b"#|The next instant: the number
 next|number 1, none held|0|05 00 21 00 01 00 01 FD FF
 next|number 0, none held|0|05 00 21 00 00 00 01 FD FF
@@ -63,10 +66,10 @@ next|tick byte 3, 4,000 held|4000|05 00 21 00 01 00 03 FD FF
 next|tick byte 3, number 0, none held|0|05 00 21 00 00 00 03 FD FF
 next|kind 33 of kind 32's length, none held|0|03 00 21 00 01 FD FF
 next|no bytes, 4,000 held|4000|",
-    );
+    )
 }
 
-pub fn all() {
-    alone();
-    next();
+pub fn all(rt: &impl Print) -> io::Result<()> {
+    alone(rt)?;
+    next(rt)
 }

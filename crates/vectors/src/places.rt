@@ -1,9 +1,11 @@
 // The record at each place of some byte strings.
 // A row: place|name|at|bytes.
 use crate::rows::rows;
+use std::io;
 
-pub fn all() {
+pub fn all(rt: &impl Print) -> io::Result<()> {
     rows(
+        rt,
         b"#|Records at a place
 place|no bytes|0|
 place|no bytes|1|
@@ -28,5 +30,5 @@ place|the listing|13|01 00 01 00 02, 05 00 14 00 00 00 01 02 00
 place|the listing|14|01 00 01 00 02, 05 00 14 00 00 00 01 02 00
 place|the listing|15|01 00 01 00 02, 05 00 14 00 00 00 01 02 00
 place|the listing|18446744073709551615|01 00 01 00 02, 05 00 14 00 00 00 01 02 00",
-    );
+    )
 }

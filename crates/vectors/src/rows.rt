@@ -8,32 +8,34 @@ use crate::tape::byte_at;
 use crate::text::{heading, say};
 use crate::words;
 use crate::write_row::{both_row, write_row};
+use std::io;
 
-fn row(what: u8, name: &[u8], fields: &[u8]) {
+fn row(rt: &impl Print, what: u8, name: &[u8], fields: &[u8]) -> io::Result<()> {
     match what {
-        words::HEADING => heading(name),
-        words::PLACE => place_row(name, fields),
-        words::READ | words::ANY | words::OLDER => sheet_row(what, name, fields),
-        words::WRITE | words::SORT | words::FILL => write_row(what, name, fields),
-        words::BOTH | words::DOUBLE => both_row(what, name, fields),
-        words::VALUE => value_row(name, fields),
-        words::LENGTH | words::CLOCK | words::TWICE => cell_row(what, name, fields),
-        words::INSTANT | words::EIGHT | words::NEXT => instant_row(what, name, fields),
-        _ => say(b"no such row\n"),
+        words::HEADING => heading(rt, name),
+        words::PLACE => place_row(rt, name, fields),
+        words::READ | words::ANY | words::OLDER => sheet_row(rt, what, name, fields),
+        words::WRITE | words::SORT | words::FILL => write_row(rt, what, name, fields),
+        words::BOTH | words::DOUBLE => both_row(rt, what, name, fields),
+        words::VALUE => value_row(rt, name, fields),
+        words::LENGTH | words::CLOCK | words::TWICE => cell_row(rt, what, name, fields),
+        words::INSTANT | words::EIGHT | words::NEXT => instant_row(rt, what, name, fields),
+        _ => say(rt, b"no such row\n"),
     }
 }
 
 // A row: its word, its name, and the fields behind them.
-fn named_row(text: &[u8]) {
+fn named_row(rt: &impl Print, text: &[u8]) -> io::Result<()> {
     let named = rest(text);
-    row(byte_at(text, 0), first(named), rest(named));
+    row(rt, byte_at(text, 0), first(named), rest(named))
 }
 
-pub fn rows(table: &[u8]) {
+pub fn rows(rt: &impl Print, table: &[u8]) -> io::Result<()> {
     let mut from = 0;
     while from < table.len() {
         let end = find(table, from, b'\n');
-        named_row(&table[from..end]);
+        named_row(rt, &table[from..end])?;
         from = end + 1;
     }
+    Ok(())
 }

@@ -1,9 +1,11 @@
 // Sheets to read: each line above the one before it, by kind and then by the bytes of the body. Of two faults of one line the first decides, of two lines the earlier one's; then repeats at the limits of lines and of sporadic lines, and two lines of a kind that differ from a byte on.
 // A row: read|name|bytes or twice|name|kind.
 use crate::rows::rows;
+use std::io;
 
-pub fn all() {
+pub fn all(rt: &impl Print) -> io::Result<()> {
     rows(
+        rt,
         b"#|Sheets to read: the order of lines
 read|t = 256, then t = 1|01 00 01 00 02, 04 00 10 00 00 01 00 01, 04 00 10 00 00 01 01 00
 read|t = 1, then t = 256|01 00 01 00 02, 04 00 10 00 00 01 01 00, 04 00 10 00 00 01 00 01
@@ -37,5 +39,5 @@ twice|kind 21, 1 then 2 at each of 2 bytes, 2 then 1 behind it|21
 twice|kind 22, 1 then 2 at each of 2 bytes, 2 then 1 behind it|22
 twice|kind 23, 1 then 2 at each of 2 bytes, 2 then 1 behind it|23
 twice|kind 24, 1 then 2 at each of 4 bytes, 2 then 1 behind it|24",
-    );
+    )
 }

@@ -1,9 +1,11 @@
 // Sheets to read that are refused, and which of two faults decides.
 // A row: read|name|bytes.
 use crate::rows::rows;
+use std::io;
 
-fn one_fault() {
+fn one_fault(rt: &impl Print) -> io::Result<()> {
     rows(
+        rt,
         b"#|Sheets to read: a torn record
 read|no bytes|
 read|1 byte|01
@@ -33,11 +35,12 @@ read|kind 0|01 00 01 00 02, 00 00 00 00
 read|kind 274|01 00 01 00 02, 02 00 12 01 00 01
 read|clocks again|01 00 01 00 02, 01 00 01 00 02
 read|an instant|01 00 01 00 01, 03 00 20 00 00 00 00",
-    );
+    )
 }
 
-fn two_faults() {
+fn two_faults(rt: &impl Print) -> io::Result<()> {
     rows(
+        rt,
         b"#|Sheets to read: two faults
 read|torn, and not the clocks|02 00 02 00 02
 read|not the clocks, wrong length|02 00 02 00 02 00
@@ -57,10 +60,10 @@ read|seventeenth line, ninth sporadic|01 00 01 00 08, 04 00 10 00 00 01 FF 00 08
 read|ninth sporadic, wrong length|01 00 01 00 08, 04 00 10 00 00 01 FF 00 08+, 02 00 10 00 00 01
 read|ninth sporadic, bad clock|01 00 01 00 08, 04 00 10 00 00 01 FF 00 08+, 04 00 10 00 00 08 FF FF
 read|ninth sporadic, then bad clock|01 00 01 00 08, 04 00 10 00 00 01 FF 00 08+, 04 00 10 00 00 01 FF 08, 02 00 12 00 08 08",
-    );
+    )
 }
 
-pub fn all() {
-    one_fault();
-    two_faults();
+pub fn all(rt: &impl Print) -> io::Result<()> {
+    one_fault(rt)?;
+    two_faults(rt)
 }

@@ -1,9 +1,11 @@
 // Sheets to read of one line of a kind: of which lengths it is taken, and at which bytes of its body a clock stands.
 // A row: length|name|kind, clock|name|kind or read|name|bytes.
 use crate::rows::rows;
+use std::io;
 
-pub fn all() {
+pub fn all(rt: &impl Print) -> io::Result<()> {
     rows(
+        rt,
         b"#|Sheets to read: the length of a line
 length|kind 15 at lengths 0 to 7|15
 length|kind 16 at lengths 0 to 7|16
@@ -30,5 +32,5 @@ read|0 implies 1|01 00 01 00 02, 02 00 12 00 00 01
 read|0 implies 2|01 00 01 00 02, 02 00 12 00 00 02
 read|255 implies 0|01 00 01 00 02, 02 00 12 00 FF 00
 read|0 delayed by 2 on 0 implies 2|01 00 01 00 02, 05 00 14 00 00 00 02 02 00",
-    );
+    )
 }

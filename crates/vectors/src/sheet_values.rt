@@ -1,9 +1,11 @@
 // Sheet values to write.
 // A row: write|name|size|value or both|name|value|value. A sheet value: its clock count and its line count, then its lines, each by its kind and its body.
 use crate::rows::rows;
+use std::io;
 
-fn sizes() {
+fn sizes(rt: &impl Print) -> io::Result<()> {
     rows(
+        rt,
         b"#|Sheet values to write
 write|the listing|192|02 01, 14 00 00 01 02 00
 write|the listing, just room|14|02 01, 14 00 00 01 02 00
@@ -21,11 +23,12 @@ write|delayed by 0|192|01 01, 14 00 00 00 00 00
 write|delayed by 65535|192|01 01, 14 00 00 00 FF FF
 write|counted by 1|192|01 01, 18 00 00 00 01
 write|counted by 255|192|01 01, 18 00 00 00 FF",
-    );
+    )
 }
 
-fn limits() {
+fn limits(rt: &impl Print) -> io::Result<()> {
     rows(
+        rt,
         b"#|Sheet values to write: limits
 write|C = 0|192|00 00, 12 00 01
 write|C = 9|192|09 01, 12 00 01
@@ -52,10 +55,10 @@ both|1 line, other lines past it|02 01, 12 00 01|02 01, 12 00 01, 17 07 09 0F*
 both|15 lines, another line past them|08 0F, 12 00 00 08+, 12 01 00 08+|08 0F, 12 00 00 08+, 12 01 00 07+, 17 07 09
 both|15 lines, the last again past them|08 0F, 12 00 00 08+, 12 01 00 08+|08 0F, 12 00 00 08+, 12 01 00 07+, 12 01 06
 both|16 lines, the last another|08 10, 12 00 00 08+, 12 01 00 08+|08 10, 12 00 00 08+, 12 01 00 07+, 17 00 01",
-    );
+    )
 }
 
-pub fn all() {
-    sizes();
-    limits();
+pub fn all(rt: &impl Print) -> io::Result<()> {
+    sizes(rt)?;
+    limits(rt)
 }

@@ -1,9 +1,11 @@
 // Sheets to read, each written back.
 // A row: read|name|bytes, and behind it |lines where the lines are listed.
 use crate::rows::rows;
+use std::io;
 
-pub fn all() {
+pub fn all(rt: &impl Print) -> io::Result<()> {
     rows(
+        rt,
         b"#|Sheets to read
 read|the listing|01 00 01 00 02, 05 00 14 00 00 00 01 02 00|lines
 read|all nine kinds|01 00 01 00 03, 04 00 10 00 00 01 FD FF, 06 00 11 00 00 01 3C 00 FF FF, 02 00 12 00 01 02, 02 00 13 00 02 00, 05 00 14 00 00 01 02 64 00, 02 00 15 00 00 02, 02 00 16 00 01 00, 02 00 17 00 02 01, 04 00 18 00 00 01 02 03|lines
@@ -20,5 +22,5 @@ read|9 sporadic lines|01 00 01 00 08, 04 00 10 00 00 01 FF 00 08+, 04 00 10 00 0
 read|8 sporadic lines, then 8 others|01 00 01 00 08, 04 00 10 00 00 01 FF 00 08+, 02 00 12 00 00 00 08+
 read|8 sporadic lines, 7 others, a ninth sporadic|01 00 01 00 08, 04 00 10 00 00 01 FF 00 08+, 02 00 12 00 00 00 07+, 04 00 10 00 00 01 FF 08
 read|8 others, then 8 sporadic lines|01 00 01 00 08, 02 00 12 00 00 00 08+, 04 00 10 00 00 01 FF 00 08+",
-    );
+    )
 }

@@ -1,9 +1,11 @@
 // Sheets to sort, as bytes and as values: the lines in rising order, repeats dropped. 'Six lines' are kills, implies, sporadic at 1, implies again, sporadic at 256, kills again.
 // A row: sort|name|size|bytes or value|name|value. A sheet value: its clock count and its line count, then its lines, each by its kind and its body.
 use crate::rows::rows;
+use std::io;
 
-pub fn all() {
+pub fn all(rt: &impl Print) -> io::Result<()> {
     rows(
+        rt,
         b"#|Sheets to sort
 sort|eight clocks, no line|192|01 00 01 00 08
 sort|t = 1, then t = 256|192|01 00 01 00 02, 04 00 10 00 00 01 01 00, 04 00 10 00 00 01 00 01
@@ -36,5 +38,5 @@ value|17 equal lines|02 11, 12 00 01
 value|a bad clock|02 03, 12 00 01, 17 07 09, 10 00 01 01 00
 value|9 equal sporadic lines|02 09, 10 00 01 01 00
 value|9 sporadic lines|08 09, 10 00 01 00 00 10+",
-    );
+    )
 }

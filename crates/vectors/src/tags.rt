@@ -3,30 +3,31 @@ ghost use Rattle.std.specs.Prelude.{◌≤◌};
 
 use crate::text::{end, heading, number, say, tag, word};
 use records::word::{raw_of, tag_of};
+use std::io;
 
 // How many words of 16 bits there are.
 const WORDS: usize = 65536;
 
-fn raw_case(raw: u16) {
+fn raw_case(rt: &impl Print, raw: u16) -> io::Result<()> {
     let t = tag_of(raw);
-    say(b"  raw ");
-    word(raw);
-    say(b": tag ");
-    tag(t);
-    say(b", back to raw ");
-    word(raw_of(t));
-    end();
+    say(rt, b"  raw ")?;
+    word(rt, raw)?;
+    say(rt, b": tag ")?;
+    tag(rt, t)?;
+    say(rt, b", back to raw ")?;
+    word(rt, raw_of(t))?;
+    end(rt)
 }
 
-fn tag_case(t: i16) {
+fn tag_case(rt: &impl Print, t: i16) -> io::Result<()> {
     let raw = raw_of(t);
-    say(b"  tag ");
-    tag(t);
-    say(b": raw ");
-    word(raw);
-    say(b", back to tag ");
-    tag(tag_of(raw));
-    end();
+    say(rt, b"  tag ")?;
+    tag(rt, t)?;
+    say(rt, b": raw ")?;
+    word(rt, raw)?;
+    say(rt, b", back to tag ")?;
+    tag(rt, tag_of(raw))?;
+    end(rt)
 }
 
 // The tag of the word after a tag's: one more, and after the greatest the least.
@@ -64,27 +65,27 @@ fn differences() -> usize {
     found
 }
 
-fn every_word() {
-    say(b"  ");
-    number(WORDS);
-    say(b" words read and written back, differences: ");
-    number(differences());
-    end();
+fn every_word(rt: &impl Print) -> io::Result<()> {
+    say(rt, b"  ")?;
+    number(rt, WORDS)?;
+    say(rt, b" words read and written back, differences: ")?;
+    number(rt, differences())?;
+    end(rt)
 }
 
-pub fn all() {
-    heading(b"Tags");
-    raw_case(65533);
-    raw_case(65535);
-    raw_case(0);
-    raw_case(1);
-    raw_case(32767);
-    raw_case(32768);
-    tag_case(-3);
-    tag_case(-1);
-    tag_case(0);
-    tag_case(1);
-    tag_case(32767);
-    tag_case(-32768);
-    every_word();
+pub fn all(rt: &impl Print) -> io::Result<()> {
+    heading(rt, b"Tags")?;
+    raw_case(rt, 65533)?;
+    raw_case(rt, 65535)?;
+    raw_case(rt, 0)?;
+    raw_case(rt, 1)?;
+    raw_case(rt, 32767)?;
+    raw_case(rt, 32768)?;
+    tag_case(rt, -3)?;
+    tag_case(rt, -1)?;
+    tag_case(rt, 0)?;
+    tag_case(rt, 1)?;
+    tag_case(rt, 32767)?;
+    tag_case(rt, -32768)?;
+    every_word(rt)
 }

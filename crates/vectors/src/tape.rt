@@ -57,7 +57,7 @@ fn put(bytes: [u8; LENGTH], at: usize, more: &[u8]) -> [u8; LENGTH]
     requires { at + length more.now ≤ 192 }
 {
     let mut next = bytes;
-    bytes::copy(more, &mut next[at..]);
+    next[at..at + more.len()].copy_from_slice(more);
     next
 }
 

@@ -1,35 +1,31 @@
 // What a row is made of.
 ghost use Rattle.std.specs.Prelude.{◌≡◌, ◌<◌};
 
-use libc::STDOUT_FILENO;
+use std::io;
 
-pub fn say(words: &[u8]) {
-    io::write_all(STDOUT_FILENO, words);
+pub fn say(rt: &impl Print, words: &[u8]) -> io::Result<()> {
+    rt.write_all(words)
 }
 
-pub fn heading(words: &[u8]) {
-    say(words);
-    say(b"\n");
+pub fn heading(rt: &impl Print, words: &[u8]) -> io::Result<()> {
+    say(rt, words)?;
+    say(rt, b"\n")
 }
 
 // A case begins with its name.
-pub fn case(name: &[u8]) {
-    say(b"  ");
-    say(name);
-    say(b": ");
+pub fn case(rt: &impl Print, name: &[u8]) -> io::Result<()> {
+    say(rt, b"  ")?;
+    say(rt, name)?;
+    say(rt, b": ")
 }
 
-pub fn end() {
-    say(b"\n");
+pub fn end(rt: &impl Print) -> io::Result<()> {
+    say(rt, b"\n")
 }
 
 // One of two words, by what a comparison found.
-pub fn either(test: bool, so: &[u8], not: &[u8]) {
-    if test {
-        say(so);
-    } else {
-        say(not);
-    }
+pub fn either(rt: &impl Print, test: bool, so: &[u8], not: &[u8]) -> io::Result<()> {
+    if test { say(rt, so) } else { say(rt, not) }
 }
 
 pub fn wide(x: u8) -> usize
@@ -38,12 +34,12 @@ pub fn wide(x: u8) -> usize
     x as usize
 }
 
-pub fn number(n: usize) {
-    io::print_decimal(STDOUT_FILENO, n as u64);
+pub fn number(rt: &impl Print, n: usize) -> io::Result<()> {
+    print!(rt; "{n}")
 }
 
-pub fn byte(x: u8) {
-    number(wide(x));
+pub fn byte(rt: &impl Print, x: u8) -> io::Result<()> {
+    number(rt, wide(x))
 }
 
 fn wide_word(x: u16) -> usize
@@ -52,8 +48,8 @@ fn wide_word(x: u16) -> usize
     x as usize
 }
 
-pub fn word(x: u16) {
-    number(wide_word(x));
+pub fn word(rt: &impl Print, x: u16) -> io::Result<()> {
+    number(rt, wide_word(x))
 }
 
 // How far a tag is from 0.
@@ -64,38 +60,39 @@ fn magnitude(x: i16) -> usize {
     x as usize
 }
 
-pub fn tag(x: i16) {
+pub fn tag(rt: &impl Print, x: i16) -> io::Result<()> {
     if x < 0 {
-        say(b"-");
+        say(rt, b"-")?;
     }
-    number(magnitude(x));
+    number(rt, magnitude(x))
 }
 
 // A number of things, as '1 line' and '2 lines'.
-pub fn counted(n: usize, noun: &[u8]) {
-    number(n);
-    say(b" ");
-    say(noun);
+pub fn counted(rt: &impl Print, n: usize, noun: &[u8]) -> io::Result<()> {
+    number(rt, n)?;
+    say(rt, b" ")?;
+    say(rt, noun)?;
     if n != 1 {
-        say(b"s");
+        say(rt, b"s")?;
     }
+    Ok(())
 }
 
-pub fn refused(n: u8) {
-    say(b"refused ");
-    byte(n);
+pub fn refused(rt: &impl Print, n: u8) -> io::Result<()> {
+    say(rt, b"refused ")?;
+    byte(rt, n)
 }
 
 // A byte in hexadecimal, a space before it.
-fn pair_of_digits(x: u8) {
-    say(b" ");
-    io::print_hex(STDOUT_FILENO, x as u64, 2);
+fn pair_of_digits(rt: &impl Print, x: u8) -> io::Result<()> {
+    print!(rt; " {x:02x}")
 }
 
-pub fn listing(bytes: &[u8]) {
+pub fn listing(rt: &impl Print, bytes: &[u8]) -> io::Result<()> {
     let mut i = 0;
     while i < bytes.len() {
-        pair_of_digits(bytes[i]);
+        pair_of_digits(rt, bytes[i])?;
         i += 1;
     }
+    Ok(())
 }

@@ -1,9 +1,11 @@
 // Sheets to read in any order of their lines, repeats allowed, each written back.
 // A row: any|name|bytes, and behind it |lines where the lines are listed.
 use crate::rows::rows;
+use std::io;
 
-pub fn all() {
+pub fn all(rt: &impl Print) -> io::Result<()> {
     rows(
+        rt,
         b"#|Sheets to read in any order
 any|t = 256, then t = 1|01 00 01 00 02, 04 00 10 00 00 01 00 01, 04 00 10 00 00 01 01 00|lines
 any|t = 1, then t = 256|01 00 01 00 02, 04 00 10 00 00 01 01 00, 04 00 10 00 00 01 00 01|lines
@@ -26,5 +28,5 @@ any|a line not above, torn|01 00 01 00 02, 02 00 13 00 00 01, 02 00 12 00 00
 any|a line not above, of kind 15|01 00 01 00 02, 02 00 13 00 00 01, 02 00 0F 00 00 01
 any|a line not above, of a wrong length|01 00 01 00 02, 02 00 13 00 00 01, 01 00 12 00 00
 any|a line not above, with a bad clock|01 00 01 00 02, 02 00 13 00 00 01, 02 00 12 00 00 02",
-    );
+    )
 }

@@ -1,9 +1,11 @@
 // Sheet values to write: each line above the one before it. Of two faults of one line the first decides, of two lines the earlier one's; room is asked for last. Then repeats at the limits of lines and of sporadic lines.
 // A row: write|name|size|value. A sheet value: its clock count and its line count, then its lines, each by its kind and its body.
 use crate::rows::rows;
+use std::io;
 
-pub fn all() {
+pub fn all(rt: &impl Print) -> io::Result<()> {
     rows(
+        rt,
         b"#|Sheet values to write: the order of lines
 write|t = 256, then t = 1|192|02 02, 10 00 01 00 01, 10 00 01 01 00
 write|t = 1, then t = 256|192|02 02, 10 00 01 01 00, 10 00 01 00 01
@@ -25,5 +27,5 @@ write|second line, the first again|192|08 02, 12 00 00, 12 00 00, 12 00 02 06+, 
 write|ninth sporadic, the eighth again|192|08 09, 10 00 01 00 00 08+, 10 00 01 00 07, 10 00 01 00 09 07+
 write|ninth sporadic, the first again|192|08 09, 10 00 01 00 00 08+, 10 00 01 00 00, 10 00 01 00 09 07+
 write|second sporadic, the first again|192|08 09, 10 00 01 00 00, 10 00 01 00 00, 10 00 01 00 02 0E+",
-    );
+    )
 }

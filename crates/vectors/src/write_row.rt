@@ -9,6 +9,7 @@ use records::instant::write_instant;
 use records::record::Written;
 use records::sheet::write_sheet;
 use records::sort::sort_sheet;
+use std::io;
 
 // Writes what a text tells: a sheet value, an instant value behind its clock count, or a sheet's bytes, sorted.
 fn written(what: u8, text: &[u8], room: &mut [u8]) -> Written {
@@ -23,25 +24,25 @@ fn written(what: u8, text: &[u8], room: &mut [u8]) -> Written {
 }
 
 // Into the first bytes of the room, as many as told.
-pub fn write_row(what: u8, name: &[u8], fields: &[u8]) {
+pub fn write_row(rt: &impl Print, what: u8, name: &[u8], fields: &[u8]) -> io::Result<()> {
     let size = number_of(first(fields));
     if ROOM < size {
-        return;
+        return Ok(());
     }
-    case(name);
+    case(rt, name)?;
     let mut room = marked();
     let r = written(what, rest(fields), &mut room[0..size]);
-    outcome(r, room);
-    end();
+    outcome(rt, r, room)?;
+    end(rt)
 }
 
 // Two, each into a room of its own.
-pub fn both_row(what: u8, name: &[u8], fields: &[u8]) {
-    case(name);
+pub fn both_row(rt: &impl Print, what: u8, name: &[u8], fields: &[u8]) -> io::Result<()> {
+    case(rt, name)?;
     let mut one = marked();
     let mut other = marked();
     let r = written(what, first(fields), &mut one);
     let s = written(what, rest(fields), &mut other);
-    both(r, one, s, other);
-    end();
+    both(rt, r, one, s, other)?;
+    end(rt)
 }

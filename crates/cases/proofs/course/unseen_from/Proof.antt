@@ -4,13 +4,13 @@ use Prim.Native.Nat.{◌-◌, ◌≤◌}
 use Rattle.cases.proofs.course.unseen_from.Statement.{statement}
 use Rattle.cases.proofs.course.unseen_from.Tie as tie
 
-abbrev invariant-loop : tie.invariant-loop
+abbrev invariant-loop : tie.invariant-loop-k
 invariant-loop from v n₀ k₀ n k = n ≤ k
 
-abbrev decreases-loop : tie.decreases-loop
+abbrev decreases-loop : tie.decreases-loop-k
 decreases-loop from v n₀ k₀ n k = 8 - k
 
-pub unseen-from-spec : {M : Type 1} → statement M
-unseen-from-spec =
+pub unseen_from_spec : {M : Type 1} → statement M
+unseen_from_spec =
     tie.close (tie.spec invariant-loop decreases-loop (λ c. search rules) (λ c κs. search rules) (λ c κs. search rules) (λ c. search rules) (λ c. search rules)
     (λ c. search rules) (λ c. search rules) (λ c. search rules))

@@ -12,14 +12,14 @@ mod-le a = omega arith
 small : (a b : ℕ) → (a % 65536) * (b % 65536) ≤ 65535 * 65535
 small a b = mul-le-mul (mod-le a) (mod-le b)
 
-mul-result : tie.Need-overflow-mul-result
+mul-result : tie.Need-overflow_mul-result
 mul-result c = omega (arith, small c.args.p c.args.x)
 
-add-result : tie.Need-overflow-add-result
+add-result : tie.Need-overflow_add-result
 add-result c = omega (arith, small c.args.p c.args.x)
 
 returns : tie.Need-returns
 returns c = search rules
 
-pub wrapped-spec : {M : Type 1} → statement M
-wrapped-spec = tie.close (tie.spec mul-result add-result returns)
+pub wrapped_spec : {M : Type 1} → statement M
+wrapped_spec = tie.close (tie.spec mul-result add-result returns)

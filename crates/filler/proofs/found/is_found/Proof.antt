@@ -4,13 +4,13 @@ use Prim.Native.Nat.{◌-◌}
 use Rattle.filler.proofs.found.is_found.Statement.{statement}
 use Rattle.filler.proofs.found.is_found.Tie as tie
 
-abbrev invariant-loop : tie.invariant-loop
+abbrev invariant-loop : tie.invariant-loop-i
 invariant-loop r found n i₀ i = Unit
 
-abbrev decreases-loop : tie.decreases-loop
+abbrev decreases-loop : tie.decreases-loop-i
 decreases-loop r found n i₀ i = n - i
 
-pub is-found-spec : {M : Type 1} → statement M
-is-found-spec =
+pub is_found_spec : {M : Type 1} → statement M
+is_found_spec =
     tie.close (tie.spec invariant-loop decreases-loop (λ c κs. search rules) (λ c. search rules) (λ c. search rules) (λ c. search rules) (λ c κs. search rules)
     (λ c. search rules) (λ c. search rules) (λ c. search rules) (λ c. search rules) (λ c. search rules))

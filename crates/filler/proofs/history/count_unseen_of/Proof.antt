@@ -4,13 +4,13 @@ use Prim.Native.Nat.{◌-◌, ◌≤◌}
 use Rattle.filler.proofs.history.count_unseen_of.Statement.{statement}
 use Rattle.filler.proofs.history.count_unseen_of.Tie as tie
 
-abbrev invariant-loop : tie.invariant-loop
+abbrev invariant-loop : tie.invariant-loop-i
 invariant-loop run n k count all₀ i₀ all i = all ≤ 12
 
-abbrev decreases-loop : tie.decreases-loop
+abbrev decreases-loop : tie.decreases-loop-i
 decreases-loop run n k count all₀ i₀ all i = n - i
 
-pub count-unseen-of-spec : {M : Type 1} → statement M
-count-unseen-of-spec =
+pub count_unseen_of_spec : {M : Type 1} → statement M
+count_unseen_of_spec =
     tie.close (tie.spec invariant-loop decreases-loop (λ c. search rules) (λ c κs. search rules) (λ c κs. search rules) (λ c. search rules) (λ c. search rules)
     (λ c. search rules) (λ c. search rules))

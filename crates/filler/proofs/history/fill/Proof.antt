@@ -4,10 +4,10 @@ use Prim.Native.Nat.{◌-◌}
 use Rattle.filler.proofs.history.fill.Statement.{statement}
 use Rattle.filler.proofs.history.fill.Tie as tie
 
-abbrev invariant-loop : tie.invariant-loop
+abbrev invariant-loop : tie.invariant-loop-k
 invariant-loop run n filling count clocks₀ bits₀ k₀ clocks bits k = Unit
 
-abbrev decreases-loop : tie.decreases-loop
+abbrev decreases-loop : tie.decreases-loop-k
 decreases-loop run n filling count clocks₀ bits₀ k₀ clocks bits k = count - k
 
 pub fill_spec : {M : Type 1} → statement M

@@ -4,13 +4,13 @@ use Prim.Native.Nat.{◌-◌}
 use Rattle.filler.proofs.history.ticks_of.Statement.{statement}
 use Rattle.filler.proofs.history.ticks_of.Tie as tie
 
-abbrev invariant-loop : tie.invariant-loop
+abbrev invariant-loop : tie.invariant-loop-i
 invariant-loop run n k bits ticks₀ rest₀ i₀ ticks rest i = Unit
 
-abbrev decreases-loop : tie.decreases-loop
+abbrev decreases-loop : tie.decreases-loop-i
 decreases-loop run n k bits ticks₀ rest₀ i₀ ticks rest i = n - i
 
-pub ticks-of-spec : {M : Type 1} → statement M
-ticks-of-spec =
+pub ticks_of_spec : {M : Type 1} → statement M
+ticks_of_spec =
     tie.close (tie.spec invariant-loop decreases-loop (λ c. search rules) (λ c κs. search rules) (λ c κs. search rules) (λ c. search rules) (λ c κs. search rules)
     (λ c. search rules) (λ c. search rules) (λ c. search rules) (λ c. search rules))

@@ -4,13 +4,13 @@ use Prim.Native.Nat.{◌-◌}
 use Rattle.filler.proofs.remainder.owed_of.Statement.{statement}
 use Rattle.filler.proofs.remainder.owed_of.Tie as tie
 
-abbrev invariant-loop : tie.invariant-loop
+abbrev invariant-loop : tie.invariant-loop-i
 invariant-loop n s f lines owed₀ i₀ owed i = Unit
 
-abbrev decreases-loop : tie.decreases-loop
+abbrev decreases-loop : tie.decreases-loop-i
 decreases-loop n s f lines owed₀ i₀ owed i = lines - i
 
-pub owed-of-spec : {M : Type 1} → statement M
-owed-of-spec =
+pub owed_of_spec : {M : Type 1} → statement M
+owed_of_spec =
     tie.close (tie.spec invariant-loop decreases-loop (λ c κs. search rules) (λ c κs. search rules) (λ c. search rules) (λ c κs. search rules)
     (λ c κs. search rules) (λ c. search rules) (λ c. search rules) (λ c. search rules) (λ c. search rules))

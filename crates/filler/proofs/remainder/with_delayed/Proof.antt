@@ -4,13 +4,13 @@ use Prim.Native.Nat.{◌-◌}
 use Rattle.filler.proofs.remainder.with_delayed.Statement.{statement}
 use Rattle.filler.proofs.remainder.with_delayed.Tie as tie
 
-abbrev invariant-loop : tie.invariant-loop
+abbrev invariant-loop : tie.invariant-loop-i
 invariant-loop n f a b d by clock all₀ i₀ all i = Unit
 
-abbrev decreases-loop : tie.decreases-loop
+abbrev decreases-loop : tie.decreases-loop-i
 decreases-loop n f a b d by clock all₀ i₀ all i = n - i
 
-pub with-delayed-spec : {M : Type 1} → statement M
-with-delayed-spec =
+pub with_delayed_spec : {M : Type 1} → statement M
+with_delayed_spec =
     tie.close (tie.spec invariant-loop decreases-loop (λ c κs. search rules) (λ c. search rules) (λ c. search rules) (λ c. search rules) (λ c κs. search rules)
     (λ c κs. search rules) (λ c. search rules) (λ c. search rules) (λ c. search rules) (λ c. search rules) (λ c. search rules))

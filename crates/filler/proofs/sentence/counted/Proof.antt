@@ -4,10 +4,10 @@ use Prim.Native.Nat.{◌-◌}
 use Rattle.filler.proofs.sentence.counted.Statement.{statement}
 use Rattle.filler.proofs.sentence.counted.Tie as tie
 
-abbrev invariant-loop : tie.invariant-loop
+abbrev invariant-loop : tie.invariant-loop-i
 invariant-loop n a b d number clock on due i₀ i = Unit
 
-abbrev decreases-loop : tie.decreases-loop
+abbrev decreases-loop : tie.decreases-loop-i
 decreases-loop n a b d number clock on due i₀ i = n - i
 
 pub counted_spec : {M : Type 1} → statement M

@@ -4,13 +4,13 @@ use Prim.Native.Nat.{◌-◌}
 use Rattle.filler.proofs.sentence.kills.Statement.{statement}
 use Rattle.filler.proofs.sentence.kills.Tie as tie
 
-abbrev invariant-loop : tie.invariant-loop
+abbrev invariant-loop : tie.invariant-loop-i
 invariant-loop n b a i₀ i = Unit
 
-abbrev decreases-loop : tie.decreases-loop
+abbrev decreases-loop : tie.decreases-loop-i
 decreases-loop n b a i₀ i = n - i
 
-pub kills-spec : {M : Type 1} → statement M
-kills-spec =
+pub kills_spec : {M : Type 1} → statement M
+kills_spec =
     tie.close (tie.spec invariant-loop decreases-loop (λ c. search rules) (λ c. search rules) (λ c κs. search rules) (λ c. search rules) (λ c. search rules)
     (λ c. search rules) (λ c. search rules) (λ c. search rules))

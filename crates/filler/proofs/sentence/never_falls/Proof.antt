@@ -4,13 +4,13 @@ use Prim.Native.Nat.{◌-◌, ◌≤◌}
 use Rattle.filler.proofs.sentence.never_falls.Statement.{statement}
 use Rattle.filler.proofs.sentence.never_falls.Tie as tie
 
-abbrev invariant-loop : tie.invariant-loop
+abbrev invariant-loop : tie.invariant-loop-i
 invariant-loop n tags i₀ i = 1 ≤ i
 
-abbrev decreases-loop : tie.decreases-loop
+abbrev decreases-loop : tie.decreases-loop-i
 decreases-loop n tags i₀ i = n - i
 
-pub never-falls-spec : {M : Type 1} → statement M
-never-falls-spec =
+pub never_falls_spec : {M : Type 1} → statement M
+never_falls_spec =
     tie.close (tie.spec invariant-loop decreases-loop (λ c. search rules) (λ c. search rules) (λ c. search rules) (λ c. search rules) (λ c. search rules)
     (λ c. search rules) (λ c. search rules) (λ c. search rules) (λ c. search rules) (λ c. search rules) (λ c. search rules))

@@ -4,13 +4,13 @@ use Prim.Native.Nat.{◌-◌}
 use Rattle.filler.proofs.whole_run.owing_counts.Statement.{statement}
 use Rattle.filler.proofs.whole_run.owing_counts.Tie as tie
 
-abbrev invariant-loop : tie.invariant-loop
+abbrev invariant-loop : tie.invariant-loop-k
 invariant-loop found counts₀ k₀ counts k = Unit
 
-abbrev decreases-loop : tie.decreases-loop
+abbrev decreases-loop : tie.decreases-loop-k
 decreases-loop found counts₀ k₀ counts k = 8 - k
 
-pub owing-counts-spec : {M : Type 1} → statement M
-owing-counts-spec =
+pub owing_counts_spec : {M : Type 1} → statement M
+owing_counts_spec =
     tie.close (tie.spec invariant-loop decreases-loop (λ c. search rules) (λ c. search rules) (λ c κs. search rules) (λ c. search rules) (λ c. search rules)
     (λ c. search rules) (λ c. search rules) (λ c. search rules) (λ c. search rules))

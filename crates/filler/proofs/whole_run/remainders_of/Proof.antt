@@ -4,13 +4,13 @@ use Prim.Native.Nat.{◌-◌}
 use Rattle.filler.proofs.whole_run.remainders_of.Statement.{statement}
 use Rattle.filler.proofs.whole_run.remainders_of.Tie as tie
 
-abbrev invariant-loop : tie.invariant-loop
+abbrev invariant-loop : tie.invariant-loop-filling
 invariant-loop s run n end found₀ filling₀ found filling = Unit
 
-abbrev decreases-loop : tie.decreases-loop
+abbrev decreases-loop : tie.decreases-loop-filling
 decreases-loop s run n end found₀ filling₀ found filling = end - filling
 
-pub remainders-of-spec : {M : Type 1} → statement M
-remainders-of-spec =
+pub remainders_of_spec : {M : Type 1} → statement M
+remainders_of_spec =
     tie.close (tie.spec invariant-loop decreases-loop (λ c κs. search rules) (λ c κs. search rules) (λ c. search rules) (λ c κs. search rules)
     (λ c κs. search rules) (λ c κs. search rules) (λ c. search rules) (λ c. search rules) (λ c. search rules) (λ c. search rules) (λ c. search rules))
