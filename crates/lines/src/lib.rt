@@ -1,5 +1,6 @@
 // A sheet's lines in words, the plan of a sheet, and what its lines ask of an instant: of its tags, of a filling's ticks, of leads, and what they begin.
 #![tactic(auto)]
+
 pub mod delays;
 pub mod leads;
 pub mod line;

@@ -11,56 +11,56 @@ use Rattle.lines.proofs.delays.Parts.{row_inside, Gathering, gathering-start, ga
 use Rattle.lines.proofs.delays.begin_delays.Statement.{statement}
 use Rattle.lines.proofs.delays.begin_delays.Tie as tie
 
-abbrev invariant-loop : tie.invariant-loop
+abbrev invariant-loop : tie.invariant-loop-j
 invariant-loop lines delays counted ticks tags most begun₀ first₀ count₀ j₀ all begun first count j = (j ≤ delays + counted) × Gathering (due_of most) ticks tags lines delays counted begun first count j
 
-abbrev decreases-loop : tie.decreases-loop
+abbrev decreases-loop : tie.decreases-loop-j
 decreases-loop lines delays counted ticks tags most begun₀ first₀ count₀ j₀ all begun first count j = delays + counted - j
 
-loop-holds : tie.Need-loop-init invariant-loop decreases-loop
+loop-holds : tie.Need-loop-j-init invariant-loop decreases-loop
 loop-holds c = (omega arith, gathering-start _ _ _ _ _ _ (replicate 16 blank_obligation) (length-replicate 16 blank_obligation))
 
-line-there : tie.Need-plan-line-requires invariant-loop decreases-loop
-line-there c κs = row_inside (omega arith) c.Line-row.ensures
+line-there : tie.Need-plan_line-l-requires invariant-loop decreases-loop
+line-there c κs = row_inside (omega arith) c.line_row.ensures
 
 -- the turn of a line
-abbrev at : tie.After-begins invariant-loop decreases-loop → tie.At-loop invariant-loop decreases-loop
+abbrev at : tie.After-begins invariant-loop decreases-loop → tie.At-loop-j invariant-loop decreases-loop
 at b = b.before.before.before.before.before
 
-few-begun : tie.Need-is-begun-requires invariant-loop decreases-loop
-few-begun c κs = omega (arith, (at c.before.before.before).loop.invariant.1.fewer)
+few-begun : tie.Need-is_begun-requires invariant-loop decreases-loop
+few-begun c κs = omega (arith, (at c.before).loop-j.invariant.1.fewer)
 
-loop-again : tie.Need-loop-preserved invariant-loop decreases-loop
+loop-again : tie.Need-loop-j-preserved-in-Nothing invariant-loop decreases-loop
 loop-again c =
-    let b = c.before.before in
+    let b = c.before in
     let p = b.before in
-    (omega arith, gathering-none _ _ _ _ _ _ (at b).loop.invariant.1 (omega arith) p.before.before.first-in-part.ensures p.before.Line-row.ensures p.plan-line.ensures b.begins.ensures.owed (sym (ap new_obligation c.enum_told.given.1) ∙ b.begins.ensures.stored))
+    (omega arith, gathering-none _ _ _ _ _ _ (at b).loop-j.invariant.1 (omega arith) p.first_in_part-first.ensures p.before.line_row.ensures p.plan_line-l.ensures b.begins.ensures.owed (sym (ap new_obligation c.in-Nothing.is) ∙ b.begins.ensures.stored))
 
-loop-again-2 : tie.Need-loop-preserved-2 invariant-loop decreases-loop
+loop-again-2 : tie.Need-loop-j-preserved-then-is_begun invariant-loop decreases-loop
 loop-again-2 c =
-    let t = c.before.is-begun in
-    let k = c.before.before.before in
-    let o = k.o.given in
-    let b = k.before.before in
+    let t = c.is_begun in
+    let k = c.before.before in
+    let o = k.in-Owed in
+    let b = k.before in
     let p = b.before in
-    (omega arith, gathering-there _ _ _ _ _ _ (at b).loop.invariant.1 (omega arith) p.before.before.first-in-part.ensures p.before.Line-row.ensures p.plan-line.ensures b.begins.ensures.owed o.0.0 (sym (ap new_obligation o.1) ∙ b.begins.ensures.stored) t.result t.ensures c.if1.true)
+    (omega arith, gathering-there _ _ _ _ _ _ (at b).loop-j.invariant.1 (omega arith) p.first_in_part-first.ensures p.before.line_row.ensures p.plan_line-l.ensures b.begins.ensures.owed o.o (sym (ap new_obligation o.is) ∙ b.begins.ensures.stored) t.result t.ensures c.if-is_begun.true)
 
-loop-again-3 : tie.Need-loop-preserved-3 invariant-loop decreases-loop
+loop-again-3 : tie.Need-loop-j-preserved invariant-loop decreases-loop
 loop-again-3 c =
-    let t = c.before.is-begun in
-    let k = c.before.before.before in
-    let o = k.o.given in
-    let b = k.before.before in
+    let t = c.is_begun in
+    let k = c.before.before in
+    let o = k.in-Owed in
+    let b = k.before in
     let p = b.before in
-    (omega arith, gathering-new _ _ _ _ _ _ (at b).loop.invariant.1 (omega arith) p.before.before.first-in-part.ensures p.before.Line-row.ensures p.plan-line.ensures b.begins.ensures.owed o.0.0 (sym (ap new_obligation o.1) ∙ b.begins.ensures.stored) t.result t.ensures (omega (arith, (at b).loop.invariant.1.fewer)) c.if1.false)
+    (omega arith, gathering-new _ _ _ _ _ _ (at b).loop-j.invariant.1 (omega arith) p.first_in_part-first.ensures p.before.line_row.ensures p.plan_line-l.ensures b.begins.ensures.owed o.o (sym (ap new_obligation o.is) ∙ b.begins.ensures.stored) t.result t.ensures (omega (arith, (at b).loop-j.invariant.1.fewer)) c.if-is_begun.false)
 
 returns : tie.Need-returns invariant-loop decreases-loop
 returns c =
     let at = c.before.before in
-    gathered-both _ _ _ _ _ _ at.loop.invariant.1 (omega arith) at.before.requires c.owed-of.ensures
+    gathered-both _ _ _ _ _ _ at.loop-j.invariant.1 (omega arith) at.requires c.owed_of-owed.ensures
 
-pub begin-delays-spec : {M : Type 1} → statement M
-begin-delays-spec =
+pub begin_delays_spec : {M : Type 1} → statement M
+begin_delays_spec =
     tie.close (tie.spec invariant-loop decreases-loop (λ c. search rules) loop-holds (λ c κs. search rules) (λ c κs. search rules) line-there (λ c. search rules) (λ c κs. search rules)
     (λ c. search rules) (λ c. search rules) loop-again (λ c. search rules) few-begun (λ c. search rules) loop-again-2
     (λ c. search rules) (λ c. search rules) (λ c. search rules) (λ c. search rules) loop-again-3 (λ c κs. search rules) returns)

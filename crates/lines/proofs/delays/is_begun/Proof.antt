@@ -13,38 +13,38 @@ use Rattle.remainders.proofs.Places as places
 use Rattle.lines.proofs.delays.is_begun.Statement.{statement}
 use Rattle.lines.proofs.delays.is_begun.Tie as tie
 
-abbrev invariant-loop : tie.invariant-loop
+abbrev invariant-loop : tie.invariant-loop-j
 invariant-loop first n o begun j₀ j = any (same_stored o) (drop first (take n begun)) ≡ any (same_stored o) (drop j (take n begun))
 
-abbrev decreases-loop : tie.decreases-loop
+abbrev decreases-loop : tie.decreases-loop-j
 decreases-loop first n o begun j₀ j = n - j
 
 -- those from this turn's on
-module _ (at : tie.At-loop invariant-loop decreases-loop) (h : at.loop.j < at.before.args.n) (l : at.before.args.n ≤ length at.before.args.t3) where
+module _ (at : tie.At-loop-j invariant-loop decreases-loop) (h : at.loop-j.j < at.args.n) (l : at.args.n ≤ length at.args.begun) where
   abbrev begun : List code.Obligation
-  begun = at.before.args.t3
+  begun = at.args.begun
 
-  next : any (same_stored at.before.args.o) (drop at.before.args.first (take at.before.args.n begun))
-      ≡ (same_stored at.before.args.o (get_or begun at.loop.j blank_obligation) || any (same_stored at.before.args.o) (drop (at.loop.j + 1) (take at.before.args.n begun)))
-  next = at.loop.inv ∙ ap (any (same_stored at.before.args.o)) (rw places.as_is at (places.rest-cons (λ (o : code.Obligation). o) begun at.before.args.n at.loop.j blank_obligation h l))
+  next : any (same_stored at.args.o) (drop at.args.first (take at.args.n begun))
+      ≡ (same_stored at.args.o (get_or begun at.loop-j.j blank_obligation) || any (same_stored at.args.o) (drop (at.loop-j.j + 1) (take at.args.n begun)))
+  next = at.loop-j.invariant ∙ ap (any (same_stored at.args.o)) (rw places.as_is at (places.rest-cons (λ (o : code.Obligation). o) begun at.args.n at.loop-j.j blank_obligation h l))
 
-returns : tie.Need-returns invariant-loop decreases-loop
+returns : tie.Need-returns-then-same_obligation invariant-loop decreases-loop
 returns c =
     let at = c.before.before.before.before in
-    sym (next at (omega arith) (omega arith) ∙ rw (sym c.before.same-obligation.ensures ∙ c.if1.true))
+    sym (next at (omega arith) (omega arith) ∙ rw (sym c.same_obligation.ensures ∙ c.if-same_obligation.true))
 
-loop-again : tie.Need-loop-preserved invariant-loop decreases-loop
+loop-again : tie.Need-loop-j-preserved invariant-loop decreases-loop
 loop-again c =
     let at = c.before.before.before.before in
-    next at (omega arith) (omega arith) ∙ rw (sym c.before.same-obligation.ensures ∙ c.if1.false)
+    next at (omega arith) (omega arith) ∙ rw (sym c.same_obligation.ensures ∙ c.if-same_obligation.false)
 
-returns-2 : tie.Need-returns-2 invariant-loop decreases-loop
+returns-2 : tie.Need-returns invariant-loop decreases-loop
 returns-2 c =
     let at = c.before in
-    let a = at.before.args in
-    sym (at.loop.invariant ∙ ap (any (same_stored a.o)) (rw places.as_is at (places.rest_end (λ (o : code.Obligation). o) a.t3 a.n at.loop.j (omega arith))))
+    let a = at.args in
+    sym (at.loop-j.invariant ∙ ap (any (same_stored a.o)) (rw places.as_is at (places.rest_end (λ (o : code.Obligation). o) a.begun a.n at.loop-j.j (omega arith))))
 
-pub is-begun-spec : {M : Type 1} → statement M
-is-begun-spec =
+pub is_begun_spec : {M : Type 1} → statement M
+is_begun_spec =
     tie.close (tie.spec invariant-loop decreases-loop (λ c. refl) (λ c. search rules) (λ c. search rules) (λ c κs. search rules) returns (λ c. search rules)
     (λ c. search rules) loop-again returns-2)

@@ -17,22 +17,22 @@ record Changing (lines : List ℕ) (leaders : ℕ) (ticks : List Bool) (rules ga
   gained : Placing (λ k (x : ℕ). x ≡ gain_of ticks (plan_line lines k)) 0 16 gains i
   lost : Placing (λ k (x : ℕ). x ≡ loss_of ticks (plan_line lines k)) 0 16 losses i
 
-abbrev invariant-loop : tie.invariant-loop
+abbrev invariant-loop : tie.invariant-loop-i
 invariant-loop lines leaders ticks needs₀ gains₀ losses₀ i₀ rules gains losses i = Changing lines leaders ticks rules gains losses i
 
-abbrev decreases-loop : tie.decreases-loop
+abbrev decreases-loop : tie.decreases-loop-i
 decreases-loop lines leaders ticks needs₀ gains₀ losses₀ i₀ rules gains losses i = leaders - i
 
-loop-holds : tie.Need-loop-init invariant-loop decreases-loop
+loop-holds : tie.Need-loop-i-init invariant-loop decreases-loop
 loop-holds c = record { turns = omega arith; needed = placing-start _ _ 16; gained = placing-start _ _ 16; lost = placing-start _ _ 16 }
 
-loop-again : tie.Need-loop-preserved invariant-loop decreases-loop
+loop-again : tie.Need-loop-i-preserved invariant-loop decreases-loop
 loop-again c =
     let at = c.before.before.before in
-    let l = c.before.plan-line.ensures in
-    let ask = c.ask-lead.ensures in
-    let ticks = at.before.args.ticks in
-    let m = at.loop in
+    let l = c.plan_line-l.ensures in
+    let ask = c.ask_lead-ask.ensures in
+    let ticks = at.args.ticks in
+    let m = at.loop-i in
     record {
       turns = omega arith;
       needed = placing-more _ _ 16 m.invariant.needed (omega arith) _ (ask.needed ∙ ap (need_of ticks) l);
@@ -42,11 +42,11 @@ loop-again c =
 
 returns : tie.Need-returns invariant-loop decreases-loop
 returns c =
-    let w = c.before.loop.invariant in
+    let w = c.loop-i.invariant in
     record { needed = λ k h. w.needed.places k (omega arith); gained = λ k h. w.gained.places k (omega arith); lost = λ k h. w.lost.places k (omega arith) }
 
-pub lead-changes-spec : {M : Type 1} → statement M
-lead-changes-spec =
+pub lead_changes_spec : {M : Type 1} → statement M
+lead_changes_spec =
     tie.close (tie.spec invariant-loop decreases-loop loop-holds (λ c κs. search rules) (λ c κs. search rules) (λ c. search rules) (λ c. search rules)
     (λ c. search rules) (λ c. search rules) (λ c. search rules) (λ c. search rules) (λ c. search rules) (λ c. search rules)
     loop-again returns)

@@ -14,55 +14,55 @@ use Rattle.lines.proofs.line.begins.Tie as tie
 
 -- ---- a delay line whose A ticks
 
-module _ (d : tie.After-due-number) where
-  abbrev asked : tie.After-ticks-at
+module _ (d : tie.After-due_number-number) where
+  abbrev asked : tie.After-ticks_at
   asked = d.before.before.before
 
-  abbrev told : tie.After-l
-  told = asked.before.before
+  abbrev told : tie.In-Delayed
+  told = asked.before
 
   abbrev start : tie.Start
-  start = told.before.before
+  start = told.before
 
   -- the line's A, its on-clock and its delay
   abbrev first : ℕ
-  first = told.l.given.0.0
+  first = told.in-Delayed.a
 
   abbrev on : ℕ
-  on = told.l.given.0.1.0
+  on = told.in-Delayed.b
 
   abbrev by : ℕ
-  by = told.l.given.0.1.1.1.0
+  by = told.in-Delayed.by
 
   ticking : tick_in start.args.ticks first ≡ true
-  ticking = sym asked.ticks-at.ensures ∙ d.before.before.if1.taken
+  ticking = sym asked.ticks_at.ensures ∙ d.if-ticks_at.true
 
-  is-due : tag_in start.args.tags on +ℤ pos by ≡ due_of d.due-number.result
-  is-due = let t = d.before.clock-tag in sym (held-due by t.ok d.due-number.ensures t.ensures)
+  is-due : tag_in start.args.tags on +ℤ pos by ≡ due_of d.due_number-number.result
+  is-due = let t = d.clock_tag in sym (held-due by t.type_inv d.due_number-number.ensures t.ensures)
 
-returns : tie.Need-returns
-returns c = let d = c.before in begins-on-scale (told d).l.given.1 _ _ (ticking d) _ (is-due d) _ c.if2.true
+returns : tie.Need-returns-then-number-most
+returns c = let d = c.before in begins-on-scale (told d).in-Delayed.is _ _ (ticking d) _ (is-due d) _ c.if-number-most.true
 
-returns-2 : tie.Need-returns-2
-returns-2 c = let d = c.before in begins-beyond (told d).l.given.1 _ _ (ticking d) _ (is-due d) _ c.if2.false
+returns-2 : tie.Need-returns-else-number-most
+returns-2 c = let d = c.before in begins-beyond (told d).in-Delayed.is _ _ (ticking d) _ (is-due d) _ c.if-number-most.false
 
 -- ---- where its A doesn't tick
 
-returns-3 : tie.Need-returns-3
+returns-3 : tie.Need-returns-else-ticks_at
 returns-3 c =
-    let l = c.before.before.before.l.given.1 in
-    let ticks = sym c.before.ticks-at.ensures in
-    record { stored = rw (l, ticks, c.if1.false); owed = λ d. rw (l, ticks, c.if1.false) }
+    let l = c.in-Delayed.is in
+    let ticks = sym c.ticks_at.ensures in
+    record { stored = rw (l, ticks, c.if-ticks_at.false); owed = λ d. rw (l, ticks, c.if-ticks_at.false) }
 
 -- ---- a counted line
 
-returns-11 : tie.Need-returns-11
+returns-11 : tie.Need-returns-in-Counted
 returns-11 c =
-    let l = c.before.before.before.l2.given.1 in
-    record { stored = c.begins-count.ensures ∙ rw (l, c.before.ticks-at2.ensures); owed = λ d. absurd (true≢false (sym d ∙ rw l)) }
+    let l = c.in-Counted.is in
+    record { stored = c.begins_count.ensures ∙ rw (l, c.ticks_at-in-Counted.ensures); owed = λ d. absurd (true≢false (sym d ∙ rw l)) }
 
-pub begins-spec : {M : Type 1} → statement M
-begins-spec =
+pub begins_spec : {M : Type 1} → statement M
+begins_spec =
     tie.close (tie.spec (λ c. search rules) (λ c κs. search rules) (λ c κs. search rules) (λ c κs. search rules) (λ c. search rules) (λ c. search rules)
     (λ c. search rules) (λ c. search rules) (λ c. search rules) (λ c. search rules) (λ c. search rules) (λ c. search rules) (λ c. search rules) (λ c κs. search rules) (λ c κs. search rules) returns returns-2 returns-3
     (λ c. record { stored = search rules; owed = λ d. search rules }) (λ c. record { stored = search rules; owed = λ d. search rules }) (λ c. record { stored = search rules; owed = λ d. search rules })

@@ -14,27 +14,27 @@ use Rattle.lines.proofs.line.is_product.Tie as tie
 abbrev held : ℤ → ℤ
 held z = to_z w64 (of_z w64 z)
 
-sum : (c : tie.After-wide4) → held (held c.before.before.wide2.result *ℤ held c.before.wide3.result) +ℤ held c.wide4.result ≡ c.before.before.before.before.args.p *ℤ c.before.before.before.before.args.b +ℤ c.before.before.before.before.args.q
+sum : (c : tie.After-wide-4) → held (held c.wide-2.result *ℤ held c.wide-3.result) +ℤ held c.wide-4.result ≡ c.args.p *ℤ c.args.b +ℤ c.args.q
 sum c =
-    let f = c.before.before.before.before.ranges in
-    rw (held-wide w64 tt f.p c.before.before.wide2.ensures, held-wide w64 tt f.b c.before.wide3.ensures, held-wide w64 tt f.q c.wide4.ensures, to_z-of_z {w = w64} (product-fits f.p f.b))
+    let f = c.ranges in
+    rw (held-wide w64 tt f.p c.wide-2.ensures, held-wide w64 tt f.b c.wide-3.ensures, held-wide w64 tt f.q c.wide-4.ensures, to_z-of_z {w = w64} (product-fits f.p f.b))
 
-mul-result : tie.Need-overflow-mul-result
+mul-result : tie.Need-overflow_mul-result
 mul-result c =
-    let f = c.before.before.before.ranges in
-    rw (held-wide w64 tt f.p c.before.wide2.ensures, held-wide w64 tt f.b c.wide3.ensures) (product-fits f.p f.b)
+    let f = c.ranges in
+    rw (held-wide w64 tt f.p c.wide-2.ensures, held-wide w64 tt f.b c.wide-3.ensures) (product-fits f.p f.b)
 
-add-result : tie.Need-overflow-add-result
+add-result : tie.Need-overflow_add-result
 add-result c =
-    let f = c.before.before.before.before.ranges in
+    let f = c.ranges in
     rw (sum c) (relation-fits f.p f.b f.q)
 
 returns : tie.Need-returns
 returns c =
     let s = c.before.before.before.before in
     let f = s.ranges in
-    rw (sum c, widened f.a c.before.before.before.wide.ensures) (bits-eq_z s.args.a _ (wide_fits w64 tt f.a) (relation-fits f.p f.b f.q))
+    rw (sum c, widened f.a c.wide.ensures) (bits-eq_z s.args.a _ (wide_fits w64 tt f.a) (relation-fits f.p f.b f.q))
 
-pub is-product-spec : {M : Type 1} → statement M
-is-product-spec =
+pub is_product_spec : {M : Type 1} → statement M
+is_product_spec =
     tie.close (tie.spec (λ c κs. search rules) (λ c κs. search rules) (λ c κs. search rules) mul-result (λ c κs. search rules) add-result returns)

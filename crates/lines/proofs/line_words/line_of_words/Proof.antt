@@ -6,7 +6,7 @@ use Rattle.lines.proofs.line_words.line_of_words.Tie as tie
 returns : tie.Need-returns
 returns c = cc
 
-pub line-of-words-spec : {M : Type 1} → statement M
-line-of-words-spec =
+pub line_of_words_spec : {M : Type 1} → statement M
+line_of_words_spec =
     tie.close (tie.spec (λ c κs. search rules) (λ c κs. search rules) (λ c κs. search rules) (λ c κs. search rules)
     (λ c κs. search rules) (λ c κs. search rules) (λ c κs. search rules) returns)

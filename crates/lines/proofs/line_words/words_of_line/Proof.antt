@@ -7,42 +7,42 @@ use Rattle.lines.proofs.line_words.Laws.{words-of}
 use Rattle.lines.proofs.line_words.words_of_line.Statement.{statement}
 use Rattle.lines.proofs.line_words.words_of_line.Tie as tie
 
-returns : tie.Need-returns
+returns : tie.Need-returns-in-Sporadic
 returns c =
-    let g = c.before.before.before.l.given in
-    let t : to_z w16 (of_z w16 g.0.1.1.0) ≡ g.0.1.1.0 = search rules in
-    rw g.1 (words-of (search rules) (c.words-by.ensures ∙ rw (c.before.raw_of.ensures, t)))
+    let g = c.in-Sporadic in
+    let t : to_z w16 (of_z w16 g.t) ≡ g.t = search rules in
+    rw g.is (words-of (search rules) (c.words_by.ensures ∙ rw (c.raw_of.ensures, t)))
 
-returns-2 : tie.Need-returns-2
+returns-2 : tie.Need-returns-in-Relation
 returns-2 c =
-    let g = c.before.before.before.before.l2.given in
-    let t : to_z w16 (of_z w16 g.0.1.1.0) ≡ g.0.1.1.0 = search rules in
-    let u : to_z w16 (of_z w16 g.0.1.1.1.0) ≡ g.0.1.1.1.0 = search rules in
-    rw g.1 (words-of (search rules) (c.words-by2.ensures ∙ rw (c.before.before.raw-of2.ensures, c.before.raw-of3.ensures, t, u)))
+    let g = c.in-Relation in
+    let t : to_z w16 (of_z w16 g.p) ≡ g.p = search rules in
+    let u : to_z w16 (of_z w16 g.q) ≡ g.q = search rules in
+    rw g.is (words-of (search rules) (c.words_by-in-Relation.ensures ∙ rw (c.raw_of-in-Relation.ensures, c.raw_of-in-Relation-2.ensures, t, u)))
 
-returns-3 : tie.Need-returns-3
-returns-3 c = rw c.before.before.l3.given.1 (words-of (search rules) c.words-by3.ensures)
+returns-3 : tie.Need-returns-in-Implies
+returns-3 c = rw c.in-Implies.is (words-of (search rules) c.words_by-in-Implies.ensures)
 
-returns-4 : tie.Need-returns-4
-returns-4 c = rw c.before.before.l4.given.1 (words-of (search rules) c.words-by4.ensures)
+returns-4 : tie.Need-returns-in-Excludes
+returns-4 c = rw c.in-Excludes.is (words-of (search rules) c.words_by-in-Excludes.ensures)
 
-returns-5 : tie.Need-returns-5
-returns-5 c = rw c.before.before.l5.given.1 (words-of (search rules) c.words-by5.ensures)
+returns-5 : tie.Need-returns-in-Delayed
+returns-5 c = rw c.in-Delayed.is (words-of (search rules) c.words_by-in-Delayed.ensures)
 
-returns-6 : tie.Need-returns-6
-returns-6 c = rw c.before.before.l6.given.1 (words-of (search rules) c.words-by6.ensures)
+returns-6 : tie.Need-returns-in-Weakly
+returns-6 c = rw c.in-Weakly.is (words-of (search rules) c.words_by-in-Weakly.ensures)
 
-returns-7 : tie.Need-returns-7
-returns-7 c = rw c.before.before.l7.given.1 (words-of (search rules) c.words-by7.ensures)
+returns-7 : tie.Need-returns-in-Strictly
+returns-7 c = rw c.in-Strictly.is (words-of (search rules) c.words_by-in-Strictly.ensures)
 
-returns-8 : tie.Need-returns-8
-returns-8 c = rw c.before.before.l8.given.1 (words-of (search rules) c.words-by8.ensures)
+returns-8 : tie.Need-returns-in-Kills
+returns-8 c = rw c.in-Kills.is (words-of (search rules) c.words_by-in-Kills.ensures)
 
-returns-9 : tie.Need-returns-9
-returns-9 c = rw c.before.before.l9.given.1 (words-of (search rules) c.words-by9.ensures)
+returns-9 : tie.Need-returns-in-Counted
+returns-9 c = rw c.in-Counted.is (words-of (search rules) c.words_by-in-Counted.ensures)
 
-pub words-of-line-spec : {M : Type 1} → statement M
-words-of-line-spec =
+pub words_of_line_spec : {M : Type 1} → statement M
+words_of_line_spec =
     tie.close (tie.spec
     (λ c. search rules) (λ c κs. search rules) (λ c κs. search rules)
     (λ c. search rules) (λ c κs. search rules) (λ c κs. search rules) (λ c κs. search rules)

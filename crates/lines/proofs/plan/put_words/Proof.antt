@@ -7,8 +7,8 @@ use Rattle.lines.proofs.plan.put_words.Tie as tie
 returns : tie.Need-returns
 returns c = put-there c.requires c.args.w
 
-pub put-words-spec : {M : Type 1} → statement M
-put-words-spec =
+pub put_words_spec : {M : Type 1} → statement M
+put_words_spec =
     tie.close (tie.spec (λ c. search rules)
     (λ c. search rules) (λ c. search rules)
     (λ c. search rules) (λ c. search rules) (λ c. search rules) (λ c. search rules) (λ c. search rules) (λ c. search rules)

@@ -4,7 +4,7 @@ use Rattle.lines.proofs.relevant.flag_both.Statement.{statement}
 use Rattle.lines.proofs.relevant.flag_both.Tie as tie
 
 returns : tie.Need-returns
-returns c = rw (c.stop2.ensures, c.before.stop.ensures)
+returns c = rw (c.stop.ensures, c.stop-one.ensures)
 
-pub flag-both-spec : {M : Type 1} → statement M
-flag-both-spec = tie.close (tie.spec (λ c κs. search rules) (λ c κs. search rules) returns)
+pub flag_both_spec : {M : Type 1} → statement M
+flag_both_spec = tie.close (tie.spec (λ c κs. search rules) (λ c κs. search rules) returns)

@@ -9,20 +9,20 @@ use Rattle.lines.proofs.relevant.Laws.{named_from, named_start, named_more, name
 use Rattle.lines.proofs.relevant.flag_row.Statement.{statement}
 use Rattle.lines.proofs.relevant.flag_row.Tie as tie
 
-abbrev invariant-loop : tie.invariant-loop
+abbrev invariant-loop : tie.invariant-loop-part
 invariant-loop rows i after₀ part₀ after part = (part ≤ parts) × (flagged (row_clocks rows i) after₀ ≡ named_from (part_clocks rows i) (λ (q : ℕ). q) parts part after)
 
-abbrev decreases-loop : tie.decreases-loop
+abbrev decreases-loop : tie.decreases-loop-part
 decreases-loop rows i after₀ part₀ after part = parts - part
 
-loop-again : tie.Need-loop-preserved invariant-loop decreases-loop
+loop-again : tie.Need-loop-part-preserved invariant-loop decreases-loop
 loop-again c =
     let at = c.before.before in
-    (omega arith, named_more _ _ _ at.loop.part at.loop.after at.loop.invariant.1 (omega arith) c.flag-part.ensures)
+    (omega arith, named_more _ _ _ at.loop-part.part at.loop-part.after at.loop-part.invariant.1 (omega arith) c.flag_part-next.ensures)
 
-pub flag-row-spec : {M : Type 1} → statement M
-flag-row-spec =
+pub flag_row_spec : {M : Type 1} → statement M
+flag_row_spec =
     tie.close (tie.spec invariant-loop decreases-loop (λ c. (omega arith, named_start _ _ parts _))
-    (λ c κs. let at = c.before in (at.before.requires.0, (omega arith, at.before.requires.1 at.loop.part (omega arith))))
+    (λ c κs. let at = c.before in (at.requires.0, (omega arith, at.requires.1 at.loop-part.part (omega arith))))
     (λ c. search rules) (λ c. search rules) loop-again
-    (λ c. let at = c.before in named_end _ _ _ at.loop.part at.loop.after at.loop.invariant.1 (omega arith)))
+    (λ c. let at = c.before in named_end _ _ _ at.loop-part.part at.loop-part.after at.loop-part.invariant.1 (omega arith)))

@@ -4,11 +4,11 @@ use borrow.Author.Tests.{eq-eqb, ne_eqb}
 use Rattle.lines.proofs.relevant.flag_stored.Statement.{statement}
 use Rattle.lines.proofs.relevant.flag_stored.Tie as tie
 
-returns : tie.Need-returns
-returns c = rw (eq-eqb _ _ c.before.if1.true) c.stop.ensures
+returns : tie.Need-returns-then-part-eq-OBLIGATIONS
+returns c = rw (eq-eqb _ _ c.if-part-eq-OBLIGATIONS.true) c.stop.ensures
 
-returns-2 : tie.Need-returns-2
-returns-2 c = rw (ne_eqb _ _ c.before.if1.false) c.flag-both.ensures
+returns-2 : tie.Need-returns-else-part-eq-OBLIGATIONS
+returns-2 c = rw (ne_eqb _ _ c.if-part-eq-OBLIGATIONS.false) c.flag_both.ensures
 
-pub flag-stored-spec : {M : Type 1} → statement M
-flag-stored-spec = tie.close (tie.spec (λ c κs. search rules) (λ c κs. search rules) returns returns-2)
+pub flag_stored_spec : {M : Type 1} → statement M
+flag_stored_spec = tie.close (tie.spec (λ c κs. search rules) (λ c κs. search rules) returns returns-2)

@@ -13,28 +13,28 @@ use Rattle.lines.proofs.rules.Laws.{rule_in}
 use Rattle.lines.proofs.rules.all_hold.Statement.{statement}
 use Rattle.lines.proofs.rules.all_hold.Tie as tie
 
-abbrev invariant-loop : tie.invariant-loop
+abbrev invariant-loop : tie.invariant-loop-i
 invariant-loop lines n ticks i₀ i = (i ≤ n) × (allowed (plan_lines lines rules_from n) ticks ≡ all_from (ticks_hold ticks) (rule_in lines) n i)
 
-abbrev decreases-loop : tie.decreases-loop
+abbrev decreases-loop : tie.decreases-loop-i
 decreases-loop lines n ticks i₀ i = n - i
 
-loop-holds : tie.Need-loop-init invariant-loop decreases-loop
+loop-holds : tie.Need-loop-i-init invariant-loop decreases-loop
 loop-holds c = (omega arith, rw sub-zero)
 
-returns : tie.Need-returns invariant-loop decreases-loop
+returns : tie.Need-returns-then-not-holds invariant-loop decreases-loop
 returns c =
     let at = c.before.before.before.before in
-    let a = at.before.args in
-    all-no (ticks_hold a.ticks) (rule_in a.lines.now) a.n at.loop.i at.loop.invariant.1 (omega arith) _ (sym c.before.before.rule-in.ensures.line) _ (c.before.holds.ensures _ _ _) (not-true _ c.if1.true)
+    let a = at.args in
+    all-no (ticks_hold a.ticks) (rule_in a.lines.now) a.n at.loop-i.i at.loop-i.invariant.1 (omega arith) _ (sym c.rule_in-r.ensures.line) _ (c.holds.ensures _ _ _) (not-true _ c.if-not-holds.true-raw)
 
-loop-again : tie.Need-loop-preserved invariant-loop decreases-loop
+loop-again : tie.Need-loop-i-preserved invariant-loop decreases-loop
 loop-again c =
     let at = c.before.before.before.before in
-    let a = at.before.args in
-    (omega arith, all_more (ticks_hold a.ticks) (rule_in a.lines.now) a.n at.loop.i at.loop.invariant.1 (omega arith) _ (sym c.before.before.rule-in.ensures.line) _ (c.before.holds.ensures _ _ _) (not-false _ c.if1.false))
+    let a = at.args in
+    (omega arith, all_more (ticks_hold a.ticks) (rule_in a.lines.now) a.n at.loop-i.i at.loop-i.invariant.1 (omega arith) _ (sym c.rule_in-r.ensures.line) _ (c.holds.ensures _ _ _) (not-false _ c.if-not-holds.false-raw))
 
-pub all-hold-spec : {M : Type 1} → statement M
-all-hold-spec =
+pub all_hold_spec : {M : Type 1} → statement M
+all_hold_spec =
     tie.close (tie.spec invariant-loop decreases-loop loop-holds (λ c. search rules) (λ c κs. search rules) (λ c κs. search rules) returns (λ c. search rules)
     (λ c. search rules) loop-again (λ c. search (rules, all_end) depth 8))

@@ -15,29 +15,29 @@ use Rattle.lines.proofs.rules.Folds.{fold_end, fold_more}
 use Rattle.lines.proofs.rules.all_stops.Statement.{statement}
 use Rattle.lines.proofs.rules.all_stops.Tie as tie
 
-abbrev invariant-loop : tie.invariant-loop
+abbrev invariant-loop : tie.invariant-loop-i
 invariant-loop lines n ticks stops₀ i₀ stops i = (i ≤ n) × (all_stopped ticks (plan_lines lines rules_from n) (replicate 8 false) ≡ all_stopped ticks (listed_from (rule_in lines) i (n - i)) stops)
 
-abbrev decreases-loop : tie.decreases-loop
+abbrev decreases-loop : tie.decreases-loop-i
 decreases-loop lines n ticks stops₀ i₀ stops i = n - i
 
-loop-holds : tie.Need-loop-init invariant-loop decreases-loop
+loop-holds : tie.Need-loop-i-init invariant-loop decreases-loop
 loop-holds c = (omega arith, rw sub-zero)
 
-loop-again : tie.Need-loop-preserved invariant-loop decreases-loop
+loop-again : tie.Need-loop-i-preserved invariant-loop decreases-loop
 loop-again c =
-    let l = c.before.plan-line in
+    let l = c.plan_line-l in
     let at = c.before.before.before in
-    let a = at.before.args in
-    (omega arith, fold_more (stopped_after a.ticks) (all_stopped a.ticks) (λ x. refl) (λ l ls x. refl) (rule_in a.lines.now) a.n at.loop.i at.loop.stops at.loop.invariant.1 (omega arith) l.result l.ensures c.stopped-after.result c.stopped-after.ensures)
+    let a = at.args in
+    (omega arith, fold_more (stopped_after a.ticks) (all_stopped a.ticks) (λ x. refl) (λ l ls x. refl) (rule_in a.lines.now) a.n at.loop-i.i at.loop-i.stops at.loop-i.invariant.1 (omega arith) l.result l.ensures c.stopped_after-next.result c.stopped_after-next.ensures)
 
 returns : tie.Need-returns invariant-loop decreases-loop
 returns c =
     let at = c.before in
-    let a = at.before.args in
-    fold_end (stopped_after a.ticks) (all_stopped a.ticks) (λ x. refl) (λ l ls x. refl) (rule_in a.lines.now) a.n at.loop.i at.loop.stops at.loop.invariant.1 (omega arith)
+    let a = at.args in
+    fold_end (stopped_after a.ticks) (all_stopped a.ticks) (λ x. refl) (λ l ls x. refl) (rule_in a.lines.now) a.n at.loop-i.i at.loop-i.stops at.loop-i.invariant.1 (omega arith)
 
-pub all-stops-spec : {M : Type 1} → statement M
-all-stops-spec =
+pub all_stops_spec : {M : Type 1} → statement M
+all_stops_spec =
     tie.close (tie.spec invariant-loop decreases-loop loop-holds (λ c. search rules) (λ c κs. search rules) (λ c κs. search rules) (λ c. search rules)
     (λ c. search rules) loop-again returns)

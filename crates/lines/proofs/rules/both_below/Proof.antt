@@ -3,11 +3,11 @@ use borrow.Author.Tests.{lt-ltb, le-ltb}
 use Rattle.lines.proofs.rules.both_below.Statement.{statement}
 use Rattle.lines.proofs.rules.both_below.Tie as tie
 
-returns : tie.Need-returns
-returns c = rw (lt-ltb _ _ c.if1.true)
+returns : tie.Need-returns-then-a-k
+returns c = rw (lt-ltb _ _ c.if-a-k.true)
 
-returns-2 : tie.Need-returns-2
-returns-2 c = rw (le-ltb _ _ c.if1.false)
+returns-2 : tie.Need-returns-else-a-k
+returns-2 c = rw (le-ltb _ _ c.if-a-k.false)
 
-pub both-below-spec : {M : Type 1} → statement M
-both-below-spec = tie.close (tie.spec returns returns-2)
+pub both_below_spec : {M : Type 1} → statement M
+both_below_spec = tie.close (tie.spec returns returns-2)

@@ -8,9 +8,9 @@ returns : tie.Need-returns
 returns c =
     let a = c.before.before in
     let k = a.before.before in
-    rule-words _ _ _ k.number_in.ensures a.byte-in.ensures c.byte-in2.ensures
+    rule-words _ _ _ k.number_in-kind.ensures a.byte_in-a.ensures c.byte_in-b.ensures
 
-pub rule-in-spec : {M : Type 1} → statement M
-rule-in-spec =
+pub rule_in_spec : {M : Type 1} → statement M
+rule_in_spec =
     tie.close (tie.spec (λ c. search rules) (λ c. search rules) (λ c. search rules) (λ c κs. search rules) (λ c. search rules) (λ c. search rules) (λ c. search rules)
     (λ c κs. search rules) (λ c. search rules) (λ c. search rules) (λ c. search rules) (λ c κs. search rules) returns)

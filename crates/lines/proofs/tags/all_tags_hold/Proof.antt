@@ -18,28 +18,28 @@ use Rattle.lines.proofs.tags.all_tags_hold.Tie as tie
 abbrev relation_in : List ℕ → ℕ → Line
 relation_in lines i = plan_line lines (relations_from + i)
 
-abbrev invariant-loop : tie.invariant-loop
+abbrev invariant-loop : tie.invariant-loop-i
 invariant-loop lines n tags i₀ i = (i ≤ n) × (all (tags_hold tags) (plan_lines lines relations_from n) ≡ all_from (tags_hold tags) (relation_in lines) n i)
 
-abbrev decreases-loop : tie.decreases-loop
+abbrev decreases-loop : tie.decreases-loop-i
 decreases-loop lines n tags i₀ i = n - i
 
-loop-holds : tie.Need-loop-init invariant-loop decreases-loop
+loop-holds : tie.Need-loop-i-init invariant-loop decreases-loop
 loop-holds c = (omega arith, rw sub-zero)
 
-returns : tie.Need-returns invariant-loop decreases-loop
+returns : tie.Need-returns-then-not-tags_hold invariant-loop decreases-loop
 returns c =
     let at = c.before.before.before.before in
-    let a = at.before.args in
-    all-no (tags_hold a.tags) (relation_in a.lines.now) a.n at.loop.i at.loop.invariant.1 (omega arith) _ c.before.before.plan-line.ensures _ c.before.tags-hold.ensures (not-true _ c.if1.true)
+    let a = at.args in
+    all-no (tags_hold a.tags) (relation_in a.lines.now) a.n at.loop-i.i at.loop-i.invariant.1 (omega arith) _ c.plan_line-l.ensures _ c.tags_hold.ensures (not-true _ c.if-not-tags_hold.true-raw)
 
-loop-again : tie.Need-loop-preserved invariant-loop decreases-loop
+loop-again : tie.Need-loop-i-preserved invariant-loop decreases-loop
 loop-again c =
     let at = c.before.before.before.before in
-    let a = at.before.args in
-    (omega arith, all_more (tags_hold a.tags) (relation_in a.lines.now) a.n at.loop.i at.loop.invariant.1 (omega arith) _ c.before.before.plan-line.ensures _ c.before.tags-hold.ensures (not-false _ c.if1.false))
+    let a = at.args in
+    (omega arith, all_more (tags_hold a.tags) (relation_in a.lines.now) a.n at.loop-i.i at.loop-i.invariant.1 (omega arith) _ c.plan_line-l.ensures _ c.tags_hold.ensures (not-false _ c.if-not-tags_hold.false-raw))
 
-pub all-tags-hold-spec : {M : Type 1} → statement M
-all-tags-hold-spec =
+pub all_tags_hold_spec : {M : Type 1} → statement M
+all_tags_hold_spec =
     tie.close (tie.spec invariant-loop decreases-loop loop-holds (λ c. search rules) (λ c κs. search rules) (λ c κs. search rules) returns (λ c. search rules)
     (λ c. search rules) loop-again (λ c. search (rules, all_end) depth 8))

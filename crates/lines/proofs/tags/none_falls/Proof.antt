@@ -27,28 +27,28 @@ compared was tags k f g e =
     let t = to_z-of_z {w = w16} {z = tag_in tags k} (record { sfits = g }) in
     sym (lt_z-le_z (tag_in tags k) (tag_in was k)) ∙ rw (t, w) at e
 
-abbrev invariant-loop : tie.invariant-loop
+abbrev invariant-loop : tie.invariant-loop-k
 invariant-loop clocks was tags k₀ k = (k ≤ clocks) × (below clocks (keeps was tags) ≡ below k (keeps was tags))
 
-abbrev decreases-loop : tie.decreases-loop
+abbrev decreases-loop : tie.decreases-loop-k
 decreases-loop clocks was tags k₀ k = k
 
-loop-holds : tie.Need-loop-init invariant-loop decreases-loop
+loop-holds : tie.Need-loop-k-init invariant-loop decreases-loop
 loop-holds c = (omega arith, refl)
 
-returns : tie.Need-returns invariant-loop decreases-loop
+returns : tie.Need-returns-then-tag-before invariant-loop decreases-loop
 returns c =
     let at = c.before.before.before.before in
-    let a = at.before.args in
-    below-no (keeps a.t2 a.t3) at.loop.k at.loop.invariant.1 (omega arith) _ refl (compared a.t2 a.t3 (at.loop.k - 1) c.before.before.before2.given c.before.tag.given c.if1.true)
+    let a = at.args in
+    below-no (keeps a.was a.tags) at.loop-k.k at.loop-k.invariant.1 (omega arith) _ refl (compared a.was a.tags (at.loop-k.k - 1) c.before-1.given c.tag-1.given c.if-tag-before.true)
 
-loop-again : tie.Need-loop-preserved invariant-loop decreases-loop
+loop-again : tie.Need-loop-k-preserved invariant-loop decreases-loop
 loop-again c =
     let at = c.before.before.before.before in
-    let a = at.before.args in
-    (omega arith, below_more (keeps a.t2 a.t3) at.loop.k at.loop.invariant.1 (omega arith) _ refl (compared a.t2 a.t3 (at.loop.k - 1) c.before.before.before2.given c.before.tag.given c.if1.false))
+    let a = at.args in
+    (omega arith, below_more (keeps a.was a.tags) at.loop-k.k at.loop-k.invariant.1 (omega arith) _ refl (compared a.was a.tags (at.loop-k.k - 1) c.before-1.given c.tag-1.given c.if-tag-before.false))
 
-pub none-falls-spec : {M : Type 1} → statement M
-none-falls-spec =
+pub none_falls_spec : {M : Type 1} → statement M
+none_falls_spec =
     tie.close (tie.spec invariant-loop decreases-loop loop-holds (λ c. search rules) (λ c. search rules) (λ c. search rules) (λ c. search rules) (λ c. search rules)
     returns (λ c. search rules) loop-again (λ c. search (rules, below_end) depth 8))

@@ -7,17 +7,17 @@ use borrow.Author.Rules.{rules}
 use Rattle.remainders.proofs.clock.ticks_at.Statement.{statement}
 use Rattle.remainders.proofs.clock.ticks_at.Tie as tie
 
-place-requires : tie.Need-place-requires
+place-requires : tie.Need-place-i-requires
 place-requires c κs = search rules
 
-array-read-result : tie.Need-array-read-result
-array-read-result c = search rules
+array_read-result : tie.Need-bounds-ticks-i
+array_read-result c = search rules
 
-returns : tie.Need-returns
-returns c = rw c.before.place.ensures
+returns : tie.Need-returns-then-i-lt8
+returns c = rw c.place-i.ensures
 
-returns-2 : tie.Need-returns-2
-returns-2 c = let l = c.before.before.well-formed.0.1.0.1 in sym (get_or-eq_default c.before.before.args.t1 false (omega arith))
+returns-2 : tie.Need-returns-else-i-lt8
+returns-2 c = let l = c.well_formed.0.1.0.1 in sym (get_or-eq_default c.args.ticks false (omega arith))
 
-pub ticks-at-spec : {M : Type 1} → statement M
-ticks-at-spec = tie.close (tie.spec place-requires array-read-result returns returns-2)
+pub ticks_at_spec : {M : Type 1} → statement M
+ticks_at_spec = tie.close (tie.spec place-requires array_read-result returns returns-2)

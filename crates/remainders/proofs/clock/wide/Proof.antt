@@ -5,7 +5,7 @@ use Rattle.records.proofs.word.Widened.{wide_fits}
 use Rattle.remainders.proofs.clock.wide.Statement.{statement}
 use Rattle.remainders.proofs.clock.wide.Tie as tie
 
-cast-result : tie.Need-overflow-cast-result
+cast-result : tie.Need-overflow_cast-result
 cast-result c = rw (to_z-of_z {w = w16} c.ranges.x) (wide_fits w64 tt c.ranges.x)
 
 returns : tie.Need-returns

@@ -14,22 +14,22 @@ use Rattle.remainders.proofs.obligation.due_number.Tie as tie
 
 module _ (c : tie.After-wide) where
   abbrev due : ℤ
-  due = c.before.args.tag +ℤ pos c.before.args.delay
+  due = c.args.tag +ℤ pos c.args.delay
 
   abbrev sum : ℤ
-  sum = to_z w64 (of_z w64 c.wide.result) +ℤ to_z w64 c.before.args.delay
+  sum = to_z w64 (of_z w64 c.wide.result) +ℤ to_z w64 c.args.delay
 
   is-due : sum ≡ due
-  is-due = rw (held-wide w64 tt c.before.ranges.tag c.wide.ensures, to_z_pos w64 {n = c.before.args.delay} (omega arith))
+  is-due = rw (held-wide w64 tt c.ranges.tag c.wide.ensures, to_z_pos w64 {n = c.args.delay} (omega arith))
 
   fits : SFits w64 due
-  fits = sfits_widen {w = w32} {w' = w64} tt (due-fits c.before.args.tag c.before.args.delay c.before.ranges.tag (omega arith))
+  fits = sfits_widen {w = w32} {w' = w64} tt (due-fits c.args.tag c.args.delay c.ranges.tag (omega arith))
 
   held : to_z w64 (of_z w64 sum) ≡ due
   held = rw is-due (to_z-of_z {w = w64} fits)
 
   number : Numbered due
-  number = numbered c.before.args.tag c.before.args.delay c.before.ranges.tag.sfits (omega arith)
+  number = numbered c.args.tag c.args.delay c.ranges.tag.sfits (omega arith)
 
   wider : SFits w64 (due +ℤ pos 32768)
   wider = rw number.sum (record { sfits = omega (arith, number.small) })
@@ -37,17 +37,17 @@ module _ (c : tie.After-wide) where
   held_number : to_z w64 (of_z w64 (to_z w64 (of_z w64 sum) +ℤ pos 32768)) ≡ pos number.number
   held_number = rw held (to_z-of_z {w = w64} wider) ∙ number.sum
 
-add-number : tie.Need-overflow-add-number
+add-number : tie.Need-overflow_add-number
 add-number c = rw (is-due c) (fits c)
 
-add-number-2 : tie.Need-overflow-add-number-2
+add-number-2 : tie.Need-overflow_add-number-2
 add-number-2 c = rw (held c) (wider c)
 
-cast-result : tie.Need-overflow-cast-result
+cast-result : tie.Need-overflow_cast-result
 cast-result c = rw (held_number c) (tt, record { fits = omega (arith, (number c).small) })
 
 returns : tie.Need-returns
 returns c = ap (λ (z : ℤ). due_of (nat_abs z)) (held_number c) ∙ due-numbered (due c) (number c).number (number c).sum
 
-pub due-number-spec : {M : Type 1} → statement M
-due-number-spec = tie.close (tie.spec (λ c κs. search rules) (λ c. search rules) add-number add-number-2 cast-result returns)
+pub due_number_spec : {M : Type 1} → statement M
+due_number_spec = tie.close (tie.spec (λ c κs. search rules) (λ c. search rules) add-number add-number-2 cast-result returns)

@@ -7,8 +7,8 @@ use Rattle.remainders.proofs.obligation.is_late.Tie as tie
 returns : tie.Need-returns
 returns c =
     let d = c.before in
-    let t = d.before.clock-tag in
-    number-late d.tag-number.result d.before.before.args.o.number (held_number t.type-inv d.tag-number.ensures t.ensures)
+    let t = d.clock_tag in
+    number-late d.tag_number.result d.args.o.number (held_number t.type_inv d.tag_number.ensures t.ensures)
 
-pub is-late-spec : {M : Type 1} → statement M
-is-late-spec = tie.close (tie.spec (λ c κs. search rules) (λ c κs. search rules) returns)
+pub is_late_spec : {M : Type 1} → statement M
+is_late_spec = tie.close (tie.spec (λ c κs. search rules) (λ c κs. search rules) returns)

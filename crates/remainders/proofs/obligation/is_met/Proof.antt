@@ -5,15 +5,15 @@ use Rattle.remainders.proofs.obligation.Laws.{held_number, number-met}
 use Rattle.remainders.proofs.obligation.is_met.Statement.{statement}
 use Rattle.remainders.proofs.obligation.is_met.Tie as tie
 
-returns : tie.Need-returns
+returns : tie.Need-returns-then-ticks_at
 returns c =
     let d = c.before in
-    let t = d.before.clock-tag in
+    let t = d.clock_tag in
     let k = d.before.before in
-    rw (sym k.before.ticks-at.ensures, k.if1.true) (number-met d.tag-number.result k.before.before.args.o.number (held_number t.type-inv d.tag-number.ensures t.ensures))
+    rw (sym k.ticks_at.ensures, k.if-ticks_at.true) (number-met d.tag_number.result k.args.o.number (held_number t.type_inv d.tag_number.ensures t.ensures))
 
-returns-2 : tie.Need-returns-2
-returns-2 c = rw (sym c.before.ticks-at.ensures, c.if1.false)
+returns-2 : tie.Need-returns-else-ticks_at
+returns-2 c = rw (sym c.ticks_at.ensures, c.if-ticks_at.false)
 
-pub is-met-spec : {M : Type 1} → statement M
-is-met-spec = tie.close (tie.spec (λ c κs. search rules) (λ c κs. search rules) (λ c κs. search rules) returns returns-2)
+pub is_met_spec : {M : Type 1} → statement M
+is_met_spec = tie.close (tie.spec (λ c κs. search rules) (λ c κs. search rules) (λ c κs. search rules) returns returns-2)

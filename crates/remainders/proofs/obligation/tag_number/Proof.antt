@@ -10,14 +10,14 @@ use Rattle.remainders.proofs.obligation.Laws.{tag_small}
 use Rattle.remainders.proofs.obligation.tag_number.Statement.{statement}
 use Rattle.remainders.proofs.obligation.tag_number.Tie as tie
 
-is-tag : (c : tie.After-due-number) → due_of c.due-number.result ≡ c.before.args.tag
-is-tag c = c.due-number.ensures ∙ rw (to_z-of_z {w = w16} c.before.ranges.tag) (+ℤ_idr c.before.args.tag)
+is-tag : (c : tie.After-due_number) → due_of c.due_number.result ≡ c.args.tag
+is-tag c = c.due_number.ensures ∙ rw (to_z-of_z {w = w16} c.ranges.tag) (+ℤ_idr c.args.tag)
 
-cast-result : tie.Need-overflow-cast-result
-cast-result c = record { fits = omega (arith, tag_small _ _ c.before.ranges.tag.sfits (is-tag c)) }
+cast-result : tie.Need-overflow_cast-result
+cast-result c = record { fits = omega (arith, tag_small _ _ c.ranges.tag.sfits (is-tag c)) }
 
 returns : tie.Need-returns
 returns c = is-tag c
 
-pub tag-number-spec : {M : Type 1} → statement M
-tag-number-spec = tie.close (tie.spec (λ c κs. search rules) cast-result returns)
+pub tag_number_spec : {M : Type 1} → statement M
+tag_number_spec = tie.close (tie.spec (λ c κs. search rules) cast-result returns)

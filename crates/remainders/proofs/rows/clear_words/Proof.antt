@@ -18,13 +18,13 @@ record Clearing (k end : ℕ) (was rows : List ℕ) (q : ℕ) : Type 0 where
   inside : (x : ℕ) → k ≤ x → x < q → x < end
   cleared : ClearedWords k q was rows
 
-abbrev invariant-loop : tie.invariant-loop
+abbrev invariant-loop : tie.invariant-loop-q
 invariant-loop was k end q₀ rows q = Clearing k end was rows q
 
-abbrev decreases-loop : tie.decreases-loop
+abbrev decreases-loop : tie.decreases-loop-q
 decreases-loop was k end q₀ rows q = end - q
 
-loop-holds : tie.Need-loop-init invariant-loop decreases-loop
+loop-holds : tie.Need-loop-q-init invariant-loop decreases-loop
 loop-holds c =
     record {
       reached = omega arith;
@@ -32,12 +32,12 @@ loop-holds c =
       cleared = record { size = refl; zero = λ x l m. absurd (omega arith); same = λ x f. refl };
     }
 
-loop-again : tie.Need-loop-preserved invariant-loop decreases-loop
+loop-again : tie.Need-loop-q-preserved invariant-loop decreases-loop
 loop-again c =
     let at = c.before in
-    let w = at.loop.invariant in
-    let rows = at.loop.rows in
-    let q = at.loop.q in
+    let w = at.loop-q.invariant in
+    let rows = at.loop-q.rows in
+    let q = at.loop-q.q in
     record {
       reached = omega (arith, w.reached);
       inside = λ x l m. omega arith;
@@ -53,8 +53,8 @@ loop-again c =
 
 returns : tie.Need-returns invariant-loop decreases-loop
 returns c =
-    let w = c.before.loop.invariant in
+    let w = c.loop-q.invariant in
     record { size = w.cleared.size; zero = λ x l m. w.cleared.zero x l (omega arith); same = λ x f. w.cleared.same x (λ l m. f l (w.inside x l m)) }
 
-pub clear-words-spec : {M : Type 1} → statement M
-clear-words-spec = tie.close (tie.spec invariant-loop decreases-loop loop-holds (λ c. search rules) (λ c. search rules) (λ c. search rules) (λ c. search rules) loop-again returns)
+pub clear_words_spec : {M : Type 1} → statement M
+clear_words_spec = tie.close (tie.spec invariant-loop decreases-loop loop-holds (λ c. search rules) (λ c. search rules) (λ c. search rules) (λ c. search rules) loop-again returns)

@@ -7,10 +7,10 @@ returns : tie.Need-returns
 returns c =
     let o = c.before in
     let k = o.before in
-    rw (k.byte-in.ensures, o.next-byte-in.ensures, c.upper_in.ensures, k.before.word_at.ensures)
+    rw (k.byte_in-clock.ensures, o.next_byte_in-on.ensures, c.upper_in-number.ensures, k.word_at-w.ensures)
 
-pub obligation-at-spec : {M : Type 1} → statement M
-obligation-at-spec =
+pub obligation_at_spec : {M : Type 1} → statement M
+obligation_at_spec =
     tie.close (tie.spec
     (λ c. search rules) (λ c. search rules) (λ c. search rules) (λ c κs. search rules)
     (λ c κs. search rules) (λ c κs. search rules) (λ c κs. search rules) returns)

@@ -10,11 +10,11 @@ returns c =
     let s = w.before.before in
     let a = s.args in
     let p = s.requires in
-    let e = w.packed-word.ensures in
+    let e = w.packed_word.ensures in
     rw c.put_word.ensures
-    (obligation-put a.rows.now a.i a.part a.j w.packed-word.result p.0 p.1.0 p.1.1.0 p.1.1.1 (rw (e.0, e.1.0, e.1.1)))
+    (obligation-put a.rows.now a.i a.part a.j w.packed_word.result p.0 p.1.0 p.1.1.0 p.1.1.1 (rw (e.0, e.1.0, e.1.1)))
 
-pub put-obligation-spec : {M : Type 1} → statement M
-put-obligation-spec =
+pub put_obligation_spec : {M : Type 1} → statement M
+put_obligation_spec =
     tie.close (tie.spec
     (λ c. search rules) (λ c. search rules) (λ c. search rules) (λ c κs. search rules) (λ c κs. search rules) returns)
