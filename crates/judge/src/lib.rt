@@ -1,5 +1,6 @@
 // The monitor: what is held of a lift, opened by a sheet, taken on by an instant, and what it answers.
 #![tactic(auto)]
+
 pub mod answer;
 pub mod limits;
 pub mod monitor;

@@ -1,7 +1,7 @@
 -- How a list is counted entry by entry, and which of a monitor's entries the panel counts. Assumes nothing.
 use mathlib.Core.Bool.{Bool, true, false, not, cond, ◌||◌, and-false}
 use mathlib.Core.List.{List, [], ◌∷◌}
-use mathlib.Core.Path.{◌≡◌, refl, sym, ◌∙◌, subst}
+use mathlib.Core.Path.{◌≡◌, refl, sym, ap, ◌∙◌, subst}
 use Prim.Native.Nat.{ℕ, zero, suc, ◌+◌, ◌≤◌, ◌<◌}
 use native.Mathlib.Numerals.{add-one}
 use native.Mathlib.Omega.{arith}
@@ -56,6 +56,10 @@ end-count k [] zero h = refl
 end-count k [] (suc i) h = refl
 end-count k (y ∷ ys) zero h = absurd (omega arith)
 end-count k (y ∷ ys) (suc i) h = end-count k ys i (omega arith)
+
+-- an entry more is counted: `b` is whether it owes, and `whole` what the list counts
+pub count-next : (k : ℕ) (ys : List Remainder) (i : ℕ) (d : Remainder) (b : Bool) (n m whole : ℕ) → i < length ys → b ≡ entry_owes k (get_or ys i d) → n + owing_count k (drop i ys) ≡ whole → m ≡ n + bit b → m + owing_count k (drop (i + 1) ys) ≡ whole
+count-next k ys i d b n m whole l o e q = omega (arith, step_count k ys i d l, ap bit o, e, q)
 
 pub bit-small : (t : Bool) → bit t ≤ 1
 bit-small true = omega arith

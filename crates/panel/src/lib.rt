@@ -1,5 +1,6 @@
 // The panel: how many of the live remainders owe a clock a tick.
 #![tactic(auto)]
+
 ghost use Rattle.std.specs.Prelude.{◌≡◌, ◌≤◌, take};
 ghost use Rattle.panel.specs.Panel.{owes_in, entry_owes, owing_count, panel_of, panel_count};
 

@@ -20,30 +20,30 @@ ticks clock o = eqb o.clock clock
 abbrev itself : Obligation → Obligation
 itself o = o
 
-abbrev invariant-loop : tie.invariant-loop
+abbrev invariant-loop : tie.invariant-loop-i
 invariant-loop n clock owed i₀ i = (i ≤ n) × (owes_in clock i owed ≡ false)
 
-abbrev decreases-loop : tie.decreases-loop
+abbrev decreases-loop : tie.decreases-loop-i
 decreases-loop n clock owed i₀ i = n - i
 
-returns : tie.Need-returns invariant-loop decreases-loop
+returns : tie.Need-returns-then-o-clock invariant-loop decreases-loop
 returns c =
     let at = c.before.before.before.before in
-    let a = at.before.args in
-    sym (rw as_is at (any-hit itself a.t2 (ticks a.clock) blank a.n at.loop.i (omega arith) (omega arith) (eq-eqb _ _ c.if1.true)))
+    let a = at.args in
+    sym (rw as_is at (any-hit itself a.owed (ticks a.clock) blank a.n at.loop-i.i (omega arith) (omega arith) (eq-eqb _ _ c.if-o-clock.true)))
 
-loop-again : tie.Need-loop-preserved invariant-loop decreases-loop
+loop-again : tie.Need-loop-i-preserved invariant-loop decreases-loop
 loop-again c =
     let at = c.before.before.before.before in
-    let a = at.before.args in
-    (omega arith, rw as_is at (any_next itself a.t2 (ticks a.clock) blank at.loop.i (omega arith) (rw as_is at.loop.invariant.1) (ne_eqb _ _ c.if1.false)))
+    let a = at.args in
+    (omega arith, rw as_is at (any_next itself a.owed (ticks a.clock) blank at.loop-i.i (omega arith) (rw as_is at.loop-i.invariant.1) (ne_eqb _ _ c.if-o-clock.false)))
 
-returns-2 : tie.Need-returns-2 invariant-loop decreases-loop
+returns-2 : tie.Need-returns invariant-loop decreases-loop
 returns-2 c =
     let at = c.before in
-    let e : at.before.args.n ≡ at.loop.i = omega arith in
-    sym (rw e at.loop.invariant.1)
+    let e : at.args.n ≡ at.loop-i.i = omega arith in
+    sym (rw e at.loop-i.invariant.1)
 
-pub ticks-in-spec : {M : Type 1} → statement M
-ticks-in-spec =
+pub ticks_in_spec : {M : Type 1} → statement M
+ticks_in_spec =
     tie.close (tie.spec invariant-loop decreases-loop (λ c. search rules) (λ c. search rules) (λ c. search rules) returns (λ c. search rules) (λ c. search rules) loop-again returns-2)

@@ -17,65 +17,65 @@ use Rattle.judge.proofs.limits.each_within.Tie as tie
 abbrev seen : Remainder → Remainder
 seen r = r
 
-abbrev invariant-loop : tie.invariant-loop
+abbrev invariant-loop : tie.invariant-loop-i
 invariant-loop s instants n h i₀ i = (i ≤ n) × (all (remainder_within (sheet_value s) instants) (map seen (take i h.remainders)) ≡ true)
 
-abbrev decreases-loop : tie.decreases-loop
+abbrev decreases-loop : tie.decreases-loop-i
 decreases-loop s instants n h i₀ i = n - i
 
 -- the array's length, from what the parameter's type tells
-many : (c : tie.Start invariant-loop decreases-loop) → length c.args.t4.remainders ≡ 32
-many c = simp length-map at c.well-formed.1.1.1.0.1.1.1.0.1.0.1
+many : (c : tie.Start invariant-loop decreases-loop) → length c.args.h.remainders ≡ 32
+many c = c.well_formed.1.1.1.0.1.1.1.0.1.0.1
 
-loop-holds : tie.Need-loop-init invariant-loop decreases-loop
+loop-holds : tie.Need-loop-i-init invariant-loop decreases-loop
 loop-holds c = (omega arith, refl)
 
-mul-r : tie.Need-overflow-mul-r invariant-loop decreases-loop
+mul-r : tie.Need-offset_bounds-h-i invariant-loop decreases-loop
 mul-r c = search rules
 
-element-copy-out-r : tie.Need-element-copy-out-r invariant-loop decreases-loop
-element-copy-out-r c = search rules
+element_copy_out-r : tie.Need-bounds-h-i invariant-loop decreases-loop
+element_copy_out-r c = search rules
 
-remainder-within-requires : tie.Need-remainder-within-requires invariant-loop decreases-loop
-remainder-within-requires c κs = search rules
+remainder_within-requires : tie.Need-remainder_within-requires invariant-loop decreases-loop
+remainder_within-requires c κs = search rules
 
-add-i : tie.Need-overflow-add-i invariant-loop decreases-loop
+add-i : tie.Need-overflow_add-i invariant-loop decreases-loop
 add-i c = search rules
 
-loop-less : tie.Need-loop-smaller invariant-loop decreases-loop
+loop-less : tie.Need-loop-i-smaller invariant-loop decreases-loop
 loop-less c = search rules
 
-loop-again : tie.Need-loop-preserved invariant-loop decreases-loop
+loop-again : tie.Need-loop-i-preserved invariant-loop decreases-loop
 loop-again c =
     let at = c.before.before.before.before in
-    let a = at.before.args in
+    let a = at.args in
     let l = many at.before in
-    (omega arith, all-next seen a.t4.remainders (remainder_within (sheet_value a.s) a.instants) _ at.loop.i (omega arith) at.loop.invariant.1 (sym c.before.remainder-within.ensures ∙ c.if1.true))
+    (omega arith, all-next seen a.h.remainders (remainder_within (sheet_value a.s) a.instants) _ at.loop-i.i (omega arith) at.loop-i.invariant.1 (sym c.remainder_within.ensures ∙ c.if-remainder_within.true))
 
-returns : tie.Need-returns invariant-loop decreases-loop
+returns : tie.Need-returns-else-remainder_within invariant-loop decreases-loop
 returns c =
     let at = c.before.before.before.before in
-    let a = at.before.args in
+    let a = at.args in
     let l = many at.before in
-    sym (rw (sym (as_is (take a.n a.t4.remainders))) (all-miss seen a.t4.remainders (remainder_within (sheet_value a.s) a.instants) _ a.n at.loop.i (omega arith) (omega arith) (sym c.before.remainder-within.ensures ∙ c.if1.false)))
+    sym (rw (sym (as_is (take a.n a.h.remainders))) (all-miss seen a.h.remainders (remainder_within (sheet_value a.s) a.instants) _ a.n at.loop-i.i (omega arith) (omega arith) (sym c.remainder_within.ensures ∙ c.if-remainder_within.false)))
 
-returns-2 : tie.Need-returns-2 invariant-loop decreases-loop
+returns-2 : tie.Need-returns invariant-loop decreases-loop
 returns-2 c =
     let at = c.before in
-    let a = at.before.args in
-    let e : a.n ≡ at.loop.i = omega arith in
-    sym (rw (sym (as_is (take a.n a.t4.remainders)), e) at.loop.invariant.1)
+    let a = at.args in
+    let e : a.n ≡ at.loop-i.i = omega arith in
+    sym (rw (sym (as_is (take a.n a.h.remainders)), e) at.loop-i.invariant.1)
 
-pub each-within-spec : {M : Type 1} → statement M
-each-within-spec =
+pub each_within_spec : {M : Type 1} → statement M
+each_within_spec =
     tie.close
     (tie.spec
     invariant-loop
     decreases-loop
     loop-holds
     mul-r
-    element-copy-out-r
-    remainder-within-requires
+    element_copy_out-r
+    remainder_within-requires
     add-i
     loop-less
     loop-again

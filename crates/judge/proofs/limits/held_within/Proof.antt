@@ -7,28 +7,28 @@ use Rattle.judge.specs.Limits.{held_within}
 use Rattle.judge.proofs.limits.held_within.Statement.{statement}
 use Rattle.judge.proofs.limits.held_within.Tie as tie
 
-enum_told : tie.Need-enum-told
+enum_told : tie.Need-enum_told-1
 enum_told c = search rules
 
-enum-known-count : tie.Need-enum-known-count
-enum-known-count c = search rules
+enum_known-count : tie.Need-enum_known-count
+enum_known-count c = search rules
 
-returns : tie.Need-returns
+returns : tie.Need-returns-then-n-gt-MAX_LIVE
 unfolding held_within
-returns c = let more : 32 < c.before.before.count.given.0.0 = omega arith in rw (c.before.before.count.given.1, lt-leb _ 32 more)
+returns c = let more : 32 < c.in-Live.n = omega arith in rw (c.in-Live.is, lt-leb _ 32 more)
 
-each-within-requires : tie.Need-each-within-requires
-each-within-requires c κs = search rules
+each_within-requires : tie.Need-each_within-requires
+each_within-requires c κs = search rules
 
-returns-2 : tie.Need-returns-2
+returns-2 : tie.Need-returns-in-Exhausted
 unfolding held_within
-returns-2 c = rw c.enum_told.given.1
+returns-2 c = rw c.in-Exhausted.is
 
-returns-3 : tie.Need-returns-3
+returns-3 : tie.Need-returns-else-n-gt-MAX_LIVE
 unfolding held_within
-returns-3 c = rw (c.before.before.before.count.given.1, le-leb _ _ c.before.if1.false) c.each_within.ensures
+returns-3 c = rw (c.in-Live.is, le-leb _ _ c.if-n-gt-MAX_LIVE.false) c.each_within.ensures
 
-pub held-within-spec : {M : Type 1} → statement M
-held-within-spec =
+pub held_within_spec : {M : Type 1} → statement M
+held_within_spec =
     tie.close
-    (tie.spec enum_told enum-known-count returns each-within-requires returns-2 returns-3)
+    (tie.spec enum_told enum_known-count returns each_within-requires returns-2 returns-3)

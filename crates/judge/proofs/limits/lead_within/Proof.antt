@@ -4,14 +4,14 @@ use Rattle.judge.proofs.limits.Laws.{zero-within}
 use Rattle.judge.proofs.limits.lead_within.Statement.{statement}
 use Rattle.judge.proofs.limits.lead_within.Tie as tie
 
-returns : tie.Need-returns
-returns c = rw c.enum_told.given.1
+returns : tie.Need-returns-in-Weakly
+returns c = rw c.in-Weakly.is
 
-returns-2 : tie.Need-returns-2
-returns-2 c = rw c.enum-told2.given.1
+returns-2 : tie.Need-returns-in-Strictly
+returns-2 c = rw c.in-Strictly.is
 
-pub lead-within-spec : {M : Type 1} → statement M
-lead-within-spec =
+pub lead_within_spec : {M : Type 1} → statement M
+lead_within_spec =
     tie.close
     (tie.spec
     (λ c. search rules)
@@ -25,10 +25,10 @@ lead-within-spec =
     (λ c. search rules)
     returns
     returns-2
-    (λ c. rw c.enum-told3.given.1 (zero-within c.before.before.args.instants))
-    (λ c. rw c.enum-told4.given.1 (zero-within c.before.before.args.instants))
-    (λ c. rw c.enum-told5.given.1 (zero-within c.before.before.args.instants))
-    (λ c. rw c.enum-told6.given.1 (zero-within c.before.before.args.instants))
-    (λ c. rw c.enum-told7.given.1 (zero-within c.before.before.args.instants))
-    (λ c. rw c.enum-told8.given.1 (zero-within c.before.before.args.instants))
-    (λ c. rw c.enum-told9.given.1 (zero-within c.before.before.args.instants)))
+    (λ c. rw c.in-Sporadic.is (zero-within c.args.instants))
+    (λ c. rw c.in-Relation.is (zero-within c.args.instants))
+    (λ c. rw c.in-Implies.is (zero-within c.args.instants))
+    (λ c. rw c.in-Excludes.is (zero-within c.args.instants))
+    (λ c. rw c.in-Delayed.is (zero-within c.args.instants))
+    (λ c. rw c.in-Kills.is (zero-within c.args.instants))
+    (λ c. rw c.in-Counted.is (zero-within c.args.instants)))

@@ -13,67 +13,67 @@ use Rattle.judge.proofs.limits.leads_within.Statement.{statement}
 use Rattle.judge.proofs.limits.leads_within.Tie as tie
 use borrow.Author.Rules.{rules}
 
-abbrev invariant-loop : tie.invariant-loop
+abbrev invariant-loop : tie.invariant-loop-i
 invariant-loop instants s leads n i₀ i =
     (i ≤ n) × (all (λ (m : ℕ). leb m instants) (next_leads in_use (sheet_value s).lines leads) ≡ ok_from (lead_ok instants) s leads n i)
 
-abbrev decreases-loop : tie.decreases-loop
+abbrev decreases-loop : tie.decreases-loop-i
 decreases-loop instants s leads n i₀ i = n - i
 
-loop-holds : tie.Need-loop-init invariant-loop decreases-loop
+loop-holds : tie.Need-loop-i-init invariant-loop decreases-loop
 loop-holds c =
     let a = c.args in
-    let k = c.well-formed.1.0.1.0.1 in
-    (omega arith, leads-start a.instants a.t1 a.t2 (omega arith))
+    let k = c.well_formed.1.0.1.0.1 in
+    (omega arith, leads-start a.instants a.s a.leads (omega arith))
 
-mul-lead : tie.Need-overflow-mul-lead invariant-loop decreases-loop
+mul-lead : tie.Need-offset_bounds-leads-i invariant-loop decreases-loop
 mul-lead c = search rules
 
-array-read-lead : tie.Need-array-read-lead invariant-loop decreases-loop
-array-read-lead c = search rules
+array_read-lead : tie.Need-bounds-leads-i invariant-loop decreases-loop
+array_read-lead c = search rules
 
-mul-slot : tie.Need-overflow-mul-slot invariant-loop decreases-loop
+mul-slot : tie.Need-offset_bounds-s-i invariant-loop decreases-loop
 mul-slot c = search rules
 
-element-copy-out-slot : tie.Need-element-copy-out-slot invariant-loop decreases-loop
-element-copy-out-slot c = search rules
+element_copy_out-slot : tie.Need-bounds-s-i invariant-loop decreases-loop
+element_copy_out-slot c = search rules
 
-lead-within-requires : tie.Need-lead-within-requires invariant-loop decreases-loop
-lead-within-requires c κs = search rules
+lead_within-requires : tie.Need-lead_within-requires invariant-loop decreases-loop
+lead_within-requires c κs = search rules
 
-add-i : tie.Need-overflow-add-i invariant-loop decreases-loop
+add-i : tie.Need-overflow_add-i invariant-loop decreases-loop
 add-i c = search rules
 
-loop-less : tie.Need-loop-smaller invariant-loop decreases-loop
+loop-less : tie.Need-loop-i-smaller invariant-loop decreases-loop
 loop-less c = search rules
 
-loop-again : tie.Need-loop-preserved invariant-loop decreases-loop
+loop-again : tie.Need-loop-i-preserved invariant-loop decreases-loop
 loop-again c =
     let at = c.before.before.before.before in
-    let m = at.loop in
-    (omega arith, ok-more _ at.before.args.t1 at.before.args.t2 _ m.i m.invariant.1 (omega arith) _ refl _ c.before.lead-within.ensures c.if1.true)
+    let m = at.loop-i in
+    (omega arith, ok-more (lead_ok at.args.instants) at.args.s at.args.leads _ m.i m.invariant.1 (omega arith) _ refl _ c.lead_within.ensures c.if-lead_within.true)
 
-returns : tie.Need-returns invariant-loop decreases-loop
+returns : tie.Need-returns-else-lead_within invariant-loop decreases-loop
 returns c =
     let at = c.before.before.before.before in
-    let m = at.loop in
-    ok-no _ at.before.args.t1 at.before.args.t2 _ m.i m.invariant.1 (omega arith) _ refl _ c.before.lead-within.ensures c.if1.false
+    let m = at.loop-i in
+    ok-no (lead_ok at.args.instants) at.args.s at.args.leads _ m.i m.invariant.1 (omega arith) _ refl _ c.lead_within.ensures c.if-lead_within.false
 
-returns-2 : tie.Need-returns-2 invariant-loop decreases-loop
+returns-2 : tie.Need-returns invariant-loop decreases-loop
 returns-2 c = search (rules, ok_end) depth 8
 
-pub leads-within-spec : {M : Type 1} → statement M
-leads-within-spec =
+pub leads_within_spec : {M : Type 1} → statement M
+leads_within_spec =
     tie.close
     (tie.spec
     invariant-loop
     decreases-loop
     loop-holds
     mul-lead
-    array-read-lead
+    array_read-lead
     mul-slot
-    element-copy-out-slot
-    lead-within-requires
+    element_copy_out-slot
+    lead_within-requires
     add-i
     loop-less
     loop-again

@@ -13,31 +13,31 @@ use Rattle.remainders.proofs.Places.{as_is, all-next, all-miss}
 use Rattle.judge.proofs.limits.obligations_within.Statement.{statement}
 use Rattle.judge.proofs.limits.obligations_within.Tie as tie
 
-abbrev invariant-loop : tie.invariant-loop
+abbrev invariant-loop : tie.invariant-loop-i
 invariant-loop clocks least most n obligations i₀ i = (i ≤ n) × (all (stored_within clocks least most) (take i obligations) ≡ true)
 
-abbrev decreases-loop : tie.decreases-loop
+abbrev decreases-loop : tie.decreases-loop-i
 decreases-loop clocks least most n obligations i₀ i = n - i
 
-loop-again : tie.Need-loop-preserved invariant-loop decreases-loop
+loop-again : tie.Need-loop-i-preserved invariant-loop decreases-loop
 loop-again c =
     let at = c.before.before.before.before in
-    let a = at.before.args in
-    (omega arith, rw as_is at (all-next (λ (o : code.Obligation). o) a.t5 (stored_within a.clocks a.least a.most) blank_obligation at.loop.i (omega arith) (rw as_is at.loop.invariant.1) (sym c.before.obligation-within.ensures ∙ c.if1.true)))
+    let a = at.args in
+    (omega arith, rw as_is at (all-next (λ (o : code.Obligation). o) a.obligations (stored_within a.clocks a.least a.most) blank_obligation at.loop-i.i (omega arith) (rw as_is at.loop-i.invariant.1) (sym c.obligation_within.ensures ∙ c.if-obligation_within.true)))
 
-returns : tie.Need-returns invariant-loop decreases-loop
+returns : tie.Need-returns-else-obligation_within invariant-loop decreases-loop
 returns c =
     let at = c.before.before.before.before in
-    let a = at.before.args in
-    sym (rw as_is at (all-miss (λ (o : code.Obligation). o) a.t5 (stored_within a.clocks a.least a.most) blank_obligation a.n at.loop.i (omega arith) (omega arith) (sym c.before.obligation-within.ensures ∙ c.if1.false)))
+    let a = at.args in
+    sym (rw as_is at (all-miss (λ (o : code.Obligation). o) a.obligations (stored_within a.clocks a.least a.most) blank_obligation a.n at.loop-i.i (omega arith) (omega arith) (sym c.obligation_within.ensures ∙ c.if-obligation_within.false)))
 
-returns-2 : tie.Need-returns-2 invariant-loop decreases-loop
+returns-2 : tie.Need-returns invariant-loop decreases-loop
 returns-2 c =
     let at = c.before in
-    let e : at.before.args.n ≡ at.loop.i = omega arith in
-    sym (rw e at.loop.invariant.1)
+    let e : at.args.n ≡ at.loop-i.i = omega arith in
+    sym (rw e at.loop-i.invariant.1)
 
-pub obligations-within-spec : {M : Type 1} → statement M
-obligations-within-spec =
+pub obligations_within_spec : {M : Type 1} → statement M
+obligations_within_spec =
     tie.close (tie.spec invariant-loop decreases-loop
     (λ c. (omega arith, refl)) (λ c. search rules) (λ c. search rules) (λ c κs. search rules) (λ c. search rules) (λ c. search rules) loop-again returns returns-2)

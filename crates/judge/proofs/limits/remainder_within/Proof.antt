@@ -8,26 +8,26 @@ use Rattle.judge.proofs.limits.Laws.{not-owed, not-counted, by-leads}
 use Rattle.judge.proofs.limits.remainder_within.Statement.{statement}
 use Rattle.judge.proofs.limits.remainder_within.Tie as tie
 
-abbrev start : tie.After-set-within → tie.Start
+abbrev start : tie.After-set_within → tie.Start
 start c = c.before.before
 
-returns : tie.Need-returns
+returns : tie.Need-returns-then-not-set_within
 unfolding least_due most_due due_number
 returns c =
     let w = c.before in
     let a = (start w).args in
-    not-owed (sheet_value a.s) a.instants a.r w.set-within.ensures (not-true w.set-within.result c.if1.true)
+    not-owed (sheet_value a.s) a.instants a.r w.set_within.ensures (not-true w.set_within.result c.if-not-set_within.true-raw)
 
-returns-2 : tie.Need-returns-2
+returns-2 : tie.Need-returns-then-not-set_within-2
 unfolding least_due most_due due_number
 returns-2 c =
     let k = c.before in
     let t = k.before.before in
     let w = t.before in
     let a = (start w).args in
-    not-counted (sheet_value a.s) a.instants a.r w.set-within.ensures (not-false w.set-within.result t.if1.false) k.set-within2.ensures (not-true k.set-within2.result c.if2.true)
+    not-counted (sheet_value a.s) a.instants a.r w.set_within.ensures (not-false w.set_within.result t.if-not-set_within.false-raw) k.set_within-2.ensures (not-true k.set_within-2.result c.if-not-set_within-2.true-raw)
 
-returns-3 : tie.Need-returns-3
+returns-3 : tie.Need-returns
 unfolding least_due most_due due_number
 returns-3 c =
     let e = c.before.before in
@@ -35,7 +35,7 @@ returns-3 c =
     let t = k.before.before in
     let w = t.before in
     let a = (start w).args in
-    by-leads (sheet_value a.s) a.instants a.r w.set-within.ensures (not-false w.set-within.result t.if1.false) k.set-within2.ensures (not-false k.set-within2.result e.if2.false) c.leads-within.ensures
+    by-leads (sheet_value a.s) a.instants a.r w.set_within.ensures (not-false w.set_within.result t.if-not-set_within.false-raw) k.set_within-2.ensures (not-false k.set_within-2.result e.if-not-set_within-2.false-raw) c.leads_within.ensures
 
-pub remainder-within-spec : {M : Type 1} → statement M
-remainder-within-spec = tie.close (tie.spec (λ c κs. search rules) returns (λ c κs. search rules) returns-2 (λ c κs. search rules) returns-3)
+pub remainder_within_spec : {M : Type 1} → statement M
+remainder_within_spec = tie.close (tie.spec (λ c κs. search rules) returns (λ c κs. search rules) returns-2 (λ c κs. search rules) returns-3)

@@ -5,13 +5,13 @@ use Rattle.judge.specs.Limits.{set_within}
 use Rattle.judge.proofs.limits.set_within.Statement.{statement}
 use Rattle.judge.proofs.limits.set_within.Tie as tie
 
-returns : tie.Need-returns
+returns : tie.Need-returns-then-n-gt-MAX_OWED
 unfolding set_within
-returns c = rw (lt-leb _ _ c.if1.true)
+returns c = rw (lt-leb _ _ c.if-n-gt-MAX_OWED.true)
 
-returns-2 : tie.Need-returns-2
+returns-2 : tie.Need-returns
 unfolding set_within
-returns-2 c = rw (le-leb _ _ c.before.if1.false) c.obligations-within.ensures
+returns-2 c = rw (le-leb _ _ c.if-n-gt-MAX_OWED.false) c.obligations_within.ensures
 
-pub set-within-spec : {M : Type 1} → statement M
-set-within-spec = tie.close (tie.spec returns (λ c κs. search rules) returns-2)
+pub set_within_spec : {M : Type 1} → statement M
+set_within_spec = tie.close (tie.spec returns (λ c κs. search rules) returns-2)

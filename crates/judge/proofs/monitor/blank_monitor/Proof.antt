@@ -3,11 +3,11 @@ use borrow.Author.Rules.{rules}
 use Rattle.judge.proofs.monitor.blank_monitor.Statement.{statement}
 use Rattle.judge.proofs.monitor.blank_monitor.Tie as tie
 
-blank-remainder-requires : tie.Need-blank-remainder-requires
-blank-remainder-requires c κs = search rules
+blank_remainder-requires : tie.Need-blank_remainder-blank-requires
+blank_remainder-requires c κs = search rules
 
 returns : tie.Need-returns
-returns c = rw c.blank-remainder.ensures
+returns c = rw c.blank_remainder-blank.ensures
 
-pub blank-monitor-spec : {M : Type 1} → statement M
-blank-monitor-spec = tie.close (tie.spec blank-remainder-requires returns)
+pub blank_monitor_spec : {M : Type 1} → statement M
+blank_monitor_spec = tie.close (tie.spec blank_remainder-requires returns)

@@ -3,11 +3,11 @@ use borrow.Author.Rules.{rules}
 use Rattle.judge.proofs.monitor.within_limits.Statement.{statement}
 use Rattle.judge.proofs.monitor.within_limits.Tie as tie
 
-is-within-requires : tie.Need-is-within-requires
-is-within-requires c κs = search rules
+is_within-requires : tie.Need-is_within-requires
+is_within-requires c κs = search rules
 
 returns : tie.Need-returns
-returns c = c.is_Within.ensures.answer
+returns c = c.is_within.ensures.answer
 
-pub within-limits-spec : {M : Type 1} → statement M
-within-limits-spec = tie.close (tie.spec is-within-requires returns)
+pub within_limits_spec : {M : Type 1} → statement M
+within_limits_spec = tie.close (tie.spec is_within-requires returns)

@@ -21,8 +21,8 @@ use Rattle.judge.proofs.progress.observe_rows.Statement.{statement}
 use Rattle.judge.proofs.progress.observe_rows.Tie as tie
 
 -- ---- where the instant was read
-module _ (r : tie.After-read-next) where
-  abbrev known : tie.After-shared-slice-known
+module _ (r : tie.After-read_next-read) where
+  abbrev known : tie.After-shared_slice_known-1
   known = r.before.before
 
   abbrev first : tie.Start
@@ -36,62 +36,62 @@ module _ (r : tie.After-read-next) where
     within : Limited (rows_monitor s first.args.progress first.args.rows.now) true
     within = limited s first.args.progress first.args.rows.now ready.value ready.limits
 
-    reads : r.read_next.result ≡ instant_read (read_next s.clocks first.args.progress.instants first.args.bytes.now)
-    reads = r.read_next.ensures ∙ ap (λ (n : ℕ). instant_read (read_next n first.args.progress.instants first.args.bytes.now)) ready.planned.as_many
+    reads : r.read_next-read.result ≡ instant_read (read_next s.clocks first.args.progress.instants first.args.bytes.now)
+    reads = r.read_next-read.ensures ∙ ap (λ (n : ℕ). instant_read (read_next n first.args.progress.instants first.args.bytes.now)) ready.planned.as_many
 
-returns : tie.Need-returns
+returns : tie.Need-returns-in-Refused
 returns c =
-    let a = c.before in
-    let r = a.before.before in
+    let a = c in
+    let r = a.before in
     record {
       room = (first r).requires;
       refused = λ n f. (refl, refl);
       moved = λ x f. answered-refused (sym f);
-      called = λ s ready. called-unread (start r s ready) (first r).args.bytes.now (within r s ready) refl (reads r s ready) a.answer.given.1 refl;
+      called = λ s ready. called-unread (start r s ready) (first r).args.bytes.now (within r s ready) refl (reads r s ready) a.in-Refused.is refl;
       tags = λ s ready x f. answered-refused (sym f);
       ready = λ s ready. ready;
     }
 
 -- ---- where it was taken
-abbrev done : tie.After-work-instant-arg2 → tie.After-enum-told
+abbrev done : tie.After-work_instant-arg-in-Done-1 → tie.In-Done
 done c = c.before.before.before
 
-abbrev read : tie.After-enum-told → tie.After-read-next
-read e = e.before.before
+abbrev read : tie.In-Done → tie.After-read_next-read
+read e = e.before
 
-work-instant-requires : tie.Need-work-instant-requires
-work-instant-requires c κs = let e = done c in ((first (read e)).pre, (done-room _ _ _ (read e).read_next.ensures e.enum_told.given.1, omega arith))
+work_instant-requires : tie.Need-work_instant-requires
+work_instant-requires c κs = let e = done c in ((first (read e)).requires, (done-room _ _ _ (read e).read_next-read.ensures e.in-Done.is, omega arith))
 
-module _ (c : tie.After-work-instant) where
-  abbrev taken : tie.After-enum-told
+module _ (c : tie.After-work_instant) where
+  abbrev taken : tie.In-Done
   taken = done c.before
 
-  abbrev was_read : tie.After-read-next
+  abbrev was_read : tie.After-read_next-read
   was_read = read (done c.before)
 
   abbrev entry : tie.Start
   entry = first (read (done c.before))
 
   bytes : IsBytes entry.args.bytes.now
-  bytes = each-byte entry.args.bytes.now (λ i. ((known was_read).shared-slice-known.given i).fits)
+  bytes = each-byte entry.args.bytes.now (λ i. ((known was_read).shared_slice_known-1.given i).fits)
 
-  observes : (s : Sheet) (ready : Ready s entry.args.progress entry.args.plan entry.args.lines.now entry.args.rows.now) → Called (rows_monitor s entry.args.progress entry.args.rows.now) entry.args.bytes.now (given c.work-instant.result.reply (rows_monitor s c.work-instant.result.progress c.work-instant.new.1.1.1.1.1.0))
+  observes : (s : Sheet) (ready : Ready s entry.args.progress entry.args.plan entry.args.lines.now entry.args.rows.now) → Called (rows_monitor s entry.args.progress entry.args.rows.now) entry.args.bytes.now (given c.work_instant.result.reply (rows_monitor s c.work_instant.result.progress c.work_instant.new.rows))
   observes s ready =
       let k = entry.args.progress in
-      called (start was_read s ready) entry.args.bytes.now (within was_read s ready) refl (reads was_read s ready) taken.enum_told.given.1
-      bytes (eight-rows entry.args.rows.now k.from k.count) (c.work-instant.ensures.accepts s ready)
+      called (start was_read s ready) entry.args.bytes.now (within was_read s ready) refl (reads was_read s ready) taken.in-Done.is
+      bytes (eight-rows entry.args.rows.now k.from k.count) (c.work_instant.ensures.accepts s ready)
 
-returns-2 : tie.Need-returns-2
+returns-2 : tie.Need-returns-in-Done
 returns-2 c = record {
-  room = c.work-instant.ensures.working;
-  refused = λ n f. absurd (c.work-instant.ensures.answered n f);
-  moved = λ x f. c.work-instant.ensures.moved;
+  room = c.work_instant.ensures.working;
+  refused = λ n f. absurd (c.work_instant.ensures.answered n f);
+  moved = λ x f. c.work_instant.ensures.moved;
   called = observes c;
-  tags = λ s ready x f. rw (c.work-instant.ensures.accepts s ready).tags (blank-tags (start (was_read c) s ready) (entry c).args.bytes.now (within (was_read c) s ready) refl (reads (was_read c) s ready) (taken c).enum_told.given.1 (bytes c));
-  ready = λ s ready. record { value = ready.value; planned = ready.planned; limits = answered-within (observes c s ready) (c.work-instant.ensures.accepts s ready).said };
+  tags = λ s ready x f. rw (c.work_instant.ensures.accepts s ready).tags (blank-tags (start (was_read c) s ready) (entry c).args.bytes.now (within (was_read c) s ready) refl (reads (was_read c) s ready) (taken c).in-Done.is (bytes c));
+  ready = λ s ready. record { value = ready.value; planned = ready.planned; limits = answered-within (observes c s ready) (c.work_instant.ensures.accepts s ready).said };
 }
 
-pub observe-rows-spec : {M : Type 1} → statement M
-observe-rows-spec =
-    tie.close (tie.spec (λ c. omega (arith, c.before.before.requires.plan.clocks)) (λ c κs. search rules) (λ c. search rules) (λ c. search rules)
-    work-instant-requires returns returns-2)
+pub observe_rows_spec : {M : Type 1} → statement M
+observe_rows_spec =
+    tie.close (tie.spec (λ c. omega (arith, c.requires.plan.clocks)) (λ c κs. search rules) (λ c. search rules) (λ c. search rules)
+    work_instant-requires returns returns-2)

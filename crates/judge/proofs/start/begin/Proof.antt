@@ -5,21 +5,21 @@ use Rattle.judge.proofs.start.begin.Statement.{statement}
 use Rattle.judge.proofs.start.begin.Tie as tie
 
 -- the rows hold one remainder
-say-rows-requires : tie.Need-say-rows-requires
-say-rows-requires c κs =
-    let f = c.before in
-    (omega arith, rw f.first_progress.ensures f.before.begin-rows.ensures.small)
+say_rows-requires : tie.Need-say_rows-said-requires
+say_rows-requires c κs =
+    let f = c in
+    (omega arith, rw f.first_progress-progress.ensures f.begin_rows.ensures.small)
 
 returns : tie.Need-returns
 returns c =
-    let f = c.before.before in
+    let f = c.before in
     let b = f.before in
     record {
-      plan = b.before.before.plan-of.ensures;
-      rows = b.begin-rows.ensures;
-      progress = f.first_progress.ensures;
-      said = rw f.first_progress.ensures at c.say-rows.ensures;
+      plan = b.plan_of-plan.ensures;
+      rows = b.begin_rows.ensures;
+      progress = f.first_progress-progress.ensures;
+      said = rw f.first_progress-progress.ensures at c.say_rows-said.ensures;
     }
 
-pub begin-spec : {M : Type 1} → statement M
-begin-spec = tie.close (tie.spec (λ c κs. c.before.requires.0) (λ c κs. c.before.before.before.requires.1) (λ c κs. search rules) say-rows-requires returns)
+pub begin_spec : {M : Type 1} → statement M
+begin_spec = tie.close (tie.spec (λ c κs. c.requires.0) (λ c κs. c.requires.1) (λ c κs. search rules) say_rows-requires returns)

@@ -4,5 +4,5 @@ use Rattle.judge.proofs.start.Laws.{blank-row, begun-rows}
 use Rattle.judge.proofs.start.begin_rows.Statement.{statement}
 use Rattle.judge.proofs.start.begin_rows.Tie as tie
 
-pub begin-rows-spec : {M : Type 1} → statement M
-begin-rows-spec = tie.close (tie.spec (λ c κs. blank-row c.before.requires) (λ c. begun-rows c.before.before.requires (sheet_value c.before.before.args.s) c.start-row.ensures))
+pub begin_rows_spec : {M : Type 1} → statement M
+begin_rows_spec = tie.close (tie.spec (λ c κs. blank-row c.requires) (λ c. begun-rows c.requires (sheet_value c.args.s) c.start_row-room.ensures))

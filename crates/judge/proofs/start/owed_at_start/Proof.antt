@@ -6,14 +6,14 @@ use borrow.Author.Rules.{rules}
 use Rattle.judge.proofs.start.owed_at_start.Statement.{statement}
 use Rattle.judge.proofs.start.owed_at_start.Tie as tie
 
-returns : tie.Need-returns
+returns : tie.Need-returns-in-Sporadic
 returns c =
-    let l = c.before.before.l.given in
-    let t : to_z w16 (of_z w16 l.0.1.1.0) ≡ l.0.1.1.0 = search rules in
-    rw (l.1, c.tag-number.ensures, t)
+    let l = c.in-Sporadic in
+    let t : to_z w16 (of_z w16 l.t) ≡ l.t = search rules in
+    rw (l.is, c.tag_number.ensures, t)
 
-pub owed-at-start-spec : {M : Type 1} → statement M
-owed-at-start-spec =
+pub owed_at_start_spec : {M : Type 1} → statement M
+owed_at_start_spec =
     tie.close (tie.spec (λ c. search rules) (λ c κs. search rules) (λ c. search rules) (λ c. search rules) (λ c. search rules) (λ c. search rules)
     (λ c. search rules) (λ c. search rules) (λ c. search rules) (λ c. search rules) returns
     (λ c. search rules) (λ c. search rules) (λ c. search rules) (λ c. search rules) (λ c. search rules) (λ c. search rules) (λ c. search rules) (λ c. search rules))

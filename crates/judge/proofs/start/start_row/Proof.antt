@@ -33,77 +33,77 @@ record Starting (s : Sheet) (i : ℕ) (was rows : List ℕ) (j : ℕ) : Type 0 w
 abbrev owed_by : NewObligation → List Obligation
 owed_by b = map obligation_of (new_obligation b)
 
-abbrev invariant-loop : tie.invariant-loop
+abbrev invariant-loop : tie.invariant-loop-j
 invariant-loop was i s n j₀ rows j = Starting s i was rows j
 
-abbrev decreases-loop : tie.decreases-loop
+abbrev decreases-loop : tie.decreases-loop-j
 decreases-loop was i s n j₀ rows j = n - j
 
-loop-holds : tie.Need-loop-init invariant-loop decreases-loop
+loop-holds : tie.Need-loop-j-init invariant-loop decreases-loop
 loop-holds c =
     let a = c.args in
     record { turns = omega arith; few = c.requires.few; added = ap (λ (os : List Obligation). added_all os (row_owed a.rows.now a.i)) (begun-start owed_at_start (line_at a.s) a.s.count); stays = stays_all _ _ _ _ }
 
-loop-again : tie.Need-loop-preserved invariant-loop decreases-loop
+loop-again : tie.Need-loop-j-preserved-in-Nothing invariant-loop decreases-loop
 loop-again c =
-    let b = c.before.before in
-    let l = b.before.line_at_lem in
+    let b = c.before in
+    let l = b.line_at-l in
     let at = b.before.before.before in
-    let s = at.before.args.s in
-    let w = at.loop.invariant in
+    let s = at.args.s in
+    let w = at.loop-j.invariant in
     record {
       turns = omega arith;
       few = w.few;
-      added = w.added ∙ ap (λ (os : List Obligation). added_all os (row_owed at.loop.rows at.before.args.i)) (begun-line owed_at_start (line_at s) s.count at.loop.j (omega arith) l.ensures [] (sym (ap owed_by c.enum_told.given.1) ∙ b.owed-at-start.ensures));
+      added = w.added ∙ ap (λ (os : List Obligation). added_all os (row_owed at.loop-j.rows at.args.i)) (begun-line owed_at_start (line_at s) s.count at.loop-j.j (omega arith) l.ensures [] (sym (ap owed_by c.in-Nothing.is) ∙ b.owed_at_start.ensures));
       stays = w.stays;
     }
 
 -- ---- an obligation added
-module _ (a : tie.After-add-row invariant-loop decreases-loop) where
-  abbrev known : tie.After-o invariant-loop decreases-loop
-  known = a.before.before.before
+module _ (a : tie.After-add_row invariant-loop decreases-loop) where
+  abbrev known : tie.In-Owed invariant-loop decreases-loop
+  known = a.before.before
 
-  abbrev owed : tie.After-owed-at-start invariant-loop decreases-loop
-  owed = known.before.before
+  abbrev owed : tie.After-owed_at_start invariant-loop decreases-loop
+  owed = known.before
 
-  abbrev at : tie.At-loop invariant-loop decreases-loop
+  abbrev at : tie.At-loop-j invariant-loop decreases-loop
   at = owed.before.before.before
 
   abbrev sheet : Sheet
-  sheet = at.before.args.s
+  sheet = at.args.s
 
-  begins : begun_from owed_at_start (line_at sheet) sheet.count at.loop.j ≡ obligation_of known.o.given.0.0 ∷ begun_from owed_at_start (line_at sheet) sheet.count (at.loop.j + 1)
-  begins = begun-line owed_at_start (line_at sheet) sheet.count at.loop.j (omega arith) owed.before.line_at_lem.ensures (obligation_of known.o.given.0.0 ∷ []) (sym (ap owed_by known.o.given.1) ∙ owed.owed-at-start.ensures)
+  begins : begun_from owed_at_start (line_at sheet) sheet.count at.loop-j.j ≡ obligation_of known.in-Owed.o ∷ begun_from owed_at_start (line_at sheet) sheet.count (at.loop-j.j + 1)
+  begins = begun-line owed_at_start (line_at sheet) sheet.count at.loop-j.j (omega arith) owed.line_at-l.ensures (obligation_of known.in-Owed.o ∷ []) (sym (ap owed_by known.in-Owed.is) ∙ owed.owed_at_start.ensures)
 
   -- the row's obligations, read
-  added : provided a.add_row.result (row_owed a.add_row.last.0 at.before.args.i) ≡ added_to same_obligation 8 (row_owed at.loop.rows at.before.args.i) (obligation_of known.o.given.0.0)
+  added : provided a.add_row.result (row_owed a.add_row.new.rows at.args.i) ≡ added_to same_obligation 8 (row_owed at.loop-j.rows at.args.i) (obligation_of known.in-Owed.o)
   added = added-row-read obligation_of same_obligation same_read a.add_row.ensures
 
-add-row-requires : tie.Need-add-row-requires invariant-loop decreases-loop
-add-row-requires c κs =
-    let at = c.before.before.before.before.before.before.before in
-    record { size = at.loop.invariant.stays.size ∙ at.before.requires.size; row = at.before.requires.row; inside = omega arith; few = at.loop.invariant.few }
+add_row-requires : tie.Need-add_row-requires invariant-loop decreases-loop
+add_row-requires c κs =
+    let at = c.before.before.before.before.before in
+    record { size = at.loop-j.invariant.stays.size ∙ at.requires.size; row = at.requires.row; inside = omega arith; few = at.loop-j.invariant.few }
 
-returns : tie.Need-returns invariant-loop decreases-loop
+returns : tie.Need-returns-then-not-add_row invariant-loop decreases-loop
 returns c =
-    let r = c.before.add_row.ensures in
-    let w = (at c.before).loop.invariant in
-    record { stays = stays_on w.stays r.stays; owed = rest_over _ _ _ w.added (begins c.before) c.before.add_row.result (row_owed c.before.add_row.new.0 (at c.before).before.args.i) (added c.before) c.if1.true; few = r.few }
+    let r = c.add_row.ensures in
+    let w = (at c.before).loop-j.invariant in
+    record { stays = stays_on w.stays r.stays; owed = rest_over _ _ _ w.added (begins c.before) c.add_row.result (row_owed c.add_row.new.rows (at c.before).args.i) (added c.before) c.if-not-add_row.true-raw; few = r.few }
 
-loop-again-2 : tie.Need-loop-preserved-2 invariant-loop decreases-loop
+loop-again-2 : tie.Need-loop-j-preserved invariant-loop decreases-loop
 loop-again-2 c =
-    let r = c.before.add_row.ensures in
-    let w = (at c.before).loop.invariant in
-    record { turns = omega arith; few = r.few; added = rest_more _ _ _ w.added (begins c.before) c.before.add_row.result (row_owed c.before.add_row.new.0 (at c.before).before.args.i) (added c.before) c.if1.false; stays = stays_on w.stays r.stays }
+    let r = c.add_row.ensures in
+    let w = (at c.before).loop-j.invariant in
+    record { turns = omega arith; few = r.few; added = rest_more _ _ _ w.added (begins c.before) c.add_row.result (row_owed c.add_row.new.rows (at c.before).args.i) (added c.before) c.if-not-add_row.false-raw; stays = stays_on w.stays r.stays }
 
-returns-2 : tie.Need-returns-2 invariant-loop decreases-loop
+returns-2 : tie.Need-returns invariant-loop decreases-loop
 returns-2 c =
     let at = c.before in
-    let s = at.before.args.s in
-    let w = at.loop.invariant in
-    record { stays = w.stays; owed = rest_end _ _ _ w.added (begun-end owed_at_start (line_at s) s.count at.loop.j (omega arith)); few = w.few }
+    let s = at.args.s in
+    let w = at.loop-j.invariant in
+    record { stays = w.stays; owed = rest_end _ _ _ w.added (begun-end owed_at_start (line_at s) s.count at.loop-j.j (omega arith)); few = w.few }
 
-pub start-row-spec : {M : Type 1} → statement M
-start-row-spec =
+pub start_row_spec : {M : Type 1} → statement M
+start_row_spec =
     tie.close (tie.spec invariant-loop decreases-loop loop-holds (λ c κs. search rules) (λ c. search rules) (λ c κs. search rules)
-    (λ c. search rules) (λ c. search rules) loop-again (λ c. search rules) add-row-requires returns (λ c. search rules) loop-again-2 returns-2)
+    (λ c. search rules) (λ c. search rules) loop-again (λ c. search rules) add_row-requires returns (λ c. search rules) loop-again-2 returns-2)

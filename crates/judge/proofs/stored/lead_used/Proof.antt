@@ -3,8 +3,8 @@ use borrow.Author.Rules.{rules}
 use Rattle.judge.proofs.stored.lead_used.Statement.{statement}
 use Rattle.judge.proofs.stored.lead_used.Tie as tie
 
-returns : tie.Need-returns
-returns c = rw c.before.if1.true c.number_in.ensures
+returns : tie.Need-returns-then-used
+returns c = rw c.if-used.true c.number_in.ensures
 
-pub lead-used-spec : {M : Type 1} → statement M
-lead-used-spec = tie.close (tie.spec (λ c κs. search rules) returns (λ c. search rules))
+pub lead_used_spec : {M : Type 1} → statement M
+lead_used_spec = tie.close (tie.spec (λ c κs. search rules) returns (λ c. search rules))

@@ -20,30 +20,30 @@ record Putting (os : List code.Obligation) (i part n : ℕ) (was rows : List ℕ
   places : listed (row_obligation rows i part) j ≡ take j os
   stays : PartStays i part was rows
 
-abbrev invariant-loop : tie.invariant-loop
+abbrev invariant-loop : tie.invariant-loop-j
 invariant-loop was i part n obligations j₀ rows j = Putting obligations i part n was rows j
 
-abbrev decreases-loop : tie.decreases-loop
+abbrev decreases-loop : tie.decreases-loop-j
 decreases-loop was i part n obligations j₀ rows j = n - j
 
-long : (at : tie.At-loop invariant-loop decreases-loop) → length at.loop.rows ≡ all_words
-long at = at.loop.invariant.stays.size ∙ at.before.requires.0.size
+long : (at : tie.At-loop-j invariant-loop decreases-loop) → length at.loop-j.rows ≡ all_words
+long at = at.loop-j.invariant.stays.size ∙ at.requires.0.size
 
-loop-holds : tie.Need-loop-init invariant-loop decreases-loop
+loop-holds : tie.Need-loop-j-init invariant-loop decreases-loop
 unfolding listed_from
 loop-holds c = record { turns = omega arith; places = refl; stays = stays_all _ _ _ _ }
 
-put-obligation-requires : tie.Need-put-obligation-requires invariant-loop decreases-loop
-put-obligation-requires c κs = let l = long c.before.before.before in search rules
+put_obligation-requires : tie.Need-put_obligation-requires invariant-loop decreases-loop
+put_obligation-requires c κs = let l = long c.before.before.before in search rules
 
-loop-again : tie.Need-loop-preserved invariant-loop decreases-loop
+loop-again : tie.Need-loop-j-preserved invariant-loop decreases-loop
 loop-again c =
     let at = c.before.before.before.before in
-    let p = c.put-obligation.ensures in
-    let w = at.loop.invariant in
+    let p = c.put_obligation.ensures in
+    let w = at.loop-j.invariant in
     record {
       turns = omega arith;
-      places = set_next p (omega arith) ∙ rw (w.places, add-one) (sym (take-suc _ at.loop.j blank_obligation (omega (arith, at.before.well-formed.1.1.1.1.0.1.0.1))));
+      places = set_next p (omega arith) ∙ rw (w.places, add-one) (sym (take-suc _ at.loop-j.j blank_obligation (omega (arith, at.well_formed.1.1.1.1.0.1.0.1))));
       stays = stays_on w.stays (stays_wide p.stays _ _ (omega arith) (omega arith));
     }
 
@@ -52,17 +52,17 @@ returns c =
     let at = c.before.before.before.before in
     let s = at.before in
     let n = s.args.n in
-    let e : at.loop.j ≡ n = omega arith in
+    let e : at.loop-j.j ≡ n = omega arith in
     let h : n ≤ 8 = omega arith in
-    rw (c.put_word.ensures, c.before.count_word.ensures)
+    rw (c.put_word.ensures, c.count_word.ensures)
     record {
-      stays = stays_put at.loop.invariant.stays (part_words * s.args.part) n (omega arith) (omega arith) (omega arith);
-      count = count-put at.loop.rows s.args.i s.args.part n (long at) s.requires.0.row s.requires.1.0;
-      set = set-put at.loop.rows s.args.i s.args.part n (long at) s.requires.0.row s.requires.1.0 h ∙ rw e at at.loop.invariant.places;
+      stays = stays_put at.loop-j.invariant.stays (part_words * s.args.part) n (omega arith) (omega arith) (omega arith);
+      count = count-put at.loop-j.rows s.args.i s.args.part n (long at) s.requires.0.row s.requires.1.0;
+      set = set-put at.loop-j.rows s.args.i s.args.part n (long at) s.requires.0.row s.requires.1.0 h ∙ rw e at at.loop-j.invariant.places;
     }
 
-pub put-obligations-spec : {M : Type 1} → statement M
-put-obligations-spec =
+pub put_obligations_spec : {M : Type 1} → statement M
+put_obligations_spec =
     tie.close (tie.spec invariant-loop decreases-loop
-    loop-holds (λ c. search rules) (λ c. search rules) put-obligation-requires
+    loop-holds (λ c. search rules) (λ c. search rules) put_obligation-requires
     (λ c. search rules) (λ c. search rules) loop-again (λ c. search rules) (λ c κs. search rules) (λ c κs. search rules) returns)

@@ -5,7 +5,7 @@ use Rattle.judge.proofs.stored.read_back.Statement.{statement}
 use Rattle.judge.proofs.stored.read_back.Tie as tie
 
 returns : tie.Need-returns
-returns c = record { same = refl; found = c.before.from-rows.ensures }
+returns c = record { same = refl; found = c.from_rows-remainders.ensures }
 
-pub read-back-spec : {M : Type 1} → statement M
-read-back-spec = tie.close (tie.spec (λ c κs. search rules) returns)
+pub read_back_spec : {M : Type 1} → statement M
+read_back_spec = tie.close (tie.spec (λ c κs. search rules) returns)

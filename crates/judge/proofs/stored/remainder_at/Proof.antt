@@ -13,9 +13,9 @@ returns c =
     let o = m.before in
     let n = o.before in
     let s = n.before in
-    remainder-read _ s.requires.few n.row_count.ensures o.obligations-at.ensures m.row-count2.ensures d.obligations-at2.ensures l.leads-at.ensures c.stopped-at.ensures
+    remainder-read _ s.requires.few n.row_count-owed.ensures o.obligations_at-obligations.ensures m.row_count-counting.ensures d.obligations_at-countdowns.ensures l.leads_at-leads.ensures c.stopped_at-stopped.ensures
 
-pub remainder-at-spec : {M : Type 1} → statement M
-remainder-at-spec =
-    tie.close (tie.spec (λ c κs. search rules) (λ c κs. let f = c.before.requires.few 0 (omega arith) in search rules)
-    (λ c κs. search rules) (λ c κs. let f = c.before.before.before.requires.few 1 (omega arith) in search rules) (λ c κs. search rules) (λ c κs. search rules) returns)
+pub remainder_at_spec : {M : Type 1} → statement M
+remainder_at_spec =
+    tie.close (tie.spec (λ c κs. search rules) (λ c κs. let f = c.requires.few 0 (omega arith) in search rules)
+    (λ c κs. search rules) (λ c κs. let f = c.requires.few 1 (omega arith) in search rules) (λ c κs. search rules) (λ c κs. search rules) returns)

@@ -14,24 +14,24 @@ use Rattle.judge.proofs.stored.stopped_at.Tie as tie
 abbrev Same : List ℕ → ℕ → ℕ → Bool → Type 0
 Same rows i k b = b ≡ row_stop rows i k
 
-abbrev invariant-loop : tie.invariant-loop
+abbrev invariant-loop : tie.invariant-loop-k
 invariant-loop rows i clocks all₀ k₀ all k = (k ≤ clocks) × Placing (Same rows i) false 8 all k
 
-abbrev decreases-loop : tie.decreases-loop
+abbrev decreases-loop : tie.decreases-loop-k
 decreases-loop rows i clocks all₀ k₀ all k = clocks - k
 
-loop-again : tie.Need-loop-preserved invariant-loop decreases-loop
+loop-again : tie.Need-loop-k-preserved invariant-loop decreases-loop
 loop-again c =
     let at = c.before.before.before in
-    (omega arith, placing-more _ _ 8 at.loop.invariant.1 (omega arith) c.flag-in.result (c.flag-in.ensures ∙ ap flag_of c.before.word_at.ensures))
+    (omega arith, placing-more _ _ 8 at.loop-k.invariant.1 (omega arith) c.flag_in-flag.result (c.flag_in-flag.ensures ∙ ap flag_of c.word_at.ensures))
 
 returns : tie.Need-returns invariant-loop decreases-loop
 returns c =
-    let w = c.before.loop.invariant.1 in
+    let w = c.loop-k.invariant.1 in
     record { size = w.size; first = λ k h. w.places k (omega arith); rest = λ k h. w.rest k (omega arith) }
 
-pub stopped-at-spec : {M : Type 1} → statement M
-stopped-at-spec =
+pub stopped_at_spec : {M : Type 1} → statement M
+stopped_at_spec =
     tie.close (tie.spec invariant-loop decreases-loop
     (λ c. (omega arith, placing-start _ _ 8)) (λ c. search rules) (λ c κs. search rules) (λ c κs. search rules) (λ c. search rules) (λ c. search rules) (λ c. search rules)
     loop-again returns)

@@ -6,17 +6,17 @@ use Rattle.lent.proofs.live.Reading.{said-none, can-say, said-one}
 use Rattle.lent.proofs.live.last_reply.Statement.{statement}
 use Rattle.lent.proofs.live.last_reply.Tie as tie
 
-find-state-requires : tie.Need-find-state-requires
-find-state-requires c κs = length-replicate {A = ℕ} numbers 0
+find_state-requires : tie.Need-find_state-found-requires
+find_state-requires c κs = length-replicate {A = ℕ} numbers 0
 
-returns : tie.Need-returns
-returns c = said-none c.before.before.find-state.ensures c.if1.true
+returns : tie.Need-returns-then-not-found
+returns c = said-none c.find_state-found.ensures c.if-not-found.true
 
-say-rows-requires : tie.Need-say-rows-requires
-say-rows-requires c κs = let e = c.before in can-say e.before.before.find-state.ensures e.if1.false
+say_rows-requires : tie.Need-say_rows-requires
+say_rows-requires c κs = let e = c.before in can-say e.find_state-found.ensures e.if-not-found.false
 
-returns-2 : tie.Need-returns-2
-returns-2 c = let e = c.before.before in said-one e.before.before.find-state.ensures e.if1.false c.say-rows.ensures
+returns-2 : tie.Need-returns
+returns-2 c = let e = c.before.before in said-one e.find_state-found.ensures e.if-not-found.false c.say_rows.ensures
 
-pub last-reply-spec : {M : Type 1} → statement M
-last-reply-spec = tie.close (tie.spec find-state-requires returns say-rows-requires returns-2)
+pub last_reply_spec : {M : Type 1} → statement M
+last_reply_spec = tie.close (tie.spec find_state-requires returns say_rows-requires returns-2)

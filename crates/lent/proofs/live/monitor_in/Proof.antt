@@ -7,33 +7,33 @@ use Rattle.lent.proofs.live.Reading.{given-none, can-say, can-read, given-one}
 use Rattle.lent.proofs.live.monitor_in.Statement.{statement}
 use Rattle.lent.proofs.live.monitor_in.Tie as tie
 
-find-state-requires : tie.Need-find-state-requires
-find-state-requires c κs = length-replicate {A = ℕ} numbers 0
+find_state-requires : tie.Need-find_state-found-requires
+find_state-requires c κs = length-replicate {A = ℕ} numbers 0
 
-returns : tie.Need-returns
+returns : tie.Need-returns-then-not-found
 returns c =
     let b = c.before in
     let n = b.before in
     let t = n.before in
-    given-none t.before.before.find-state.ensures t.if1.true n.no-sheet.ensures b.blank-monitor.ensures c.refuse.ensures
+    given-none t.find_state-found.ensures t.if-not-found.true n.no_sheet.ensures b.blank_monitor.ensures c.refuse.ensures
 
 -- ---- where one is found
-abbrev test : tie.After-plan → tie.Else1
+abbrev test : tie.After-plan-1 → tie.Else-not-found
 test c = c.before.before
 
-say-rows-requires : tie.Need-say-rows-requires
-say-rows-requires c κs = let e = test c in can-say e.before.before.find-state.ensures e.if1.left
+say_rows-requires : tie.Need-say_rows-said-requires
+say_rows-requires c κs = let e = test c in can-say e.find_state-found.ensures e.if-not-found.false
 
-read-back-requires : tie.Need-read-back-requires
-read-back-requires c κs = let e = test c.before.before in can-read e.before.before.find-state.ensures e.if1.left
+read_back-requires : tie.Need-read_back-monitor-requires
+read_back-requires c κs = let e = test c.before.before in can-read e.find_state-found.ensures e.if-not-found.false
 
-returns-2 : tie.Need-returns-2
+returns-2 : tie.Need-returns
 returns-2 c =
     let s = c.before in
     let y = s.before in
     let e = test y.before in
-    given-one e.before.before.find-state.ensures e.if1.left s.sheet-in.ensures c.read_back.ensures y.say-rows.ensures
+    given-one e.find_state-found.ensures e.if-not-found.false s.sheet_in-sheet.ensures c.read_back-monitor.ensures y.say_rows-said.ensures
 
-pub monitor-in-spec : {M : Type 1} → statement M
-monitor-in-spec =
-    tie.close (tie.spec find-state-requires (λ c κs. search rules) (λ c κs. search rules) (λ c κs. search rules) returns say-rows-requires (λ c κs. search rules) read-back-requires returns-2)
+pub monitor_in_spec : {M : Type 1} → statement M
+monitor_in_spec =
+    tie.close (tie.spec find_state-requires (λ c κs. search rules) (λ c κs. search rules) (λ c κs. search rules) returns say_rows-requires (λ c κs. search rules) read_back-requires returns-2)

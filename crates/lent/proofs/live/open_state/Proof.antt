@@ -14,87 +14,87 @@ use Rattle.lent.proofs.live.open_state.Statement.{statement}
 use Rattle.lent.proofs.live.open_state.Tie as tie
 
 -- ---- where the sheet was read
-module _ (r : tie.After-read-sheet) where
+module _ (r : tie.After-read_sheet-read) where
   abbrev start : tie.Start
   start = r.before.before
 
-  read-bytes : IsBytes r.before.before.args.bytes.now
-  read-bytes = each-byte start.args.bytes.now (λ i. (r.before.shared-slice-known.given i).fits)
+  read-bytes : IsBytes r.args.bytes.now
+  read-bytes = each-byte start.args.bytes.now (λ i. (r.shared_slice_known-1.given i).fits)
 
-  prepared : Preparing r.read-sheet.result.sheet (replicate numbers 0)
-  prepared = prepares-read _ _ start.args.bytes.now r.read-sheet.result r.read-sheet.ensures read-bytes (length-replicate {A = ℕ} numbers 0)
+  prepared : Preparing r.read_sheet-read.result.sheet (replicate numbers 0)
+  prepared = prepares-read _ _ start.args.bytes.now r.read_sheet-read.result r.read_sheet-read.ensures read-bytes (length-replicate {A = ℕ} numbers 0)
 
-returns : tie.Need-returns
+returns : tie.Need-returns-in-Refused
 returns c =
-    let r = c.before.before.before.before in
-    opened-refused (start r).args.bytes.now r.read-sheet.result r.read-sheet.ensures c.before.answer.given.1 (start r).args.state.now
+    let r = c.before.before in
+    opened-refused (start r).args.bytes.now r.read_sheet-read.result r.read_sheet-read.ensures c.in-Refused.is (start r).args.state.now
 
 -- ---- the places: what was read, and the words cleared
-abbrev told : tie.After-lent-words → tie.After-enum-told
+abbrev told : tie.After-lent_words-all → tie.In-Done
 told l = l.before.before.before
 
-abbrev read : tie.After-lent-words → tie.After-read-sheet
-read l = (told l).before.before.before
+abbrev read : tie.After-lent_words-all → tie.After-read_sheet-read
+read l = (told l).before.before
 
-abbrev lent : tie.After-clear-rows → tie.After-lent-words
+abbrev lent : tie.After-clear_rows → tie.After-lent_words-all
 lent z = z.before.before
 
-long : (z : tie.After-clear-rows) → length (start (read (lent z))).args.state.now ≡ all_words
+long : (z : tie.After-clear_rows) → length (start (read (lent z))).args.state.now ≡ all_words
 long z = search rules
 
 -- ---- the monitor of no instant begun, and every word that it doesn't use cleared
-begin-requires : tie.Need-begin-requires
-begin-requires c κs = let z = c.before.before in (prepared (read (lent z)), blank-row (long z) z.clear-rows.ensures)
+begin-requires : tie.Need-begin-begun-requires
+begin-requires c κs = let z = c.before.before in (prepared (read (lent z)), blank-row (long z) z.clear_rows.ensures)
 
-abbrev cleared : tie.After-begin → tie.After-clear-rows
+abbrev cleared : tie.After-begin-begun → tie.After-clear_rows
 cleared g = g.before.before.before
 
-clear-beside-requires : tie.Need-clear-beside-requires
-clear-beside-requires c κs = let g = c.before.before.before.begin.ensures in one-held g.plan.fits g.rows
+clear_beside-requires : tie.Need-clear_beside-requires
+clear_beside-requires c κs = let g = c.begin-begun.ensures in one-held g.plan.fits g.rows
 
-abbrev begun : tie.After-clear-beside → tie.After-begin
+abbrev begun : tie.After-clear_beside → tie.After-begin-begun
 begun d = d.before.before.before.before
 
 -- ---- as many words as at first
-long-cleared : (d : tie.After-clear-beside) → length d.clear-beside.new.0 ≡ all_words
+long-cleared : (d : tie.After-clear_beside) → length d.clear_beside.new.rows ≡ all_words
 long-cleared d =
     let g = begun d in
     let z = cleared g in
-    d.clear-beside.ensures.size ∙ g.begin.ensures.rows.stays.size ∙ z.clear-rows.ensures.stays.size ∙ long z
+    d.clear_beside.ensures.size ∙ g.begin-begun.ensures.rows.stays.size ∙ z.clear_rows.ensures.stays.size ∙ long z
 
-put-format-requires : tie.Need-put-format-requires
-put-format-requires c κs = long-cleared c.before
+put_format-requires : tie.Need-put_format-requires
+put_format-requires c κs = long-cleared c.before
 
-abbrev besides : tie.After-put-format → tie.After-clear-beside
+abbrev besides : tie.After-put_format → tie.After-clear_beside
 besides f = f.before.before
 
-long-formatted : (f : tie.After-put-format) → length f.put-format.new.0 ≡ all_words
-long-formatted f = f.put-format.ensures.stays.size ∙ long-cleared (besides f)
+long-formatted : (f : tie.After-put_format) → length f.put_format.new.state ≡ all_words
+long-formatted f = f.put_format.ensures.stays.size ∙ long-cleared (besides f)
 
-put-sheet-requires : tie.Need-put-sheet-requires
-put-sheet-requires c κs = let f = c.before in (long-formatted f, (prepared (read (lent (cleared (begun (besides f)))))).few-lines)
+put_sheet-requires : tie.Need-put_sheet-requires
+put_sheet-requires c κs = let f = c.before in (long-formatted f, (prepared (read (lent (cleared (begun (besides f)))))).few-lines)
 
-abbrev formatted : tie.After-put-sheet → tie.After-put-format
+abbrev formatted : tie.After-put_sheet → tie.After-put_format
 formatted h = h.before.before
 
-put-progress-requires : tie.Need-put-progress-requires
-put-progress-requires c κs =
+put_progress-requires : tie.Need-put_progress-requires
+put_progress-requires c κs =
     let h = c.before in
     let f = formatted h in
-    first-put (begun (besides f)).begin.ensures.progress (h.put-sheet.ensures.size ∙ long-formatted f)
+    first-put (begun (besides f)).begin-begun.ensures.progress (h.put_sheet.ensures.size ∙ long-formatted f)
 
 -- ---- all stored
-returns-2 : tie.Need-returns-2
+returns-2 : tie.Need-returns-in-Done
 returns-2 c =
     let h = c.before.before in
     let f = formatted h in
     let d = besides f in
-    let g = (begun d).begin.ensures in
+    let g = (begun d).begin-begun.ensures in
     let z = cleared (begun d) in
     let r = read (lent z) in
-    opened-state (start r).args.bytes.now r.read-sheet.result r.read-sheet.ensures g.plan z.clear-rows.ensures g.rows d.clear-beside.ensures f.put-format.ensures h.put-sheet.ensures g.progress c.put-progress.ensures
-    (read-bytes r) (told (lent z)).enum_told.given.1 g.said
+    opened-state (start r).args.bytes.now r.read_sheet-read.result r.read_sheet-read.ensures g.plan z.clear_rows.ensures g.rows d.clear_beside.ensures f.put_format.ensures h.put_sheet.ensures g.progress c.put_progress.ensures
+    (read-bytes r) (told (lent z)).in-Done.is g.said
 
-pub open-state-spec : {M : Type 1} → statement M
-open-state-spec =
-    tie.close (tie.spec (λ c κs. search rules) (λ c. search rules) (λ c. search rules) (λ c κs. search rules) (λ c. search rules) (λ c κs. search rules) begin-requires clear-beside-requires put-format-requires put-sheet-requires put-progress-requires returns returns-2)
+pub open_state_spec : {M : Type 1} → statement M
+open_state_spec =
+    tie.close (tie.spec (λ c κs. search rules) (λ c. search rules) (λ c. search rules) (λ c κs. search rules) (λ c. search rules) (λ c κs. search rules) begin-requires clear_beside-requires put_format-requires put_sheet-requires put_progress-requires returns returns-2)

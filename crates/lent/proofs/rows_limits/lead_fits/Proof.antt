@@ -6,11 +6,11 @@ use borrow.Author.Rules.{rules}
 use Rattle.lent.proofs.rows_limits.lead_fits.Statement.{statement}
 use Rattle.lent.proofs.rows_limits.lead_fits.Tie as tie
 
-returns : tie.Need-returns
-returns c = rw c.before.if1.true (ap (λ (n : ℕ). leb n c.before.before.args.instants) c.count-in.ensures)
+returns : tie.Need-returns-then-used
+returns c = rw c.if-used.true (ap (λ (n : ℕ). leb n c.args.instants) c.count_in.ensures)
 
-returns-2 : tie.Need-returns-2
-returns-2 c = rw c.if1.false
+returns-2 : tie.Need-returns-else-used
+returns-2 c = rw c.if-used.false
 
-pub lead-fits-spec : {M : Type 1} → statement M
-lead-fits-spec = tie.close (tie.spec (λ c κs. search rules) returns returns-2)
+pub lead_fits_spec : {M : Type 1} → statement M
+lead_fits_spec = tie.close (tie.spec (λ c κs. search rules) returns returns-2)

@@ -7,31 +7,31 @@ use Rattle.lent.proofs.rows_limits.Laws.{row-owed, row-counted, row-leads}
 use Rattle.lent.proofs.rows_limits.row_within.Statement.{statement}
 use Rattle.lent.proofs.rows_limits.row_within.Tie as tie
 
-returns : tie.Need-returns
+returns : tie.Need-returns-then-not-row_set_within
 unfolding least_due most_due due_number
 returns c =
     let w = c.before in
-    let a = w.before.before.args in
-    row-owed {p = a.plan} a.instants a.rows.now a.i w.row-set-within.ensures (not-true _ c.if1.true)
+    let a = w.args in
+    row-owed {p = a.plan} a.instants a.rows.now a.i w.row_set_within.ensures (not-true _ c.if-not-row_set_within.true-raw)
 
-returns-2 : tie.Need-returns-2
+returns-2 : tie.Need-returns-then-not-row_set_within-2
 unfolding least_due most_due due_number
 returns-2 c =
     let k = c.before in
     let t = k.before in
     let w = t.before in
-    let a = w.before.before.args in
-    row-counted {p = a.plan} a.instants a.rows.now a.i w.row-set-within.ensures (not-false _ t.if1.false) k.row-set-within2.ensures (not-true _ c.if2.true)
+    let a = w.args in
+    row-counted {p = a.plan} a.instants a.rows.now a.i w.row_set_within.ensures (not-false _ t.if-not-row_set_within.false-raw) k.row_set_within-2.ensures (not-true _ c.if-not-row_set_within-2.true-raw)
 
-returns-3 : tie.Need-returns-3
+returns-3 : tie.Need-returns
 unfolding least_due most_due due_number
 returns-3 c =
     let e = c.before.before in
     let k = e.before in
     let t = k.before in
     let w = t.before in
-    let a = w.before.before.args in
-    row-leads {p = a.plan} a.instants a.rows.now a.i w.row-set-within.ensures (not-false _ t.if1.false) k.row-set-within2.ensures (not-false _ e.if2.false) c.row-leads-within.ensures
+    let a = w.args in
+    row-leads {p = a.plan} a.instants a.rows.now a.i w.row_set_within.ensures (not-false _ t.if-not-row_set_within.false-raw) k.row_set_within-2.ensures (not-false _ e.if-not-row_set_within-2.false-raw) c.row_leads_within.ensures
 
-pub row-within-spec : {M : Type 1} → statement M
-row-within-spec = tie.close (tie.spec (λ c. search rules) (λ c κs. search rules) returns (λ c κs. search rules) returns-2 (λ c κs. search rules) returns-3)
+pub row_within_spec : {M : Type 1} → statement M
+row_within_spec = tie.close (tie.spec (λ c. search rules) (λ c κs. search rules) returns (λ c κs. search rules) returns-2 (λ c κs. search rules) returns-3)

@@ -5,24 +5,24 @@ use Rattle.lent.proofs.rows_limits.Laws.{held_none, held-many, held-live}
 use Rattle.lent.proofs.rows_limits.rows_within.Statement.{statement}
 use Rattle.lent.proofs.rows_limits.rows_within.Tie as tie
 
-abbrev start : tie.After-count → tie.Start
-start c = c.before.before
+abbrev start : tie.In-Live → tie.Start
+start c = c.before
 
-returns : tie.Need-returns
+returns : tie.Need-returns-then-n-gt-MAX_LIVE
 returns c =
+    let k = c.before in
+    let a = (start k).args in
+    held-many a.instants a.rows.now a.from k.in-Live.is (omega (arith, c.if-n-gt-MAX_LIVE.true))
+
+returns-2 : tie.Need-returns-in-Exhausted
+returns-2 c = let a = c.args in held_none a.instants a.rows.now a.from c.in-Exhausted.is
+
+returns-3 : tie.Need-returns-else-n-gt-MAX_LIVE
+returns-3 c =
     let k = c.before.before in
     let a = (start k).args in
-    held-many a.instants a.rows.now a.from k.count.given.1 (omega (arith, c.if1.true))
+    held-live a.instants a.rows.now a.from k.in-Live.is (omega (arith, c.if-n-gt-MAX_LIVE.false)) c.each_row_within.ensures
 
-returns-2 : tie.Need-returns-2
-returns-2 c = let a = c.before.before.args in held_none a.instants a.rows.now a.from c.enum_told.given.1
-
-returns-3 : tie.Need-returns-3
-returns-3 c =
-    let k = c.before.before.before in
-    let a = (start k).args in
-    held-live a.instants a.rows.now a.from k.count.given.1 (omega (arith, c.before.if1.false)) c.each-row-within.ensures
-
-pub rows-within-spec : {M : Type 1} → statement M
-rows-within-spec =
+pub rows_within_spec : {M : Type 1} → statement M
+rows_within_spec =
     tie.close (tie.spec (λ c. search rules) (λ c. search rules) returns (λ c κs. search rules) returns-2 returns-3)

@@ -4,11 +4,11 @@ use borrow.Author.Tests.{eq-eqb, ne_eqb}
 use Rattle.lent.proofs.state.count_by.Statement.{statement}
 use Rattle.lent.proofs.state.count_by.Tie as tie
 
-returns : tie.Need-returns
-returns c = rw (eq-eqb _ _ c.if1.true)
+returns : tie.Need-returns-then-case-eq-EXHAUSTED
+returns c = rw (eq-eqb _ _ c.if-case-eq-EXHAUSTED.true)
 
-returns-2 : tie.Need-returns-2
-returns-2 c = rw (ne_eqb _ _ c.before.if1.false, c.count-in.ensures)
+returns-2 : tie.Need-returns-else-case-eq-EXHAUSTED
+returns-2 c = rw (ne_eqb _ _ c.if-case-eq-EXHAUSTED.false, c.count_in.ensures)
 
-pub count-by-spec : {M : Type 1} → statement M
-count-by-spec = tie.close (tie.spec (λ c κs. search rules) returns returns-2)
+pub count_by_spec : {M : Type 1} → statement M
+count_by_spec = tie.close (tie.spec (λ c κs. search rules) returns returns-2)

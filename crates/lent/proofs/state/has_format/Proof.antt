@@ -8,7 +8,7 @@ use Rattle.lent.proofs.state.has_format.Statement.{statement}
 use Rattle.lent.proofs.state.has_format.Tie as tie
 
 returns : tie.Need-returns
-returns c = ap (λ (w : ℕ). eqb w format) c.word_at.ensures
+returns c = ap (λ (w : ℕ). eqb w format) c.word_at-w.ensures
 
-pub has-format-spec : {M : Type 1} → statement M
-has-format-spec = tie.close (tie.spec (λ c κs. search rules) returns)
+pub has_format_spec : {M : Type 1} → statement M
+has_format_spec = tie.close (tie.spec (λ c κs. search rules) returns)

@@ -3,11 +3,11 @@ use borrow.Author.Rules.{rules}
 use Rattle.lent.proofs.state.has_kind.Statement.{statement}
 use Rattle.lent.proofs.state.has_kind.Tie as tie
 
-returns : tie.Need-returns
-returns c = rw c.before.if1.true c.is-kind.ensures
+returns : tie.Need-returns-then-used
+returns c = rw c.if-used.true c.is_kind.ensures
 
-returns-2 : tie.Need-returns-2
-returns-2 c = rw c.if1.false
+returns-2 : tie.Need-returns-else-used
+returns-2 c = rw c.if-used.false
 
-pub has-kind-spec : {M : Type 1} → statement M
-has-kind-spec = tie.close (tie.spec (λ c κs. search rules) returns returns-2)
+pub has_kind_spec : {M : Type 1} → statement M
+has_kind_spec = tie.close (tie.spec (λ c κs. search rules) returns returns-2)

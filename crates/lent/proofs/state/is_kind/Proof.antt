@@ -3,11 +3,11 @@ use borrow.Author.Tests.{le-leb, lt-leb}
 use Rattle.lent.proofs.state.is_kind.Statement.{statement}
 use Rattle.lent.proofs.state.is_kind.Tie as tie
 
-returns : tie.Need-returns
-returns c = rw (le-leb _ _ c.if1.true)
+returns : tie.Need-returns-then-w-ge-FIRST_KIND
+returns c = rw (le-leb _ _ c.if-w-ge-FIRST_KIND.true)
 
-returns-2 : tie.Need-returns-2
-returns-2 c = rw (lt-leb _ _ c.if1.false)
+returns-2 : tie.Need-returns-else-w-ge-FIRST_KIND
+returns-2 c = rw (lt-leb _ _ c.if-w-ge-FIRST_KIND.false)
 
-pub is-kind-spec : {M : Type 1} → statement M
-is-kind-spec = tie.close (tie.spec returns returns-2)
+pub is_kind_spec : {M : Type 1} → statement M
+is_kind_spec = tie.close (tie.spec returns returns-2)

@@ -4,11 +4,11 @@ use borrow.Author.Tests.{eq-eqb, ne_eqb}
 use Rattle.lent.proofs.state.is_side.Statement.{statement}
 use Rattle.lent.proofs.state.is_side.Tie as tie
 
-returns : tie.Need-returns
-returns c = rw (eq-eqb _ _ c.if1.true)
+returns : tie.Need-returns-then-from-eq-HEAD
+returns c = rw (eq-eqb _ _ c.if-from-eq-HEAD.true)
 
-returns-2 : tie.Need-returns-2
-returns-2 c = rw (ne_eqb _ _ c.if1.false)
+returns-2 : tie.Need-returns-else-from-eq-HEAD
+returns-2 c = rw (ne_eqb _ _ c.if-from-eq-HEAD.false)
 
-pub is-side-spec : {M : Type 1} → statement M
-is-side-spec = tie.close (tie.spec (λ c. search rules) returns returns-2)
+pub is_side_spec : {M : Type 1} → statement M
+is_side_spec = tie.close (tie.spec (λ c. search rules) returns returns-2)

@@ -7,9 +7,9 @@ use Rattle.lent.proofs.state.line_words_at.Tie as tie
 returns : tie.Need-returns
 returns c =
     let w = c.before.before.before in
-    same-words w.before.before.word_at.ensures w.before.word-at2.ensures w.word-at3.ensures c.before.before.word-at4.ensures c.before.word-at5.ensures c.word-at6.ensures
+    same-words w.word_at-kind.ensures w.word_at-a.ensures w.word_at-b.ensures c.word_at-d.ensures c.word_at-x.ensures c.word_at-y.ensures
 
-pub line-words-at-spec : {M : Type 1} → statement M
-line-words-at-spec =
+pub line_words_at_spec : {M : Type 1} → statement M
+line_words_at_spec =
     tie.close (tie.spec (λ c κs. search rules) (λ c. search rules) (λ c κs. search rules) (λ c. search rules) (λ c. search rules) (λ c κs. search rules)
     (λ c. search rules) (λ c. search rules) (λ c κs. search rules) (λ c κs. search rules) (λ c. search rules) (λ c κs. search rules) returns)

@@ -15,27 +15,27 @@ use Rattle.lent.proofs.state.lines_in.Tie as tie
 abbrev Same : ℕ → List ℕ → ℕ → Slot → Type 0
 Same n state k s = s ≡ state_slot n state k
 
-abbrev invariant-loop : tie.invariant-loop
+abbrev invariant-loop : tie.invariant-loop-k
 invariant-loop state n lines₀ k₀ lines k = (k ≤ 16) × Placing (Same n state) (slot_of blank_line) 16 lines k
 
-abbrev decreases-loop : tie.decreases-loop
+abbrev decreases-loop : tie.decreases-loop-k
 decreases-loop state n lines₀ k₀ lines k = 16 - k
 
-loop-holds : tie.Need-loop-init invariant-loop decreases-loop
-loop-holds c = (omega arith, rw c.blank-line.ensures (placing-start _ (slot_of blank_line) 16))
+loop-holds : tie.Need-loop-k-init invariant-loop decreases-loop
+loop-holds c = (omega arith, rw c.blank_line-blank.ensures (placing-start _ (slot_of blank_line) 16))
 
-loop-again : tie.Need-loop-preserved invariant-loop decreases-loop
+loop-again : tie.Need-loop-k-preserved invariant-loop decreases-loop
 loop-again c =
     let at = c.before.before in
-    (omega arith, placing-more _ _ 16 at.loop.invariant.1 (omega arith) _ (ap slot_of c.slot-line.ensures))
+    (omega arith, placing-more _ _ 16 at.loop-k.invariant.1 (omega arith) _ (ap slot_of c.slot_line-line.ensures))
 
 returns : tie.Need-returns invariant-loop decreases-loop
 returns c =
-    let w = c.before.loop.invariant.1 in
+    let w = c.loop-k.invariant.1 in
     sym (listed-is (slot_of blank_line) _ 16 _ w.size (λ k h. sym (w.places k (omega arith))))
 
-pub lines-in-spec : {M : Type 1} → statement M
-lines-in-spec =
+pub lines_in_spec : {M : Type 1} → statement M
+lines_in_spec =
     tie.close (tie.spec invariant-loop decreases-loop
     (λ c κs. search rules) loop-holds (λ c κs. search rules) (λ c. search rules) (λ c. search rules) (λ c. search rules) (λ c. search rules)
     loop-again returns)

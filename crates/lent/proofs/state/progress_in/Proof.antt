@@ -11,11 +11,11 @@ returns c =
     let n = c.before.before in
     let t = n.before.before.before in
     same-progress
-    (t.before.count-in.ensures ∙ t.before.before.word_at.ensures)
-    t.tags-in.ensures
-    (n.count_by.ensures ∙ ap₂ count_by n.before.before.word-at2.ensures n.before.word-at3.ensures)
-    (c.count-in2.ensures ∙ c.before.word-at4.ensures)
+    (t.count_in-instants.ensures ∙ t.word_at.ensures)
+    t.tags_in-tags.ensures
+    (n.count_by-count.ensures ∙ ap₂ count_by n.word_at-case.ensures n.word_at-live.ensures)
+    (c.count_in-from.ensures ∙ c.word_at-2.ensures)
 
-pub progress-in-spec : {M : Type 1} → statement M
-progress-in-spec =
+pub progress_in_spec : {M : Type 1} → statement M
+progress_in_spec =
     tie.close (tie.spec (λ c κs. search rules) (λ c κs. search rules) (λ c κs. search rules) (λ c κs. search rules) (λ c κs. search rules) (λ c κs. search rules) (λ c κs. search rules) (λ c κs. search rules) returns)

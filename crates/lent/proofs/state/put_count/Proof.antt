@@ -7,27 +7,27 @@ use Rattle.lent.proofs.state.Laws.{few-live, count-put}
 use Rattle.lent.proofs.state.put_count.Statement.{statement}
 use Rattle.lent.proofs.state.put_count.Tie as tie
 
-small-word-requires : tie.Need-small-word-requires
-small-word-requires c κs =
-    let n = c.before.before.before.before in
-    let h = few-live n.count.given.1 n.before.before.requires.1 in
+small_word-requires : tie.Need-small_word-requires
+small_word-requires c κs =
+    let n = c.before.before.before in
+    let h = few-live n.in-Live.is n.requires.1 in
     omega (arith, h)
 
-returns : tie.Need-returns
+returns : tie.Need-returns-in-Exhausted
 returns c =
     let n = c.before.before.before.before in
-    let s = n.before.before in
-    rw (c.put-word2.ensures, c.before.before.put_word.ensures) (count-put s.args.state.now _ _ s.requires.0 (sym n.enum_told.given.1) refl (ap live_count (sym n.enum_told.given.1)))
+    let s = n.before in
+    rw (c.put_word-in-Exhausted.ensures, c.put_word.ensures) (count-put s.args.state.now _ _ s.requires.0 (sym n.in-Exhausted.is) refl (ap live_count (sym n.in-Exhausted.is)))
 
-returns-2 : tie.Need-returns-2
+returns-2 : tie.Need-returns-in-Live
 returns-2 c =
     let w = c.before.before.before in
-    let n = w.before.before.before in
-    let s = n.before.before in
-    rw (c.put-word4.ensures, w.put-word3.ensures) (count-put s.args.state.now _ _ s.requires.0 (rw c.before.small_word.ensures (sym n.count.given.1)) refl (c.before.small_word.ensures ∙ ap live_count (sym n.count.given.1)))
+    let n = w.before.before in
+    let s = n.before in
+    rw (c.put_word-in-Live-2.ensures, w.put_word-in-Live.ensures) (count-put s.args.state.now _ _ s.requires.0 (rw c.small_word.ensures (sym n.in-Live.is)) refl (c.small_word.ensures ∙ ap live_count (sym n.in-Live.is)))
 
-pub put-count-spec : {M : Type 1} → statement M
-put-count-spec =
+pub put_count_spec : {M : Type 1} → statement M
+put_count_spec =
     tie.close (tie.spec
-    (λ c. search rules) (λ c κs. search rules) (λ c κs. search rules) (λ c. search rules) (λ c κs. search rules) small-word-requires (λ c κs. search rules)
+    (λ c. search rules) (λ c κs. search rules) (λ c κs. search rules) (λ c. search rules) (λ c κs. search rules) small_word-requires (λ c κs. search rules)
     returns returns-2)

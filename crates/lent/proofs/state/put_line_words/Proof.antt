@@ -9,10 +9,10 @@ returns c =
     let w₃ = c.before.before.before.before.before.before in
     let w₁ = w₃.before.before.before.before in
     let s = w₁.before.before in
-    rw (c.put-word6.ensures, c.before.before.put-word5.ensures, c.before.before.before.before.put-word4.ensures, w₃.put-word3.ensures, w₃.before.before.put-word2.ensures, w₁.put_word.ensures)
+    rw (c.put_word-6.ensures, c.put_word-5.ensures, c.put_word-4.ensures, w₃.put_word-3.ensures, w₃.put_word-2.ensures, w₁.put_word.ensures)
     (words-put s.args.state.now s.args.k s.args.w s.requires.1 s.requires.0)
 
-pub put-line-words-spec : {M : Type 1} → statement M
-put-line-words-spec =
+pub put_line_words_spec : {M : Type 1} → statement M
+put_line_words_spec =
     tie.close (tie.spec (λ c κs. search rules) (λ c. search rules) (λ c κs. search rules) (λ c. search rules) (λ c. search rules) (λ c κs. search rules)
     (λ c. search rules) (λ c. search rules) (λ c κs. search rules) (λ c κs. search rules) (λ c. search rules) (λ c κs. search rules) returns)

@@ -7,27 +7,27 @@ use Rattle.lent.proofs.state.Sheet.{Lining, lining-start, lining-more}
 use Rattle.lent.proofs.state.put_lines.Statement.{statement}
 use Rattle.lent.proofs.state.put_lines.Tie as tie
 
-abbrev invariant-loop : tie.invariant-loop
+abbrev invariant-loop : tie.invariant-loop-k
 invariant-loop was sheet k₀ state k = (k ≤ 16) × Lining sheet was state k
 
-abbrev decreases-loop : tie.decreases-loop
+abbrev decreases-loop : tie.decreases-loop-k
 decreases-loop was sheet k₀ state k = 16 - k
 
-put-line-words-requires : tie.Need-put-line-words-requires invariant-loop decreases-loop
-put-line-words-requires c κs = let at = c.before.before.before in (at.loop.invariant.1.size ∙ at.before.requires, omega arith)
+put_line_words-requires : tie.Need-put_line_words-requires invariant-loop decreases-loop
+put_line_words-requires c κs = let at = c.before.before.before in (at.loop-k.invariant.1.size ∙ at.requires, omega arith)
 
-loop-again : tie.Need-loop-preserved invariant-loop decreases-loop
+loop-again : tie.Need-loop-k-preserved invariant-loop decreases-loop
 loop-again c =
     let w = c.before.before in
     let at = w.before.before in
-    (omega arith, lining-more _ _ at.loop.invariant.1 (omega arith) w.slot-words.ensures c.put-line-words.ensures)
+    (omega arith, lining-more _ _ at.loop-k.invariant.1 (omega arith) w.slot_words-w.ensures c.put_line_words.ensures)
 
 returns : tie.Need-returns invariant-loop decreases-loop
 returns c =
-    let w = c.before.loop.invariant.1 in
+    let w = c.loop-k.invariant.1 in
     record { size = w.size; places = λ k h. w.places k (omega arith); rows = w.rows }
 
-pub put-lines-spec : {M : Type 1} → statement M
-put-lines-spec =
+pub put_lines_spec : {M : Type 1} → statement M
+put_lines_spec =
     tie.close (tie.spec invariant-loop decreases-loop
-    (λ c. (omega arith, lining-start _ _)) (λ c κs. search rules) put-line-words-requires (λ c. search rules) (λ c. search rules) loop-again returns)
+    (λ c. (omega arith, lining-start _ _)) (λ c κs. search rules) put_line_words-requires (λ c. search rules) (λ c. search rules) loop-again returns)

@@ -12,10 +12,10 @@ returns : tie.Need-returns
 returns c =
     let n = c.before in
     let k = n.before.before in
-    let e = n.count-in.ensures ∙ n.before.word-at2.ensures in
-    same-sheet (k.clocks-by.ensures ∙ ap clocks_by k.before.word_at.ensures) e
-    (c.lines-in.ensures ∙ ap (λ (m : ℕ). listed (state_slot m k.before.before.args.state.now) 16) e)
+    let e = n.count_in-count.ensures ∙ n.word_at-2.ensures in
+    same-sheet (k.clocks_by-clocks.ensures ∙ ap clocks_by k.word_at.ensures) e
+    (c.lines_in-lines.ensures ∙ ap (λ (m : ℕ). listed (state_slot m k.args.state.now) 16) e)
 
-pub sheet-in-spec : {M : Type 1} → statement M
-sheet-in-spec =
+pub sheet_in_spec : {M : Type 1} → statement M
+sheet_in_spec =
     tie.close (tie.spec (λ c κs. search rules) (λ c κs. search rules) (λ c κs. search rules) (λ c κs. search rules) (λ c κs. search rules) returns)

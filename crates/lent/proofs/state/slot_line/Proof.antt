@@ -6,11 +6,11 @@ use Rattle.lines.specs.LineWords.{line_of_words}
 use Rattle.lent.proofs.state.slot_line.Statement.{statement}
 use Rattle.lent.proofs.state.slot_line.Tie as tie
 
-returns : tie.Need-returns
-returns c = rw (lt-ltb _ _ c.before.before.if1.true) (c.line-of-words.ensures ∙ ap line_of_words c.before.line-words-at.ensures)
+returns : tie.Need-returns-then-k-n
+returns c = rw (lt-ltb _ _ c.if-k-n.true) (c.line_of_words.ensures ∙ ap line_of_words c.line_words_at.ensures)
 
-returns-2 : tie.Need-returns-2
-returns-2 c = rw (le-ltb _ _ c.before.if1.false) c.blank-line.ensures
+returns-2 : tie.Need-returns-else-k-n
+returns-2 c = rw (le-ltb _ _ c.if-k-n.false) c.blank_line.ensures
 
-pub slot-line-spec : {M : Type 1} → statement M
-slot-line-spec = tie.close (tie.spec (λ c κs. search rules) (λ c κs. search rules) (λ c κs. search rules) returns returns-2)
+pub slot_line_spec : {M : Type 1} → statement M
+slot_line_spec = tie.close (tie.spec (λ c κs. search rules) (λ c κs. search rules) (λ c κs. search rules) returns returns-2)

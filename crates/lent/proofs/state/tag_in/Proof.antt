@@ -7,7 +7,7 @@ use Rattle.lent.proofs.state.tag_in.Statement.{statement}
 use Rattle.lent.proofs.state.tag_in.Tie as tie
 
 returns : tie.Need-returns
-returns c = back c.tag_of.type-inv c.tag_of.ensures ∙ ap tag_of c.before.number_in.ensures
+returns c = back c.tag_of.type_inv c.tag_of.ensures ∙ ap tag_of c.number_in.ensures
 
-pub tag-in-spec : {M : Type 1} → statement M
-tag-in-spec = tie.close (tie.spec (λ c κs. search rules) (λ c κs. search rules) returns)
+pub tag_in_spec : {M : Type 1} → statement M
+tag_in_spec = tie.close (tie.spec (λ c κs. search rules) (λ c κs. search rules) returns)

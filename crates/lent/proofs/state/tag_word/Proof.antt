@@ -12,7 +12,7 @@ use Rattle.lent.proofs.state.tag_word.Tie as tie
 returns : tie.Need-returns
 returns c =
     let m : c.raw_of.result % 65536 ≡ c.raw_of.result = omega arith in
-    (rw (m, c.raw_of.ensures, to_z-of_z {w = w16} c.before.ranges.t) (tag-raw c.before.ranges.t.sfits), rw (c.raw_of.ensures, to_z-of_z {w = w16} c.before.ranges.t) refl)
+    (rw (m, c.raw_of.ensures, to_z-of_z {w = w16} c.ranges.t) (tag-raw c.ranges.t.sfits), rw (c.raw_of.ensures, to_z-of_z {w = w16} c.ranges.t) refl)
 
-pub tag-word-spec : {M : Type 1} → statement M
-tag-word-spec = tie.close (tie.spec (λ c κs. search rules) (λ c. search rules) returns)
+pub tag_word_spec : {M : Type 1} → statement M
+tag_word_spec = tie.close (tie.spec (λ c κs. search rules) (λ c. search rules) returns)

@@ -15,24 +15,24 @@ use Rattle.lent.proofs.state.tags_in.Tie as tie
 abbrev Same : List ℕ → ℕ → ℤ → Type 0
 Same state k t = t ≡ state_tag state k
 
-abbrev invariant-loop : tie.invariant-loop
+abbrev invariant-loop : tie.invariant-loop-k
 invariant-loop state tags₀ k₀ tags k = (k ≤ 8) × Placing (Same state) (pos 0) 8 tags k
 
-abbrev decreases-loop : tie.decreases-loop
+abbrev decreases-loop : tie.decreases-loop-k
 decreases-loop state tags₀ k₀ tags k = 8 - k
 
-loop-again : tie.Need-loop-preserved invariant-loop decreases-loop
+loop-again : tie.Need-loop-k-preserved invariant-loop decreases-loop
 loop-again c =
     let at = c.before.before.before in
-    (omega arith, placing-more _ _ 8 at.loop.invariant.1 (omega arith) _ (back c.tag_in.type-inv c.tag_in.ensures ∙ ap (λ (w : ℕ). tag_of (w % 65536)) c.before.word_at.ensures))
+    (omega arith, placing-more _ _ 8 at.loop-k.invariant.1 (omega arith) _ (back c.tag_in-tag.type_inv c.tag_in-tag.ensures ∙ ap (λ (w : ℕ). tag_of (w % 65536)) c.word_at.ensures))
 
 returns : tie.Need-returns invariant-loop decreases-loop
 returns c =
-    let w = c.before.loop.invariant.1 in
+    let w = c.loop-k.invariant.1 in
     sym (listed-is (pos 0) _ 8 _ w.size (λ k h. sym (w.places k (omega arith))))
 
-pub tags-in-spec : {M : Type 1} → statement M
-tags-in-spec =
+pub tags_in_spec : {M : Type 1} → statement M
+tags_in_spec =
     tie.close (tie.spec invariant-loop decreases-loop
     (λ c. (omega arith, placing-start _ _ 8)) (λ c. search rules) (λ c κs. search rules) (λ c κs. search rules) (λ c. search rules) (λ c. search rules) (λ c. search rules) (λ c. search rules)
     loop-again returns)

@@ -6,9 +6,9 @@ use Rattle.lent.proofs.unused.clear_owed.Tie as tie
 
 returns : tie.Need-returns
 returns c =
-    let p = c.before.before.requires in
-    owed-cleared p.1.0 p.1.1 c.clear-part.ensures
+    let p = c.requires in
+    owed-cleared p.1.0 p.1.1 c.clear_part.ensures
 
-pub clear-owed-spec : {M : Type 1} → statement M
-clear-owed-spec =
+pub clear_owed_spec : {M : Type 1} → statement M
+clear_owed_spec =
     tie.close (tie.spec (λ c. search rules) (λ c. search rules) (λ c. search rules) (λ c. search rules) (λ c κs. search rules) returns)

@@ -9,7 +9,7 @@ returns c =
     let l = c.before.before in
     let o = l.before.before.before in
     let s = o.before.before in
-    unused-cleared s.requires.few s.requires.plan o.clear-sets.ensures l.clear-leads.ensures c.clear-part.ensures
+    unused-cleared s.requires.few s.requires.plan o.clear_sets.ensures l.clear_leads.ensures c.clear_part.ensures
 
-pub clear-unused-spec : {M : Type 1} → statement M
-clear-unused-spec = tie.close (tie.spec (λ c κs. search rules) (λ c κs. search rules) (λ c. search rules) (λ c κs. search rules) returns)
+pub clear_unused_spec : {M : Type 1} → statement M
+clear_unused_spec = tie.close (tie.spec (λ c κs. search rules) (λ c κs. search rules) (λ c. search rules) (λ c κs. search rules) returns)

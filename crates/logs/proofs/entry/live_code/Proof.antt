@@ -4,7 +4,7 @@ use Rattle.logs.proofs.entry.Laws.{live-exhausted, live-broken, live-holding}
 use Rattle.logs.proofs.entry.live_code.Statement.{statement}
 use Rattle.logs.proofs.entry.live_code.Tie as tie
 
-pub live-code-spec : {M : Type 1} → statement M
-live-code-spec =
+pub live_code_spec : {M : Type 1} → statement M
+live_code_spec =
     tie.close (tie.spec (λ c. search rules) (λ c. search rules) (λ c. search rules) (λ c. search rules)
-    (λ c. live-exhausted c.enum_told.given.1) (λ c. live-broken c.enum-told2.given.1) (λ c. live-holding c.before.a.given.1))
+    (λ c. live-exhausted c.in-Exhausted.is) (λ c. live-broken c.in-Broken.is) (λ c. live-holding c.in-Holding.is))

@@ -13,47 +13,47 @@ use Rattle.logs.proofs.log.Opening.{log-refused, log-observed}
 use Rattle.logs.proofs.log.observe_log.Statement.{statement}
 use Rattle.logs.proofs.log.observe_log.Tie as tie
 
-returns : tie.Need-returns
+returns : tie.Need-returns-in-Refused
 returns c =
-    let a = c.before.before in
-    let r = a.before.before.before in
-    log-refused _ _ r.read-sheet.result r.read-sheet.ensures a.answer.given.1 c.blank-monitor.ensures _
+    let a = c.before in
+    let r = a.before.before in
+    log-refused _ _ r.read_sheet-read.result r.read_sheet-read.ensures a.in-Refused.is c.blank_monitor.ensures _
 
 -- ---- what was read
-abbrev read : tie.After-enum-told → tie.After-read-sheet
-read t = t.before.before.before
+abbrev read : tie.In-Done → tie.After-read_sheet-read
+read t = t.before.before
 
-read-bytes : (r : tie.After-read-sheet) → IsBytes r.before.before.before.before.args.sheet.now
-read-bytes r = each-byte r.before.before.before.before.args.sheet.now (λ i. (r.before.before.before.shared-slice-known.given i).fits)
+read-bytes : (r : tie.After-read_sheet-read) → IsBytes r.args.sheet.now
+read-bytes r = each-byte r.args.sheet.now (λ i. (r.shared_slice_known-1.given i).fits)
 
-begin-requires : tie.Need-begin-requires
+begin-requires : tie.Need-begin-begun-requires
 begin-requires c κs =
     let r = read c.before.before in
-    (prepares-read _ _ _ r.read-sheet.result r.read-sheet.ensures (read-bytes r) (length-replicate {A = ℕ} numbers 0), fresh-rows)
+    (prepares-read _ _ _ r.read_sheet-read.result r.read_sheet-read.ensures (read-bytes r) (length-replicate {A = ℕ} numbers 0), fresh-rows)
 
 -- ---- the monitor begun, and the records observed
-abbrev begun : tie.After-observe-records → tie.After-begin
+abbrev begun : tie.After-observe_records-last → tie.After-begin-begun
 begun o = o.before.before.before.before.before
 
-observe-records-requires : tie.Need-observe-records-requires
-observe-records-requires c κs = room-begun c.before.before.before.before.begin.ensures (length-replicate {A = ℕ} all_words 0) (length-replicate 2048 false)
+observe_records-requires : tie.Need-observe_records-last-requires
+observe_records-requires c κs = room-begun c.begin-begun.ensures (length-replicate {A = ℕ} all_words 0) (length-replicate 2048 false)
 
-abbrev records : tie.After-rows3 → tie.After-observe-records
+abbrev records : tie.After-rows-in-Done-2-1 → tie.After-observe_records-last
 records c = c.before.before.before.before.before
 
-read-back-requires : tie.Need-read-back-requires
-read-back-requires c κs = found-working (records c).observe-records.ensures.room
+read_back-requires : tie.Need-read_back-monitor-requires
+read_back-requires c κs = found-working (records c).observe_records-last.ensures.room
 
-returns-2 : tie.Need-returns-2
+returns-2 : tie.Need-returns-in-Done
 returns-2 c =
     let o = records c.before in
     let g = begun o in
     let t = g.before.before.before in
     let r = read t in
-    let opened = opened_rows _ _ _ r.read-sheet.result r.read-sheet.ensures (read-bytes r) t.enum_told.given.1 g.begin.ensures in
-    log-observed _ _ r.read-sheet.result r.read-sheet.ensures opened o.observe-records.ensures c.read_back.ensures
+    let opened = opened_rows _ _ _ r.read_sheet-read.result r.read_sheet-read.ensures (read-bytes r) t.in-Done.is g.begin-begun.ensures in
+    log-observed _ _ r.read_sheet-read.result r.read_sheet-read.ensures opened o.observe_records-last.ensures c.read_back-monitor.ensures
 
-pub observe-log-spec : {M : Type 1} → statement M
-observe-log-spec =
+pub observe_log_spec : {M : Type 1} → statement M
+observe_log_spec =
     tie.close (tie.spec (λ c κs. search rules) (λ c. search rules) (λ c κs. search rules) (λ c. search rules) begin-requires
-    observe-records-requires read-back-requires returns (λ c. (records c.before).observe-records.ensures.size) returns-2)
+    observe_records-requires read_back-requires returns (λ c. (records c.before).observe_records-last.ensures.size) returns-2)

@@ -13,41 +13,41 @@ use Rattle.step.proofs.advance.advance_row.Statement.{statement}
 use Rattle.step.proofs.advance.advance_row.Tie as tie
 
 -- the places: each question, and the one passed before it
-abbrev start : tie.After-leads-hold → tie.Start
-start c = c.before.before.before
+abbrev start : tie.After-leads_hold → tie.Start
+start c = c.before.before
 
-abbrev short : tie.After-is-barred → tie.Else1
-short c = c.before.before.before
+abbrev short : tie.After-is_barred → tie.Else-not-leads_hold
+short c = c.before.before
 
-abbrev barred : tie.After-put-left → tie.Else2
+abbrev barred : tie.After-put_left → tie.Else-is_barred
 barred c = c.before.before.before
 
-abbrev late : tie.After-put-left2 → tie.Else3
+abbrev late : tie.After-put_left-2 → tie.Else-not-put_left
 late c = c.before.before
 
-abbrev missed : tie.After-begin-part → tie.Else4
+abbrev missed : tie.After-begin_part → tie.Else-not-put_left-2
 missed c = c.before.before
 
-abbrev over : tie.After-begin-part2 → tie.Else5
+abbrev over : tie.After-begin_part-2 → tie.Else-not-begin_part
 over c = c.before.before
 
-abbrev full : tie.After-lead-part → tie.Else6
+abbrev full : tie.After-lead_part → tie.Else-not-begin_part-2
 full c = c.before.before
 
 -- the beginning, from where each question was passed
-abbrev from-barred : tie.Else2 → tie.Start
+abbrev from-barred : tie.Else-is_barred → tie.Start
 from-barred e = start (short e.before).before
 
-abbrev from-late : tie.Else3 → tie.Start
+abbrev from-late : tie.Else-not-put_left → tie.Start
 from-late e = from-barred (barred e.before)
 
-abbrev from-missed : tie.Else4 → tie.Start
+abbrev from-missed : tie.Else-not-put_left-2 → tie.Start
 from-missed e = from-late (late e.before)
 
-abbrev from-over : tie.Else5 → tie.Start
+abbrev from-over : tie.Else-not-begin_part → tie.Start
 from-over e = from-missed (missed e.before)
 
-abbrev from-full : tie.Else6 → tie.Start
+abbrev from-full : tie.Else-not-begin_part-2 → tie.Start
 from-full e = from-over (over e.before)
 
 -- what is known of the rows stored since the beginning
@@ -56,90 +56,90 @@ Known what s rows = let a = s.args in what a.plan a.f a.i a.to a.rows.now rows
 
 -- ---- leads and stopped clocks
 
-returns : tie.Need-returns
-returns c = let h = c.before in row-short _ _ _ _ h.leads-hold.ensures c.if1.true
+returns : tie.Need-returns-then-not-leads_hold
+returns c = let h = c.before in row-short _ _ _ _ h.leads_hold.ensures c.if-not-leads_hold.true-raw
 
-returns-2 : tie.Need-returns-2
-returns-2 c = let e = short c.before in row-barred _ _ _ _ e.before.leads-hold.ensures e.if1.left c.before.is-barred.ensures c.if2.true
+returns-2 : tie.Need-returns-then-is_barred
+returns-2 c = let e = short c.before in row-barred _ _ _ _ e.leads_hold.ensures e.if-not-leads_hold.false-raw c.is_barred.ensures c.if-is_barred.true
 
-asked : (e : tie.Else2) → let a = (from-barred e).args in LinesAsked a.plan a.f a.i a.rows.now
-asked e = let g = short e.before in lines-asked _ _ _ _ g.before.leads-hold.ensures g.if1.left e.before.is-barred.ensures e.if2.false
+asked : (e : tie.Else-is_barred) → let a = (from-barred e).args in LinesAsked a.plan a.f a.i a.rows.now
+asked e = let g = short e.before in lines-asked _ _ _ _ g.leads_hold.ensures g.if-not-leads_hold.false-raw e.is_barred.ensures e.if-is_barred.false
 
 -- ---- what is left of each set
 
-put-left-requires : tie.Need-put-left-requires
-put-left-requires c κs = let p = (from-barred c.before.before).requires in (p.between, (omega arith, p.few 0 (omega arith)))
+put_left-requires : tie.Need-put_left-requires
+put_left-requires c κs = let p = (from-barred c.before.before).requires in (p.between, (omega arith, p.few 0 (omega arith)))
 
-returns-3 : tie.Need-returns-3
-returns-3 c = let k = c.before in row-late (asked (barred k)) k.put-left.ensures c.if3.true
+returns-3 : tie.Need-returns-then-not-put_left
+returns-3 c = let k = c.before in row-late (asked (barred k)) k.put_left.ensures c.if-not-put_left.true-raw
 
-left-owed : (e : tie.Else3) → Known OwedLeft (from-late e) e.before.put-left.new.0
-left-owed e = let k = e.before in owed-left (asked (barred k)) k.put-left.ensures e.if3.false
+left-owed : (e : tie.Else-not-put_left) → Known OwedLeft (from-late e) e.put_left.new.rows
+left-owed e = let k = e.before in owed-left (asked (barred k)) k.put_left.ensures e.if-not-put_left.false-raw
 
-put-left-requires-2 : tie.Need-put-left-requires-2
-put-left-requires-2 c κs =
+put_left-requires-2 : tie.Need-put_left-requires-2
+put_left-requires-2 c κs =
     let e = c.before in
     let p = (from-late e).requires in
     let w = left-owed e in
     (between_stays p.between w.stays, (omega arith, omega (arith, p.few 1 (omega arith), count-stays p.between.apart w.stays 1 (omega arith))))
 
-returns-4 : tie.Need-returns-4
+returns-4 : tie.Need-returns-then-not-put_left-2
 returns-4 c =
     let m = c.before in
     let p = (from-late (late m)).requires in
-    row-missed (left-owed (late m)) p.between.apart (p.few 1 (omega arith)) m.put-left2.ensures c.if4.true
+    row-missed (left-owed (late m)) p.between.apart (p.few 1 (omega arith)) m.put_left-2.ensures c.if-not-put_left-2.true-raw
 
-left_both : (e : tie.Else4) → Known BothLeft (from-missed e) e.before.put-left2.new.0
+left_both : (e : tie.Else-not-put_left-2) → Known BothLeft (from-missed e) e.put_left-2.new.rows
 left_both e =
     let m = e.before in
     let p = (from-missed e).requires in
-    both_left (left-owed (late m)) p.between.apart (p.few 1 (omega arith)) m.put-left2.ensures e.if4.false
+    both_left (left-owed (late m)) p.between.apart (p.few 1 (omega arith)) m.put_left-2.ensures e.if-not-put_left-2.false-raw
 
 -- ---- what is begun in each set
 
-begin-part-requires : tie.Need-begin-part-requires
-begin-part-requires c κs =
+begin_part-requires : tie.Need-begin_part-requires
+begin_part-requires c κs =
     let e = c.before in
     let p = (from-missed e).requires in
     let w = left_both e in
     (record { size = w.stays.size ∙ p.between.size; row = p.between.into; inside = omega arith; few = w.few 0 (omega arith) }, omega (arith, p.ordered, p.begun))
 
-returns-5 : tie.Need-returns-5
-returns-5 c = let n = c.before in row-over (left_both (missed n)) n.begin-part.ensures c.if5.true
+returns-5 : tie.Need-returns-then-not-begin_part
+returns-5 c = let n = c.before in row-over (left_both (missed n)) n.begin_part.ensures c.if-not-begin_part.true-raw
 
-begun-owed : (e : tie.Else5) → Known OwedBegun (from-over e) e.before.begin-part.new.0
-begun-owed e = let n = e.before in owed-begun (left_both (missed n)) n.begin-part.ensures e.if5.false
+begun-owed : (e : tie.Else-not-begin_part) → Known OwedBegun (from-over e) e.begin_part.new.rows
+begun-owed e = let n = e.before in owed-begun (left_both (missed n)) n.begin_part.ensures e.if-not-begin_part.false-raw
 
-begin-part-requires-2 : tie.Need-begin-part-requires-2
-begin-part-requires-2 c κs =
+begin_part-requires-2 : tie.Need-begin_part-requires-2
+begin_part-requires-2 c κs =
     let e = c.before in
     let p = (from-over e).requires in
     let w = begun-owed e in
     (record { size = w.stays.size ∙ p.between.size; row = p.between.into; inside = omega arith; few = w.few 1 (omega arith) }, p.begun)
 
-returns-6 : tie.Need-returns-6
-returns-6 c = let n = c.before in row-full (begun-owed (over n)) n.begin-part2.ensures c.if6.true
+returns-6 : tie.Need-returns-then-not-begin_part-2
+returns-6 c = let n = c.before in row-full (begun-owed (over n)) n.begin_part-2.ensures c.if-not-begin_part-2.true-raw
 
-begun-both : (e : tie.Else6) → Known BothBegun (from-full e) e.before.begin-part2.new.0
-begun-both e = let n = e.before in both-begun (begun-owed (over n)) n.begin-part2.ensures e.if6.false
+begun-both : (e : tie.Else-not-begin_part-2) → Known BothBegun (from-full e) e.begin_part-2.new.rows
+begun-both e = let n = e.before in both-begun (begun-owed (over n)) n.begin_part-2.ensures e.if-not-begin_part-2.false-raw
 
 -- ---- leads and stopped clocks after it
 
-lead-part-requires : tie.Need-lead-part-requires
-lead-part-requires c κs = let e = c.before in let p = (from-full e).requires in (between_stays p.between (begun-both e).stays, p.plan.leaders)
+lead_part-requires : tie.Need-lead_part-requires
+lead_part-requires c κs = let e = c.before in let p = (from-full e).requires in (between_stays p.between (begun-both e).stays, p.plan.leaders)
 
-stopped-on-requires : tie.Need-stopped-on-requires
-stopped-on-requires c κs =
+stopped_on-requires : tie.Need-stopped_on-requires
+stopped_on-requires c κs =
     let g = c.before.before in
-    between_stays (between_stays (from-full (full g)).requires.between (begun-both (full g)).stays) g.lead-part.ensures.stays
+    between_stays (between_stays (from-full (full g)).requires.between (begun-both (full g)).stays) g.lead_part.ensures.stays
 
-returns-7 : tie.Need-returns-7
+returns-7 : tie.Need-returns
 returns-7 c =
     let g = c.before.before.before in
     let p = (from-full (full g)).requires in
-    row-onto (begun-both (full g)) p.between.apart p.plan.leaders g.lead-part.ensures c.stopped-on.ensures
+    row-onto (begun-both (full g)) p.between.apart p.plan.leaders g.lead_part.ensures c.stopped_on.ensures
 
-pub advance-row-spec : {M : Type 1} → statement M
-advance-row-spec =
-    tie.close (tie.spec (λ c κs. search rules) returns (λ c κs. search rules) returns-2 put-left-requires returns-3 put-left-requires-2 returns-4
-    begin-part-requires returns-5 begin-part-requires-2 returns-6 lead-part-requires stopped-on-requires returns-7)
+pub advance_row_spec : {M : Type 1} → statement M
+advance_row_spec =
+    tie.close (tie.spec (λ c κs. search rules) returns (λ c κs. search rules) returns-2 put_left-requires returns-3 put_left-requires-2 returns-4
+    begin_part-requires returns-5 begin_part-requires-2 returns-6 lead_part-requires stopped_on-requires returns-7)

@@ -7,7 +7,7 @@ use Rattle.remainders.proofs.rows.Laws.{stays_all}
 use Rattle.step.proofs.advance.begin_part.Statement.{statement}
 use Rattle.step.proofs.advance.begin_part.Tie as tie
 
-returns : tie.Need-returns
+returns : tie.Need-returns-then-n-first
 returns c =
     let s = c.before in
     let a = s.args in
@@ -17,5 +17,5 @@ returns c =
       few = s.requires.0.few;
     }
 
-pub begin-part-spec : {M : Type 1} → statement M
-begin-part-spec = tie.close (tie.spec returns (λ c κs. search rules) (λ c. search rules))
+pub begin_part_spec : {M : Type 1} → statement M
+begin_part_spec = tie.close (tie.spec returns (λ c κs. search rules) (λ c. search rules))

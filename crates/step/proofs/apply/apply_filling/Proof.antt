@@ -43,16 +43,16 @@ record Found (p : Plan) (f : Filling) (from to n found room : ℕ) (was rows : L
   flags : FlagsKept was rows
   applied : (v : SheetValue) → GatheredFor v p f → T (all small_leads (rows_of v was from n)) → by_filling room v f.tags (rows_of v was from n) (some (rows_of v was to found)) f.ticks ≡ all_advanced room v (filled_instant f) (begun_in f) (rest v was from n k) (some (rows_of v rows to live))
 
-abbrev invariant-loop : tie.invariant-loop
+abbrev invariant-loop : tie.invariant-loop-k
 invariant-loop was from to n found room plan f clocks leaders precede live₀ k₀ rows live k = Found plan f from to n found room was rows live k
 
-abbrev decreases-loop : tie.decreases-loop
+abbrev decreases-loop : tie.decreases-loop-k
 decreases-loop was from to n found room plan f clocks leaders precede live₀ k₀ rows live k = n - k
 
-abbrev start : tie.At-loop invariant-loop decreases-loop → tie.Start invariant-loop decreases-loop
+abbrev start : tie.At-loop-k invariant-loop decreases-loop → tie.Start invariant-loop decreases-loop
 start at = at.before.before
 
-loop-holds : tie.Need-loop-init invariant-loop decreases-loop
+loop-holds : tie.Need-loop-k-init invariant-loop decreases-loop
 loop-holds c =
     let s = c.before in
     record {
@@ -65,15 +65,15 @@ loop-holds c =
       applied = λ v asked small. applied-start s.args.room v _ _ asked.begins _ s.args.n _;
     }
 
-advance-row-requires : tie.Need-advance-row-requires invariant-loop decreases-loop
-advance-row-requires c κs =
+advance_row-requires : tie.Need-advance_row-requires invariant-loop decreases-loop
+advance_row-requires c κs =
     let at = c.before.before in
     let x = (start at).requires in
-    let w = at.loop.invariant in
-    let k = at.loop.k in
+    let w = at.loop-k.invariant in
+    let k = at.loop-k.k in
     let h : k < (start at).args.n = omega arith in
     record {
-      between = record { size = w.stays.size ∙ x.size; row = omega (arith, x.held, x.sides.one); into = omega (arith, w.fewer, x.sides.other); apart = x.sides.apart k at.loop.live (omega (arith, x.held)) (omega (arith, w.fewer)) };
+      between = record { size = w.stays.size ∙ x.size; row = omega (arith, x.held, x.sides.one); into = omega (arith, w.fewer, x.sides.other); apart = x.sides.apart k at.loop-k.live (omega (arith, x.held)) (omega (arith, w.fewer)) };
       few = held-few x.sides w.stays (omega (arith, w.fewer)) k (omega (arith, x.held)) (x.small k h);
       plan = x.plan;
       ordered = x.ordered;
@@ -81,43 +81,43 @@ advance-row-requires c κs =
     }
 
 -- after a turn: row to + live is new, every other row stays
-module _ (c : tie.After-advance-row invariant-loop decreases-loop) where
-  abbrev at : tie.At-loop invariant-loop decreases-loop
+module _ (c : tie.After-advance_row invariant-loop decreases-loop) where
+  abbrev at : tie.At-loop-k invariant-loop decreases-loop
   at = c.before.before.before
 
   abbrev last : List ℕ
-  last = c.advance-row.new.0
+  last = c.advance_row.new.rows
 
-  small : FewOwed last (start at).args.to at.loop.live
-  small j l = few_words at.loop.rows last ((start at).args.to + j) (λ p m. c.advance-row.ensures.stays.same ((start at).args.to + j) p (omega arith) (λ e x y. omega arith)) (at.loop.inv.small j l)
+  small : FewOwed last (start at).args.to at.loop-k.live
+  small j l = few_words at.loop-k.rows last ((start at).args.to + j) (λ p m. c.advance_row.ensures.stays.same ((start at).args.to + j) p (omega arith) (λ e x y. omega arith)) (at.loop-k.invariant.small j l)
 
-  stays : RowsStay (start at).args.to (at.loop.live + 1) (start at).args.rows.now last
-  stays = rows-stay-on at.loop.inv.stays (rows-stay-one c.advance-row.ensures.stays (start at).args.to (at.loop.live + 1) (omega arith) (omega arith))
+  stays : RowsStay (start at).args.to (at.loop-k.live + 1) (start at).args.rows.now last
+  stays = rows-stay-on at.loop-k.invariant.stays (rows-stay-one c.advance_row.ensures.stays (start at).args.to (at.loop-k.live + 1) (omega arith) (omega arith))
 
   flags : FlagsKept (start at).args.rows.now last
-  flags f = c.advance-row.ensures.flags (at.loop.inv.flags f)
+  flags f = c.advance_row.ensures.flags (at.loop-k.invariant.flags f)
 
-  found : (v : SheetValue) → rows_of v last (start at).args.to at.loop.live ≡ rows_of v at.loop.rows (start at).args.to at.loop.live
-  found v = listed_same at.loop.live (λ j l. ap (used_part v) (row_stays c.advance-row.ensures.stays ((start at).args.to + j) (at.loop.inv.small j l) (λ e. omega arith)))
+  found : (v : SheetValue) → rows_of v last (start at).args.to at.loop-k.live ≡ rows_of v at.loop-k.rows (start at).args.to at.loop-k.live
+  found v = listed_same at.loop-k.live (λ j l. ap (used_part v) (row_stays c.advance_row.ensures.stays ((start at).args.to + j) (at.loop-k.invariant.small j l) (λ e. omega arith)))
 
-  next : (v : SheetValue) → rest v (start at).args.rows.now (start at).args.from (start at).args.n at.loop.k ≡ used_part v (row_of (start at).args.rows.now ((start at).args.from + at.loop.k)) ∷ rest v (start at).args.rows.now (start at).args.from (start at).args.n (at.loop.k + 1)
-  next v = listed_cons (λ j. used_part v (row_of (start at).args.rows.now ((start at).args.from + j))) (start at).args.n at.loop.k (omega arith)
+  next : (v : SheetValue) → rest v (start at).args.rows.now (start at).args.from (start at).args.n at.loop-k.k ≡ used_part v (row_of (start at).args.rows.now ((start at).args.from + at.loop-k.k)) ∷ rest v (start at).args.rows.now (start at).args.from (start at).args.n (at.loop-k.k + 1)
+  next v = listed_cons (λ j. used_part v (row_of (start at).args.rows.now ((start at).args.from + j))) (start at).args.n at.loop-k.k (omega arith)
 
-  became : {r : Next} → c.advance-row.result ≡ r → (v : SheetValue) → GatheredFor v (start at).args.plan (start at).args.f → T (all small_leads (rows_of v (start at).args.rows.now (start at).args.from (start at).args.n))
-      → next_of v r last ((start at).args.to + at.loop.live) ≡ advanced v (filled_instant (start at).args.f) (begun_in (start at).args.f) (used_part v (row_of (start at).args.rows.now ((start at).args.from + at.loop.k)))
+  became : {r : Next} → c.advance_row.result ≡ r → (v : SheetValue) → GatheredFor v (start at).args.plan (start at).args.f → T (all small_leads (rows_of v (start at).args.rows.now (start at).args.from (start at).args.n))
+      → next_of v r last ((start at).args.to + at.loop-k.live) ≡ advanced v (filled_instant (start at).args.f) (begun_in (start at).args.f) (used_part v (row_of (start at).args.rows.now ((start at).args.from + at.loop-k.k)))
   became g v asked leads =
-      let x = (start at).pre in
-      let k = at.loop.k in
+      let x = (start at).requires in
+      let k = at.loop-k.k in
       let h : k < (start at).args.n = omega arith in
-      let e = held-row x.sides at.loop.inv.stays (omega (arith, at.loop.inv.fewer)) k (omega (arith, x.held)) (x.small k h) in
-      ap (λ (r : Next). next_of v r last ((start at).args.to + at.loop.live)) (sym g)
-      ∙ c.advance-row.ensures.row v asked (subst (λ (r : Remainder). T (small_leads (used_part v r))) (sym e) (one_of (λ j. used_part v (row_of (start at).args.rows.now ((start at).args.from + j))) small_leads (start at).args.n leads at.loop.k (omega arith)))
+      let e = held-row x.sides at.loop-k.invariant.stays (omega (arith, at.loop-k.invariant.fewer)) k (omega (arith, x.held)) (x.small k h) in
+      ap (λ (r : Next). next_of v r last ((start at).args.to + at.loop-k.live)) (sym g)
+      ∙ c.advance_row.ensures.row v asked (subst (λ (r : Remainder). T (small_leads (used_part v r))) (sym e) (one_of (λ j. used_part v (row_of (start at).args.rows.now ((start at).args.from + j))) small_leads (start at).args.n leads at.loop-k.k (omega arith)))
       ∙ ap (λ (r : Remainder). advanced v (filled_instant (start at).args.f) (begun_in (start at).args.f) (used_part v r)) e
 
-loop-again : tie.Need-loop-preserved invariant-loop decreases-loop
+loop-again : tie.Need-loop-k-preserved-in-Fails invariant-loop decreases-loop
 loop-again c =
-    let t = c.before.before in
-    let w = (at t).loop.invariant in
+    let t = c.before in
+    let w = (at t).loop-k.invariant in
     record {
       turns = omega arith;
       fewer = w.fewer;
@@ -125,44 +125,44 @@ loop-again c =
       stays = stays t;
       small = small t;
       flags = flags t;
-      applied = λ v asked leads. applied-fails _ _ _ _ (w.applied v asked leads) (next t v) (found t v) (became t c.enum_told.given.1 v asked leads);
+      applied = λ v asked leads. applied-fails _ _ _ _ (w.applied v asked leads) (next t v) (found t v) (became t c.in-Fails.is v asked leads);
     }
 
-returns : tie.Need-returns invariant-loop decreases-loop
+returns : tie.Need-returns-in-Over invariant-loop decreases-loop
 returns c =
-    let t = c.before.before in
-    let w = (at t).loop.invariant in
+    let t = c.before in
+    let w = (at t).loop-k.invariant in
     record {
       more = omega (arith, w.more, w.fewer);
       stays = rows-stay-wide (stays t) 33 (omega (arith, w.fewer));
       small = tt;
       flags = flags t;
-      applied = λ v asked leads. applied-over _ _ _ _ (w.applied v asked leads) (next t v) (found t v) (became t c.enum-told2.given.1 v asked leads);
+      applied = λ v asked leads. applied-over _ _ _ _ (w.applied v asked leads) (next t v) (found t v) (became t c.in-Over.is v asked leads);
     }
 
 -- a row that went on
-abbrev turn : tie.After-is-duplicate invariant-loop decreases-loop → tie.After-advance-row invariant-loop decreases-loop
-turn c = c.before.before.before.before
+abbrev turn : tie.After-is_duplicate invariant-loop decreases-loop → tie.After-advance_row invariant-loop decreases-loop
+turn c = c.before.before
 
-onto : (e : tie.After-enum-told3 invariant-loop decreases-loop) → e.before.before.advance-row.result ≡ Onto
-onto e = e.enum-told3.given.1
+onto : (e : tie.In-Onto invariant-loop decreases-loop) → e.advance_row.result ≡ Onto
+onto e = e.in-Onto.is
 
-more : (e : tie.After-enum-told3 invariant-loop decreases-loop) → let t = e.before.before in FewOwed (last t) (start (at t)).args.to ((at t).loop.live + 1)
+more : (e : tie.In-Onto invariant-loop decreases-loop) → let t = e.before in FewOwed (last t) (start (at t)).args.to ((at t).loop-k.live + 1)
 more e j l =
-    let t = e.before.before in
-    ⊎_elim (λ (x : j ≡ (at t).loop.live). rw x (t.advance-row.ensures.few (onto e))) (λ (h : j < (at t).loop.live). small t j h) (eq-or-lt_of_le (omega arith))
+    let t = e.before in
+    ⊎_elim (λ (x : j ≡ (at t).loop-k.live). rw x (t.advance_row.ensures.few (onto e))) (λ (h : j < (at t).loop-k.live). small t j h) (eq-or-lt_of_le (omega arith))
 
-is-duplicate-requires : tie.Need-is-duplicate-requires invariant-loop decreases-loop
-is-duplicate-requires c κs =
-    let t = c.before.before.before in
-    let x = (start (at t)).pre in
-    (x.plan.clocks, (x.plan.leaders, (omega (arith, x.sides.other, (at t).loop.invariant.fewer), more c.before)))
+is_duplicate-requires : tie.Need-is_duplicate-requires invariant-loop decreases-loop
+is_duplicate-requires c κs =
+    let t = c.before in
+    let x = (start (at t)).requires in
+    (x.plan.clocks, (x.plan.leaders, (omega (arith, x.sides.other, (at t).loop-k.invariant.fewer), more c)))
 
-loop-again-2 : tie.Need-loop-preserved-2 invariant-loop decreases-loop
+loop-again-2 : tie.Need-loop-k-preserved-then-is_duplicate invariant-loop decreases-loop
 loop-again-2 c =
-    let m = c.before.is-duplicate in
+    let m = c.is_duplicate in
     let t = turn c.before in
-    let w = (at t).loop.inv in
+    let w = (at t).loop-k.invariant in
     record {
       turns = omega arith;
       fewer = w.fewer;
@@ -170,55 +170,55 @@ loop-again-2 c =
       stays = stays t;
       small = small t;
       flags = flags t;
-      applied = λ v asked leads. applied-there _ _ _ _ (w.applied v asked leads) (next t v) (found t v) (became t (onto c.before.before.before) v asked leads) (m.ensures v (sym asked.as_many) asked.leading) c.if1.true;
+      applied = λ v asked leads. applied-there _ _ _ _ (w.applied v asked leads) (next t v) (found t v) (became t (onto c.before.before) v asked leads) (m.ensures v (sym asked.as_many) asked.leading) c.if-is_duplicate.true;
     }
 
-returns-2 : tie.Need-returns-2 invariant-loop decreases-loop
+returns-2 : tie.Need-returns-then-room-live invariant-loop decreases-loop
 returns-2 c =
     let e = c.before in
-    let m = e.before.is-duplicate in
+    let m = e.is_duplicate in
     let t = turn e.before in
-    let w = (at t).loop.inv in
+    let w = (at t).loop-k.invariant in
     record {
       more = omega (arith, w.more, w.fewer);
       stays = rows-stay-wide (stays t) 33 (omega (arith, w.fewer));
       small = tt;
       flags = flags t;
-      applied = λ v asked leads. applied-full _ _ _ _ (w.applied v asked leads) (next t v) (found t v) (became t (onto e.before.before.before) v asked leads) (m.ensures v (sym asked.as_many) asked.leading) e.if1.false (omega (arith, length-listed (λ j. used_part v (row_of (last t) ((start (at t)).args.to + j))) (at t).loop.live));
+      applied = λ v asked leads. applied-full _ _ _ _ (w.applied v asked leads) (next t v) (found t v) (became t (onto e.before.before) v asked leads) (m.ensures v (sym asked.as_many) asked.leading) e.if-is_duplicate.false (omega (arith, length-listed (λ j. used_part v (row_of (last t) ((start (at t)).args.to + j))) (at t).loop-k.live));
     }
 
-loop-again-3 : tie.Need-loop-preserved-3 invariant-loop decreases-loop
+loop-again-3 : tie.Need-loop-k-preserved invariant-loop decreases-loop
 loop-again-3 c =
     let e = c.before in
-    let m = e.before.is-duplicate in
+    let m = e.is_duplicate in
     let t = turn e.before in
-    let w = (at t).loop.inv in
-    let live = (at t).loop.live in
+    let w = (at t).loop-k.invariant in
+    let live = (at t).loop-k.live in
     record {
       turns = omega arith;
-      fewer = omega (arith, (start (at t)).pre.sized);
+      fewer = omega (arith, (start (at t)).requires.sized);
       more = omega (arith, w.more);
       stays = rows-stay-wide (stays t) (live + 1 + 1) (omega arith);
-      small = more e.before.before.before;
+      small = more e.before.before;
       flags = flags t;
-      applied = λ v asked leads. rw (listed-snoc (λ j. used_part v (row_of (last t) ((start (at t)).args.to + j))) live) (applied-more _ _ _ _ (w.applied v asked leads) (next t v) (found t v) (became t (onto e.before.before.before) v asked leads) (m.ensures v (sym asked.as_many) asked.leading) e.if1.false (omega (arith, length-listed (λ j. used_part v (row_of (last t) ((start (at t)).args.to + j))) live)));
+      applied = λ v asked leads. rw (listed-snoc (λ j. used_part v (row_of (last t) ((start (at t)).args.to + j))) live) (applied-more _ _ _ _ (w.applied v asked leads) (next t v) (found t v) (became t (onto e.before.before) v asked leads) (m.ensures v (sym asked.as_many) asked.leading) e.if-is_duplicate.false (omega (arith, length-listed (λ j. used_part v (row_of (last t) ((start (at t)).args.to + j))) live)));
     }
 
-returns-3 : tie.Need-returns-3 invariant-loop decreases-loop
+returns-3 : tie.Need-returns invariant-loop decreases-loop
 returns-3 c =
     let at = c.before in
-    let w = at.loop.invariant in
+    let w = at.loop-k.invariant in
     record {
       more = omega (arith, w.more);
       stays = w.stays;
       small = (w.fewer, w.small);
       flags = w.flags;
-      applied = λ v asked leads. sym (w.applied v asked leads ∙ applied-end _ _ _ _ (listed-end _ (start at).args.n at.loop.k (omega arith)));
+      applied = λ v asked leads. sym (w.applied v asked leads ∙ applied-end _ _ _ _ (listed-end _ (start at).args.n at.loop-k.k (omega arith)));
     }
 
-pub apply-filling-spec : {M : Type 1} → statement M
-apply-filling-spec =
+pub apply_filling_spec : {M : Type 1} → statement M
+apply_filling_spec =
     tie.close (tie.spec invariant-loop decreases-loop loop-holds
-    (λ c. omega arith) (λ c. omega arith) (λ c. omega arith) advance-row-requires
+    (λ c. omega arith) (λ c. omega arith) (λ c. omega arith) advance_row-requires
     (λ c. search rules) (λ c. omega arith) loop-again (λ c. search rules) returns (λ c. search rules)
-    is-duplicate-requires (λ c. omega arith) loop-again-2 returns-2 (λ c. omega arith) (λ c. omega arith) loop-again-3 returns-3)
+    is_duplicate-requires (λ c. omega arith) loop-again-2 returns-2 (λ c. omega arith) (λ c. omega arith) loop-again-3 returns-3)

@@ -46,7 +46,7 @@ module _ (t : ℕ) where
 
   -- the fillings left of a call, from clock k on, and from the next
   abbrev left : Start → ℕ → List Bool → List (List Bool)
-  left e k ticks = fillings_left e.args.t3 e.args.seen e.args.extent.clocks k ticks
+  left e k ticks = fillings_left e.args.flags e.args.seen e.args.extent.clocks k ticks
 
   abbrev now : Start → List (List Bool)
   now e = left e e.args.k e.args.ticks
@@ -54,147 +54,147 @@ module _ (t : ℕ) where
   abbrev then : Start → List Bool → List (List Bool)
   then e ticks = left e (e.args.k + 1) ticks
 
-  abbrev rules : Start → List Bool → Bool
-  rules e = allowed (plan_lines e.args.lines.now rules_from e.args.extent.rules)
+  abbrev holding : Start → List Bool → Bool
+  holding e = allowed (plan_lines e.args.lines.now rules_from e.args.extent.rules)
 
   -- all clocks are settled
-  ended : (s : fill-lts.Then1 (claims t) (fill-at t) fill.Post) → now s.before.before.before ≡ s.before.before.before.args.ticks ∷ []
-  ended s = let a = s.before.before.before.args in left_end a.t3 a.seen a.extent.clocks a.k a.ticks (omega arith)
+  ended : (s : fill-lts.Then-k-clocks (claims t) (fill-at t) fill.Post) → now s.before.before.before ≡ s.args.ticks ∷ []
+  ended s = let a = s.args in left_end a.flags a.seen a.extent.clocks a.k a.ticks (omega arith)
 
   -- a clock is left: the fillings by its tick
-  module _ (s : fill-lts.After-seen-at (claims t) (fill-at t) fill.Post) where
+  module _ (s : fill-lts.After-seen_at (claims t) (fill-at t) fill.Post) where
     abbrev e : Start
     e = s.before.before.before.before
 
     next : e.args.k < e.args.extent.clocks
-    next = omega (arith, s.before.if1.left, e.pre.1.clock)
+    next = omega (arith, s.if-k-clocks.false, e.requires.1.clock)
 
     enough : e.args.extent.clocks ≤ length e.args.seen
-    enough = let l : length e.args.seen ≡ 8 = e.good.1.1.1.1.0.1.0.1 in omega (arith, l, e.pre.1.few-clocks)
+    enough = let l : length e.args.seen ≡ 8 = e.well_formed.1.1.1.1.0.1.0.1 in omega (arith, l, e.requires.1.few-clocks)
 
-    flag : get_or e.args.t3 e.args.k true ≡ get_or e.args.t3 e.args.k false
-    flag = let l : length e.args.t3 ≡ 8 = e.good.1.1.0.1.0.1 in flag-there e.args.t3 e.args.k (omega (arith, l, next, e.pre.1.few-clocks))
+    flag : get_or e.args.flags e.args.k true ≡ get_or e.args.flags e.args.k false
+    flag = let l : length e.args.flags ≡ 8 = e.well_formed.1.1.0.1.0.1 in flag-there e.args.flags e.args.k (omega (arith, l, next, e.requires.1.few-clocks))
 
     idle : s.seen_at.result ≡ Idle → now e ≡ then e e.args.ticks
-    idle = left-idle e.args.t3 e.args.seen e.args.extent.clocks e.args.k e.args.ticks next enough s.seen_at.ensures
+    idle = left-idle e.args.flags e.args.seen e.args.extent.clocks e.args.k e.args.ticks next enough s.seen_at.ensures
 
-    irrelevant : s.seen_at.result ≡ Unseen → get_or e.args.t3 e.args.k false ≡ false → now e ≡ then e e.args.ticks
-    irrelevant f g = left-irrelevant e.args.t3 e.args.seen e.args.extent.clocks e.args.k e.args.ticks next enough s.seen_at.ensures f (flag ∙ g)
+    irrelevant : s.seen_at.result ≡ Unseen → get_or e.args.flags e.args.k false ≡ false → now e ≡ then e e.args.ticks
+    irrelevant f g = left-irrelevant e.args.flags e.args.seen e.args.extent.clocks e.args.k e.args.ticks next enough s.seen_at.ensures f (flag ∙ g)
 
     module _ {more : List Bool} (p : more ≡ set e.args.ticks e.args.k true) where
       tick : s.seen_at.result ≡ Ticks → now e ≡ then e more
-      tick = left-ticks e.args.t3 e.args.seen e.args.extent.clocks e.args.k e.args.ticks next enough s.seen_at.ensures p
+      tick = left-ticks e.args.flags e.args.seen e.args.extent.clocks e.args.k e.args.ticks next enough s.seen_at.ensures p
 
-      unseen : s.seen_at.result ≡ Unseen → get_or e.args.t3 e.args.k false ≡ true → now e ≡ then e e.args.ticks ++ then e more
-      unseen f g = left-unseen e.args.t3 e.args.seen e.args.extent.clocks e.args.k e.args.ticks next enough s.seen_at.ensures p f (flag ∙ g)
+      unseen : s.seen_at.result ≡ Unseen → get_or e.args.flags e.args.k false ≡ true → now e ≡ then e e.args.ticks ++ then e more
+      unseen f g = left-unseen e.args.flags e.args.seen e.args.extent.clocks e.args.k e.args.ticks next enough s.seen_at.ensures p f (flag ∙ g)
 
-  put-flags-requires : fill-lts.Need-put-flags-requires (claims t) (fill-at t) fill.Post
+  put-flags-requires : fill-lts.Need-put_flags-requires (claims t) (fill-at t) fill.Post
   put-flags-requires c κs =
       let s = c.before.before.before in
       let e = s.before.before.before in
       (e.requires.1.size, omega (arith, room-same e.args.n (ended s) e.requires.1.room))
 
-  returns : fill-lts.Need-returns (claims t) (fill-at t) fill.Post
+  returns : fill-lts.Need-returns-then-all_hold (claims t) (fill-at t) fill.Post
   returns c =
       let h = c.before.before.before in
       let e = h.before.before.before.before in
-      listed-one (rules e) (ended h.before) h.all_hold.ensures e.args.n e.args.list.now c.before.before.if2.true c.put-flags.new.0 c.put-flags.ensures.0 c.put-flags.ensures.1
+      listed-one (holding e) (ended h.before) h.all_hold.ensures e.args.n e.args.list.now c.if-all_hold.true c.put_flags.new.list c.put_flags.ensures.0 c.put_flags.ensures.1
 
-  returns-2 : fill-lts.Need-returns-2 (claims t) (fill-at t) fill.Post
+  returns-2 : fill-lts.Need-returns-then-k-clocks (claims t) (fill-at t) fill.Post
   returns-2 c =
       let h = c.before in
       let e = h.before.before.before.before in
-      listed-not (rules e) (ended h.before) h.all_hold.ensures e.args.n e.args.list.now c.if2.false e.requires.1.size
+      listed-not (holding e) (ended h.before) h.all_hold.ensures e.args.n e.args.list.now c.if-all_hold.false e.requires.1.size
 
   fill-requires : fill-lts.Need-fill-requires (claims t) (fill-at t) fill.Post
   fill-requires c κs =
-      let s = c.before.before.before in
+      let s = c.before.before in
       let p = (e s).requires.1 in
-      (omega (arith, next s), record { size = p.size; few-clocks = p.few-clocks; few-rules = p.few-rules; clock = omega (arith, next s); room = room-same (e s).args.n (idle s c.before.enum_told.given.1) p.room })
+      (omega (arith, next s), record { size = p.size; few-clocks = p.few-clocks; few-rules = p.few-rules; clock = omega (arith, next s); room = room-same (e s).args.n (idle s c.in-Idle.is) p.room })
 
-  fill-requires-2 : fill-lts.Need-fill-requires-2 (claims t) (fill-at t) fill.Post
+  fill-requires-2 : fill-lts.Need-fill-requires-in-Ticks (claims t) (fill-at t) fill.Post
   fill-requires-2 c κs =
       let w = c.before in
-      let s = w.before.before.before in
+      let s = w.before.before in
       let p = (e s).requires.1 in
-      (omega (arith, next s), record { size = p.size; few-clocks = p.few-clocks; few-rules = p.few-rules; clock = omega (arith, next s); room = room-same (e s).args.n (tick s w.with-tick.ensures w.before.enum-told2.given.1) p.room })
+      (omega (arith, next s), record { size = p.size; few-clocks = p.few-clocks; few-rules = p.few-rules; clock = omega (arith, next s); room = room-same (e s).args.n (tick s w.with_tick-set.ensures w.in-Ticks.is) p.room })
 
-  returns-3 : fill-lts.Need-returns-3 (claims t) (fill-at t) fill.Post
+  returns-3 : fill-lts.Need-returns-then-is_forbidden (claims t) (fill-at t) fill.Post
   returns-3 c =
-      let s = c.before.before.before.before in
+      let s = c.before.before.before in
       let a = (e s).args in
-      listed-none (rules (e s)) (now (e s)) a.n a.list.now (forbidden-none a.k a.ticks (plan_lines a.lines.now rules_from a.extent.rules) c.before.is-forbidden.ensures c.if3.true (relevant_only (λ j. get_or a.t3 j true) a.k (drop a.k (seen_of a.extent.clocks a.seen)))) (e s).requires.1.size
+      listed-none (holding (e s)) (now (e s)) a.n a.list.now (forbidden-none a.k a.ticks (plan_lines a.lines.now rules_from a.extent.rules) c.is_forbidden.ensures c.if-is_forbidden.true (relevant_only (λ j. get_or a.flags j true) a.k (drop a.k (seen_of a.extent.clocks a.seen)))) (e s).requires.1.size
 
   -- an unseen tick that is not cut
-  abbrev told : fill-lts.Else3 (claims t) (fill-at t) fill.Post → fill-lts.After-enum-told3 (claims t) (fill-at t) fill.Post
+  abbrev told : fill-lts.Else-is_forbidden (claims t) (fill-at t) fill.Post → fill-lts.In-Unseen (claims t) (fill-at t) fill.Post
   told c = c.before.before
 
-  fill-requires-3 : fill-lts.Need-fill-requires-3 (claims t) (fill-at t) fill.Post
+  fill-requires-3 : fill-lts.Need-fill-requires-then-not-flags-k (claims t) (fill-at t) fill.Post
   fill-requires-3 c κs =
       let h = c.before in
       let u = told h.before in
-      let s = u.before.before in
-      let p = (e s).pre.1 in
-      (omega (arith, next s), record { size = p.size; few-clocks = p.few-clocks; few-rules = p.few-rules; clock = omega (arith, next s); room = room-same (e s).args.n (irrelevant s u.enum-told3.given.1 (not-true _ h.if4.true)) p.room })
+      let s = u.before in
+      let p = (e s).requires.1 in
+      (omega (arith, next s), record { size = p.size; few-clocks = p.few-clocks; few-rules = p.few-rules; clock = omega (arith, next s); room = room-same (e s).args.n (irrelevant s u.in-Unseen.is (not-true _ h.if-not-flags-k.true-raw)) p.room })
 
-  returns-4 : fill-lts.Need-returns-4 (claims t) (fill-at t) fill.Post
+  returns-4 : fill-lts.Need-returns-then-not-flags-k (claims t) (fill-at t) fill.Post
   returns-4 c =
       let h = c.before.before in
       let u = told h.before in
-      let s = u.before.before in
-      listed_same (rules (e s)) (irrelevant s u.enum-told3.given.1 (not-true _ h.if4.true)) c.fill3.ensures
+      let s = u.before in
+      listed_same (holding (e s)) (irrelevant s u.in-Unseen.is (not-true _ h.if-not-flags-k.true-raw)) c.fill-then-not-flags-k.ensures
 
   -- its clock has a flag: it branches
-  module _ (h : fill-lts.Else4 (claims t) (fill-at t) fill.Post) where
-    abbrev at : fill-lts.After-seen-at (claims t) (fill-at t) fill.Post
-    at = (told h.before).before.before
+  module _ (h : fill-lts.Else-not-flags-k (claims t) (fill-at t) fill.Post) where
+    abbrev at : fill-lts.After-seen_at (claims t) (fill-at t) fill.Post
+    at = (told h.before).before
 
     both : {more : List Bool} → more ≡ set (e at).args.ticks (e at).args.k true → now (e at) ≡ then (e at) (e at).args.ticks ++ then (e at) more
-    both p = unseen at p (told h.before).enum-told3.given.1 (not-false _ h.if4.left)
+    both p = unseen at p (told h.before).in-Unseen.is (not-false _ h.if-not-flags-k.false-raw)
 
-  fill-requires-4 : fill-lts.Need-fill-requires-4 (claims t) (fill-at t) fill.Post
+  fill-requires-4 : fill-lts.Need-fill-idle-requires (claims t) (fill-at t) fill.Post
   fill-requires-4 c κs =
       let h = c.before in
       let s = at h in
-      let p = (e s).pre.1 in
+      let p = (e s).requires.1 in
       (omega (arith, next s), record { size = p.size; few-clocks = p.few-clocks; few-rules = p.few-rules; clock = omega (arith, next s); room = room-first (e s).args.n (then (e s) (e s).args.ticks) (then (e s) (set (e s).args.ticks (e s).args.k true)) (both h refl) p.room })
 
-  fill-requires-5 : fill-lts.Need-fill-requires-5 (claims t) (fill-at t) fill.Post
+  fill-requires-5 : fill-lts.Need-fill-requires-in-Unseen (claims t) (fill-at t) fill.Post
   fill-requires-5 c κs =
       let w = c.before in
       let f = w.before in
       let h = f.before.before in
       let s = at h in
-      let p = (e s).pre.1 in
-      let x = f.fill4.ensures in
-      (omega (arith, next s), record { size = x.size; few-clocks = p.few-clocks; few-rules = p.few-rules; clock = omega (arith, next s); room = room-second (e s).args.n f.fill4.result (then (e s) (e s).args.ticks) (then (e s) w.with-tick2.result) (both h w.with-tick2.ensures) p.room x.fewer })
+      let p = (e s).requires.1 in
+      let x = f.fill-idle.ensures in
+      (omega (arith, next s), record { size = x.size; few-clocks = p.few-clocks; few-rules = p.few-rules; clock = omega (arith, next s); room = room-second (e s).args.n f.fill-idle.result (then (e s) (e s).args.ticks) (then (e s) w.with_tick-set-in-Unseen.result) (both h w.with_tick-set-in-Unseen.ensures) p.room x.fewer })
 
-  returns-5 : fill-lts.Need-returns-5 (claims t) (fill-at t) fill.Post
+  returns-5 : fill-lts.Need-returns-in-Idle (claims t) (fill-at t) fill.Post
   returns-5 c =
       let u = c.before.before in
-      let s = u.before.before in
-      listed_same (rules (e s)) (idle s u.enum_told.given.1) c.fill.ensures
+      let s = u.before in
+      listed_same (holding (e s)) (idle s u.in-Idle.is) c.fill.ensures
 
-  returns-6 : fill-lts.Need-returns-6 (claims t) (fill-at t) fill.Post
+  returns-6 : fill-lts.Need-returns-in-Ticks (claims t) (fill-at t) fill.Post
   returns-6 c =
       let w = c.before.before in
-      let s = w.before.before.before in
-      listed_same (rules (e s)) (tick s w.with-tick.ensures w.before.enum-told2.given.1) c.fill2.ensures
+      let s = w.before.before in
+      listed_same (holding (e s)) (tick s w.with_tick-set.ensures w.in-Ticks.is) c.fill-in-Ticks.ensures
 
-  returns-7 : fill-lts.Need-returns-7 (claims t) (fill-at t) fill.Post
+  returns-7 : fill-lts.Need-returns-else-not-flags-k (claims t) (fill-at t) fill.Post
   returns-7 c =
       let w = c.before.before in
       let f = w.before in
       let h = f.before.before in
-      listed-both (rules (e (at h))) (both h w.with-tick2.ensures) f.fill4.ensures c.fill5.ensures
+      listed-both (holding (e (at h))) (both h w.with_tick-set-in-Unseen.ensures) f.fill-idle.ensures c.fill-in-Unseen.ensures
 
-pub +fill-spec : {M : Type 1} → statement M
-+fill-spec = close μ-fill λ t. fill-lts.spec (claims t) (fill-at t) fill.Post
+pub +fill_spec : {M : Type 1} → statement M
++fill_spec = close μ-fill λ t. fill-lts.spec (claims t) (fill-at t) fill.Post
     (λ c. search rules) (λ c. search rules)
     (λ c κs. search rules) (put-flags-requires t) (λ c. search rules) (returns t) (returns-2 t)
-    (λ c κs. omega (arith, c.before.before.before.requires.1.few-clocks, c.before.before.before.requires.1.clock)) (λ c. search rules) (λ c. search rules) (fill-requires t)
-    (λ c. search rules) (λ c κs. omega (arith, next t c.before.before, (e t c.before.before).pre.1.few-clocks)) (λ c. search rules) (fill-requires-2 t)
+    (λ c κs. omega (arith, c.requires.1.few-clocks, c.requires.1.clock)) (λ c. search rules) (λ c. search rules) (fill-requires t)
+    (λ c. search rules) (λ c κs. omega (arith, next t c.before, (e t c.before).requires.1.few-clocks)) (λ c. search rules) (fill-requires-2 t)
     (λ c. search rules) (λ c κs. search rules) (returns-3 t)
-    (λ c. omega (arith, next t (told t c).before.before, (e t (told t c).before.before).pre.1.few-clocks)) (λ c. search rules) (fill-requires-3 t) (returns-4 t) (λ c. search rules) (fill-requires-4 t)
-    (λ c κs. omega (arith, next t (at t c.before.before), (e t (at t c.before.before)).pre.1.few-clocks)) (λ c. search rules) (fill-requires-5 t)
+    (λ c. omega (arith, next t (told t c).before, (e t (told t c).before).requires.1.few-clocks)) (λ c. search rules) (fill-requires-3 t) (returns-4 t) (λ c. search rules) (fill-requires-4 t)
+    (λ c κs. omega (arith, next t (at t c.before.before), (e t (at t c.before.before)).requires.1.few-clocks)) (λ c. search rules) (fill-requires-5 t)
     (returns-5 t) (returns-6 t) (returns-7 t)

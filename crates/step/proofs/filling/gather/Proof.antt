@@ -26,8 +26,8 @@ returns c =
     let e = c.before.before.before.before in
     let l = e.before in
     let s = l.before in
-    let a = s.before.args in
-    let b = e.begin-delays.ensures in
+    let a = s.args in
+    let b = e.begin_delays-begins.ensures in
     let f = filled_of a.ticks a.tags in
     record {
       ticked = refl;
@@ -42,12 +42,12 @@ returns c =
           owed = (part-begins obligation_of same_obligation same_read (owed_from most_tag f) is_delay most_tag a.ticks a.tags a.lines.now delays_from a.plan.delays v.lines b.obligations planned.delays b.reads ∙ ap (once_each same_obligation) (delays-enough most_tag f v.lines)) i;
           countdowns = (part-begins countdown_of same_countdown same-counted (started_by f) is_counted most_tag a.ticks a.tags a.lines.now counted_rows a.plan.counted v.lines b.countdowns planned.counted (λ j h. reads-counted most_tag a.ticks a.tags (plan_line a.lines.now _)) ∙ ap (once_each same_countdown) (counted-enough f v.lines)) i;
         };
-        ends = s.all-stops.ensures ∙ ap (λ ls. all_stopped a.ticks ls (replicate 8 false)) planned.rules;
-        needed = λ k h. l.lead-changes.ensures.needed k h ∙ ap (need_of a.ticks) (planned.all k h);
-        gained = λ k h. l.lead-changes.ensures.gained k h ∙ ap (gain_of a.ticks) (planned.all k h);
-        lost = λ k h. l.lead-changes.ensures.lost k h ∙ ap (loss_of a.ticks) (planned.all k h);
+        ends = s.all_stops-stops.ensures ∙ ap (λ ls. all_stopped a.ticks ls (replicate 8 false)) planned.rules;
+        needed = λ k h. l.lead_changes-changes.ensures.needed k h ∙ ap (need_of a.ticks) (planned.all k h);
+        gained = λ k h. l.lead_changes-changes.ensures.gained k h ∙ ap (gain_of a.ticks) (planned.all k h);
+        lost = λ k h. l.lead_changes-changes.ensures.lost k h ∙ ap (loss_of a.ticks) (planned.all k h);
       };
     }
 
-pub gather-spec : {M : Type 1} → statement M
-gather-spec = tie.close (tie.spec (λ c κs. search rules) (λ c κs. search rules) (λ c κs. search rules) returns)
+pub gather_spec : {M : Type 1} → statement M
+gather_spec = tie.close (tie.spec (λ c κs. search rules) (λ c κs. search rules) (λ c κs. search rules) returns)

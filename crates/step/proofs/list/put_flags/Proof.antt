@@ -9,29 +9,29 @@ use Rattle.step.proofs.list.Laws.{filling-more}
 use Rattle.step.proofs.list.put_flags.Statement.{statement}
 use Rattle.step.proofs.list.put_flags.Tie as tie
 
-abbrev invariant-loop : tie.invariant-loop
+abbrev invariant-loop : tie.invariant-loop-k
 invariant-loop was n ticks k₀ list k = (k ≤ 8) × Copied false (8 * n) was ticks list k
 
-abbrev decreases-loop : tie.decreases-loop
+abbrev decreases-loop : tie.decreases-loop-k
 decreases-loop was n ticks k₀ list k = 8 - k
 
-loop-again : tie.Need-loop-preserved invariant-loop decreases-loop
+loop-again : tie.Need-loop-k-preserved invariant-loop decreases-loop
 loop-again c =
     let s = c.before.before in
-    let l = s.well-formed.1.1.0.1.0.1 in
-    (omega arith, copied_more false (8 * s.args.n) s.args.list.now s.args.t3 c.before.loop.list c.before.loop.k c.before.loop.invariant.1 (omega arith) (omega arith))
+    let l = s.well_formed.1.1.0.1.0.1 in
+    (omega arith, copied_more false (8 * s.args.n) s.args.list.now s.args.ticks c.loop-k.list c.loop-k.k c.loop-k.invariant.1 (omega arith) (omega arith))
 
 returns : tie.Need-returns invariant-loop decreases-loop
 returns c =
     let s = c.before.before in
-    let w = c.before.loop.invariant.1 in (
+    let w = c.loop-k.invariant.1 in (
       w.0 ∙ s.requires.0,
-      filling-more s.args.n s.args.list.now c.before.loop.list s.args.t3
-          (λ h l. places-stay false (8 * s.args.n) (8 * h) 8 s.args.list.now c.before.loop.list (omega arith) w.2)
-          (copied_all false (8 * s.args.n) s.args.list.now s.args.t3 c.before.loop.list c.before.loop.k w 8 s.well-formed.1.1.0.1.0.1 (omega arith)),
+      filling-more s.args.n s.args.list.now c.loop-k.list s.args.ticks
+          (λ h l. places-stay false (8 * s.args.n) (8 * h) 8 s.args.list.now c.loop-k.list (omega arith) w.2)
+          (copied_all false (8 * s.args.n) s.args.list.now s.args.ticks c.loop-k.list c.loop-k.k w 8 s.well_formed.1.1.0.1.0.1 (omega arith)),
     )
 
-pub put-flags-spec : {M : Type 1} → statement M
-put-flags-spec =
-    tie.close (tie.spec invariant-loop decreases-loop (λ c. (omega arith, copied-start false (8 * c.args.n) c.args.list.now c.args.t3))
+pub put_flags_spec : {M : Type 1} → statement M
+put_flags_spec =
+    tie.close (tie.spec invariant-loop decreases-loop (λ c. (omega arith, copied-start false (8 * c.args.n) c.args.list.now c.args.ticks))
     (λ c. search rules) (λ c. search rules) (λ c. search rules) (λ c. search rules) (λ c. search rules) (λ c. search rules) loop-again returns)
