@@ -6,14 +6,14 @@ use borrow.Author.Rules.{rules}
 use Rattle.gateway.proofs.lift_judge.Statement.{statement}
 use Rattle.gateway.proofs.lift_judge.Tie as tie
 
-judge-log-requires : tie.Need-judge-log-requires
-judge-log-requires c κs = search rules
+judge_log-requires : tie.Need-judge_log-judged-requires
+judge_log-requires c κs = search rules
 
-pack-reply-requires : tie.Need-pack-reply-requires
-pack-reply-requires c κs = rw c.judge-log.ensures (judged-small _ _)
+pack_reply-requires : tie.Need-pack_reply-requires
+pack_reply-requires c κs = rw c.judge_log-judged.ensures (judged-small _ _)
 
 returns : tie.Need-returns
-returns c = c.pack-reply.ensures ∙ ap judged_code c.before.judge-log.ensures
+returns c = c.pack_reply.ensures ∙ ap judged_code c.judge_log-judged.ensures
 
-pub lift-judge-spec : {M : Type 1} → statement M
-lift-judge-spec = tie.close (tie.spec judge-log-requires pack-reply-requires returns)
+pub lift_judge_spec : {M : Type 1} → statement M
+lift_judge_spec = tie.close (tie.spec judge_log-requires pack_reply-requires returns)

@@ -4,11 +4,11 @@ use Rattle.gateway.proofs.Live.{observed-small, observed-lifted}
 use Rattle.gateway.proofs.lift_observe.Statement.{statement}
 use Rattle.gateway.proofs.lift_observe.Tie as tie
 
-pack-reply-requires : tie.Need-pack-reply-requires
-pack-reply-requires c κs = observed-small c.observe-state.ensures
+pack_reply-requires : tie.Need-pack_reply-requires
+pack_reply-requires c κs = observed-small c.observe_state-replied.ensures
 
 returns : tie.Need-returns
-returns c = observed-lifted c.before.observe-state.ensures c.pack-reply.ensures
+returns c = observed-lifted c.observe_state-replied.ensures c.pack_reply.ensures
 
-pub lift-observe-spec : {M : Type 1} → statement M
-lift-observe-spec = tie.close (tie.spec (λ c κs. search rules) pack-reply-requires returns)
+pub lift_observe_spec : {M : Type 1} → statement M
+lift_observe_spec = tie.close (tie.spec (λ c κs. search rules) pack_reply-requires returns)

@@ -4,8 +4,8 @@ use Rattle.gateway.proofs.Live.{opened-small}
 use Rattle.gateway.proofs.lift_open.Statement.{statement}
 use Rattle.gateway.proofs.lift_open.Tie as tie
 
-pack-reply-requires : tie.Need-pack-reply-requires
-pack-reply-requires c κs = opened-small c.open-state.ensures
+pack_reply-requires : tie.Need-pack_reply-requires
+pack_reply-requires c κs = opened-small c.open_state-reply.ensures
 
-pub lift-open-spec : {M : Type 1} → statement M
-lift-open-spec = tie.close (tie.spec (λ c κs. search rules) pack-reply-requires (λ c. search rules))
+pub lift_open_spec : {M : Type 1} → statement M
+lift_open_spec = tie.close (tie.spec (λ c κs. search rules) pack_reply-requires (λ c. search rules))

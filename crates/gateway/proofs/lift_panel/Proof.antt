@@ -4,22 +4,22 @@ use borrow.Author.Rules.{rules}
 use Rattle.gateway.proofs.lift_panel.Statement.{statement}
 use Rattle.gateway.proofs.lift_panel.Tie as tie
 
-follow-log-requires : tie.Need-follow-log-requires
-follow-log-requires c κs = search rules
+follow_log-requires : tie.Need-follow_log-last-requires
+follow_log-requires c κs = search rules
 
-owing-after-requires : tie.Need-owing-after-requires
-owing-after-requires c κs = search rules
+owing_after-requires : tie.Need-owing_after-owing-requires
+owing_after-requires c κs = search rules
 
-reply-number-requires : tie.Need-reply-number-requires
-reply-number-requires c κs = search rules
+reply_number-requires : tie.Need-reply_number-requires
+reply_number-requires c κs = search rules
 
 pack-requires : tie.Need-pack-requires
-pack-requires c κs = log-few _ _ _ c.before.before.follow-log.ensures
+pack-requires c κs = log-few _ _ _ c.follow_log-last.ensures
 
 returns : tie.Need-returns
-returns c = shown-code _ _ _ c.before.before.before.follow-log.ensures _ _ _ _ c.before.before.owing-after.ensures c.before.reply-number.ensures c.pack.ensures
+returns c = shown-code _ _ _ c.follow_log-last.ensures _ _ _ _ c.owing_after-owing.ensures c.reply_number.ensures c.pack.ensures
 
-pub lift-panel-spec : {M : Type 1} → statement M
-lift-panel-spec =
+pub lift_panel_spec : {M : Type 1} → statement M
+lift_panel_spec =
     tie.close
-    (tie.spec follow-log-requires owing-after-requires reply-number-requires pack-requires returns)
+    (tie.spec follow_log-requires owing_after-requires reply_number-requires pack-requires returns)

@@ -4,14 +4,14 @@ use borrow.Author.Rules.{rules}
 use Rattle.gateway.proofs.lift_sheet_number.Statement.{statement}
 use Rattle.gateway.proofs.lift_sheet_number.Tie as tie
 
-read-sheet-requires : tie.Need-read-sheet-requires
-read-sheet-requires c κs = search rules
+read_sheet-requires : tie.Need-read_sheet-read-requires
+read_sheet-requires c κs = search rules
 
-reading-number-requires : tie.Need-reading-number-requires
-reading-number-requires c κs = search rules
+reading_number-requires : tie.Need-reading_number-requires
+reading_number-requires c κs = search rules
 
 returns : tie.Need-returns
-returns c = sheet-number _ c.reading-number.ensures c.before.read-sheet.ensures
+returns c = sheet-number _ c.reading_number.ensures c.read_sheet-read.ensures
 
-pub lift-sheet-number-spec : {M : Type 1} → statement M
-lift-sheet-number-spec = tie.close (tie.spec read-sheet-requires reading-number-requires returns)
+pub lift_sheet_number_spec : {M : Type 1} → statement M
+lift_sheet_number_spec = tie.close (tie.spec read_sheet-requires reading_number-requires returns)

@@ -8,17 +8,17 @@ use Rattle.gateway.proofs.lift_watch.Statement.{statement}
 use Rattle.gateway.proofs.lift_watch.Tie as tie
 
 -- the log watched
-module _ (c : tie.After-slice-known2) where
-  abbrev watched : tie.After-watch-log
+module _ (c : tie.After-slice_known-2-1) where
+  abbrev watched : tie.After-watch_log-judged
   watched = c.before.before
 
-pack-reply-requires : tie.Need-pack-reply-requires
-pack-reply-requires c κs = rw (ap (λ (w : Watched). w.result) (watched c).watch-log.ensures) (watched-small _ _ _)
+pack_reply-requires : tie.Need-pack_reply-requires
+pack_reply-requires c κs = rw (ap (λ (w : Watched). w.result) (watched c).watch_log-judged.ensures) (watched-small _ _ _)
 
 returns : tie.Need-returns
 returns c =
-    let w = (watched c.before).watch-log.ensures in
-    (c.pack-reply.ensures ∙ ap (λ (w : Watched). judged_code w.result) w, ap (λ (w : Watched). w.buffer) w)
+    let w = (watched c.before).watch_log-judged.ensures in
+    (c.pack_reply.ensures ∙ ap (λ (w : Watched). judged_code w.result) w, ap (λ (w : Watched). w.buffer) w)
 
-pub lift-watch-spec : {M : Type 1} → statement M
-lift-watch-spec = tie.close (tie.spec (λ c κs. search rules) pack-reply-requires (λ c. search rules) returns)
+pub lift_watch_spec : {M : Type 1} → statement M
+lift_watch_spec = tie.close (tie.spec (λ c κs. search rules) pack_reply-requires (λ c. search rules) returns)

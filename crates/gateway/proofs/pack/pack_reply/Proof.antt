@@ -4,15 +4,15 @@ use borrow.Author.Rules.{rules}
 use Rattle.gateway.proofs.pack.pack_reply.Statement.{statement}
 use Rattle.gateway.proofs.pack.pack_reply.Tie as tie
 
-returns : tie.Need-returns
-returns c = refused-code _ _ _ c.before.before.reply.given.1 c.pack.ensures
+returns : tie.Need-returns-in-Refused
+returns c = refused-code _ _ _ c.in-Refused.is c.pack.ensures
 
-returns-2 : tie.Need-returns-2
+returns-2 : tie.Need-returns-in-Answered
 returns-2 c =
     let coded = c.before.before.before in
-    let told = coded.before.before in
-    answered-code _ _ _ told.reply2.given.1 (reply-live _ _ told.before.before.requires told.reply2.given.1) coded.answer-code.ensures c.before.before.live-code.ensures c.before.clear-code.ensures c.pack2.ensures
+    let told = coded.before in
+    answered-code _ _ _ told.in-Answered.is (reply-live _ _ told.requires told.in-Answered.is) coded.answer_code.ensures c.live_code.ensures c.clear_code.ensures c.pack-in-Answered.ensures
 
-pub pack-reply-spec : {M : Type 1} → statement M
-pack-reply-spec =
+pub pack_reply_spec : {M : Type 1} → statement M
+pack_reply_spec =
     tie.close (tie.spec (λ c. search rules) (λ c κs. search rules) (λ c. search rules) (λ c κs. search rules) (λ c κs. search rules) (λ c κs. search rules) (λ c κs. search rules) returns returns-2)

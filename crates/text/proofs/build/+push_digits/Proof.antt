@@ -30,35 +30,35 @@ push-digits-below t = and 0 push-digits-kinds.ps (falls 0 push-digits-kinds.ps �
 abbrev claims : ℕ → push-digits-lts.Claims
 claims t = (digit-of-reads.Asked, digit-of-reads.Learnt, push-reads.Asked, push-reads.Learnt, push-digits-below t, push-digits.Post)
 
-push-digits-digit-of-requires : (t : ℕ) → push-digits-lts.Need-digit-of-requires (claims t) (push-digits-at t) push-digits.Post
-push-digits-digit-of-requires t c κs = c.if1.true
+push-digits-digit-of-requires : (t : ℕ) → push-digits-lts.Need-digit_of-requires (claims t) (push-digits-at t) push-digits.Post
+push-digits-digit-of-requires t c κs = c.if-n-lt10.true
 
 push-digits-push-requires : (t : ℕ) → push-digits-lts.Need-push-requires (claims t) (push-digits-at t) push-digits.Post
-push-digits-push-requires t c κs = let e = c.before.before in omega (arith, e.requires.1, ap length (decimal-one e.args.n c.before.if1.true))
+push-digits-push-requires t c κs = let e = c.before.before in omega (arith, e.requires.1, ap length (decimal-one e.args.n c.if-n-lt10.true))
 
-push-digits-returns : (t : ℕ) → push-digits-lts.Need-returns (claims t) (push-digits-at t) push-digits.Post
-push-digits-returns t c = alike c.push.ensures (ap (λ d. d ∷ []) c.before.digit-of.ensures ∙ sym (decimal-one _ c.before.before.if1.true))
+push-digits-returns : (t : ℕ) → push-digits-lts.Need-returns-then-n-lt10 (claims t) (push-digits-at t) push-digits.Post
+push-digits-returns t c = alike c.push.ensures (ap (λ d. d ∷ []) c.digit_of.ensures ∙ sym (decimal-one _ c.if-n-lt10.true))
 
-push-digits-push-digits-requires : (t : ℕ) → push-digits-lts.Need-push-digits-requires (claims t) (push-digits-at t) push-digits.Post
+push-digits-push-digits-requires : (t : ℕ) → push-digits-lts.Need-push_digits-front-requires (claims t) (push-digits-at t) push-digits.Post
 push-digits-push-digits-requires t c κs =
     let e = c.before in
-    (omega (arith, e.requires.0), omega (arith, e.requires.1, longer e.args.n c.if1.false))
+    (omega (arith, e.requires.0), omega (arith, e.requires.1, longer e.args.n c.if-n-lt10.false))
 
-push-digits-digit-of-requires-2 : (t : ℕ) → push-digits-lts.Need-digit-of-requires-2 (claims t) (push-digits-at t) push-digits.Post
+push-digits-digit-of-requires-2 : (t : ℕ) → push-digits-lts.Need-digit_of-requires-2 (claims t) (push-digits-at t) push-digits.Post
 push-digits-digit-of-requires-2 t c κs = omega arith
 
 push-digits-push-requires-2 : (t : ℕ) → push-digits-lts.Need-push-requires-2 (claims t) (push-digits-at t) push-digits.Post
 push-digits-push-requires-2 t c κs =
     let e = c.before.before.before in
-    omega (arith, e.requires.1, c.before.push-digits.ensures.len, longer e.args.n c.before.before.if1.false)
+    omega (arith, e.requires.1, c.push_digits-front.ensures.len, longer e.args.n c.if-n-lt10.false)
 
-push-digits-returns-2 : (t : ℕ) → push-digits-lts.Need-returns-2 (claims t) (push-digits-at t) push-digits.Post
+push-digits-returns-2 : (t : ℕ) → push-digits-lts.Need-returns (claims t) (push-digits-at t) push-digits.Post
 push-digits-returns-2 t c =
-    let n = c.before.before.before.before.args.n in
-    alike (and_then c.before.before.push-digits.ensures c.push2.ensures) (ap (λ (d : ℕ). decimal (n / 10) ++ (d ∷ [])) c.before.digit-of2.ensures ∙ sym (decimal-more n c.before.before.before.if1.false))
+    let n = c.args.n in
+    alike (and_then c.push_digits-front.ensures c.push-2.ensures) (ap (λ (d : ℕ). decimal (n / 10) ++ (d ∷ [])) c.digit_of-2.ensures ∙ sym (decimal-more n c.if-n-lt10.false))
 
-pub +push-digits-spec : {M : Type 1} → statement M
-+push-digits-spec = close μ-push-digits λ t. push-digits-lts.spec (claims t)
+pub +push_digits_spec : {M : Type 1} → statement M
++push_digits_spec = close μ-push-digits λ t. push-digits-lts.spec (claims t)
     (push-digits-at t)
     push-digits.Post
     (push-digits-digit-of-requires t)

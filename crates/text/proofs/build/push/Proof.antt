@@ -9,7 +9,7 @@ use Rattle.text.proofs.build.push.Tie as tie
 
 returns : tie.Need-returns
 returns c =
-    let l : length c.args.t.bytes ≡ 64 = simp length-map at c.well-formed.0.1.1.1.0.1.0.1 in
+    let l : length c.args.t.bytes ≡ 64 = c.well_formed.0.1.1.1.0.1.0.1 in
     record { len = refl; text = one_more c.args.t c.args.byte (omega (arith, l, c.requires)); within = omega arith }
 
 pub push_spec : {M : Type 1} → statement M

@@ -11,30 +11,30 @@ use Rattle.text.proofs.build.push_cents.Statement.{statement}
 use Rattle.text.proofs.build.push_cents.Tie as tie
 
 -- ---- all put: the places where the tenths, the point and the whole part were
-module _ (c : tie.After-push2) where
-  abbrev tenths : tie.After-push
+module _ (c : tie.After-push) where
+  abbrev tenths : tie.After-push-tenths
   tenths = c.before.before
 
-  abbrev point : tie.After-push-word
+  abbrev point : tie.After-push_word-point
   point = tenths.before.before
 
-  abbrev whole : tie.After-push-decimal
-  whole = point.before.before
+  abbrev whole : tie.After-push_decimal-whole
+  whole = point.before.before.before
 
   abbrev entry : tie.Start
   entry = whole.before
 
-  made : Adds entry.args.t (cents entry.args.n) c.push2.result
+  made : Adds entry.args.t (cents entry.args.n) c.push.result
   unfolding cents
   made =
       let n = entry.args.n in
-      alike (and_then whole.push-decimal.ensures.1 (and_then point.push-word.ensures (and_then tenths.push.ensures c.push2.ensures)))
-      (ap (λ (d : ℕ). decimal (n / 100) ++ (46 ∷ d ∷ c.before.digit-of2.result ∷ [])) tenths.before.digit-of.ensures ∙ ap (λ (d : ℕ). decimal (n / 100) ++ (46 ∷ digit (n / 10 % 10) ∷ d ∷ [])) c.before.digit-of2.ensures)
+      alike (and_then whole.push_decimal-whole.ensures.1 (and_then point.push_word-point.ensures (and_then tenths.push-tenths.ensures c.push.ensures)))
+      (ap (λ (d : ℕ). decimal (n / 100) ++ (46 ∷ d ∷ c.digit_of-2.result ∷ [])) tenths.digit_of.ensures ∙ ap (λ (d : ℕ). decimal (n / 100) ++ (46 ∷ digit (n / 10 % 10) ∷ d ∷ [])) c.digit_of-2.ensures)
 
 returns : tie.Need-returns
 returns c = (omega (arith, (made c).len), made c)
 
-pub push-cents-spec : {M : Type 1} → statement M
-push-cents-spec =
-    tie.close (tie.spec (λ c κs. omega arith) (λ c. search rules) (λ c κs. omega arith) (λ c κs. search rules) (λ c κs. omega arith)
+pub push_cents_spec : {M : Type 1} → statement M
+push_cents_spec =
+    tie.close (tie.spec (λ c κs. omega arith) (λ c κs. omega arith) (λ c κs. search rules) (λ c κs. omega arith)
     (λ c κs. search rules) (λ c κs. omega arith) returns)

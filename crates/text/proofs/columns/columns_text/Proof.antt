@@ -14,44 +14,44 @@ use Rattle.text.proofs.columns.Laws.{text-refused, text-read, clocks-read}
 use Rattle.text.proofs.columns.columns_text.Statement.{statement}
 use Rattle.text.proofs.columns.columns_text.Tie as tie
 
-abbrev start : tie.After-read-sheet → tie.Start
+abbrev start : tie.After-read_sheet-read → tie.Start
 start c = c.before.before.before
 
-sheet-bytes : (c : tie.After-read-sheet) → IsBytes (start c).args.sheet.now
-sheet-bytes c = each-byte (start c).args.sheet.now (λ i. (c.before.before.shared-slice-known.given i).fits)
+sheet-bytes : (c : tie.After-read_sheet-read) → IsBytes (start c).args.sheet.now
+sheet-bytes c = each-byte (start c).args.sheet.now (λ i. (c.shared_slice_known-1.given i).fits)
 
-room : (c : tie.After-read-sheet) → length (columns_text (start c).args.sheet.now (start c).args.log.now) ≤ 448011
-room c = columns-room (start c).args.sheet.now (start c).args.log.now (each-byte (start c).args.log.now (λ i. (c.before.shared-slice-known2.given i).fits))
+room : (c : tie.After-read_sheet-read) → length (columns_text (start c).args.sheet.now (start c).args.log.now) ≤ 448011
+room c = columns-room (start c).args.sheet.now (start c).args.log.now (each-byte (start c).args.log.now (λ i. (c.shared_slice_known-2-1.given i).fits))
 
-put-line-requires : tie.Need-put-line-requires
-put-line-requires c κs =
-    let a = c.before.before.before in
-    let r = a.before.before in
-    let text = text-refused _ (start r).args.log.now r.read-sheet.ensures a.answer.given.1 in
-    record { len = c.refusal-line.ensures.0; room = rw c.refusal-line.ensures.1 (omega (arith, room r, ap length text)) }
-
-put-instants-requires : tie.Need-put-instants-requires
-put-instants-requires c κs =
+put_line-requires : tie.Need-put_line-requires
+put_line-requires c κs =
     let a = c.before.before in
-    let r = a.before.before in
-    let text = text-read _ (start r).args.log.now r.read-sheet.ensures a.enum_told.given.1 in
-    record { clocks = clocks-read _ (start r).args.log.now r.read-sheet.ensures a.enum_told.given.1 (sheet-bytes r); room = omega (arith, room r, ap length text) }
+    let r = a.before in
+    let text = text-refused _ (start r).args.log.now r.read_sheet-read.ensures a.in-Refused.is in
+    record { len = c.refusal_line.ensures.0; room = rw c.refusal_line.ensures.1 (omega (arith, room r, ap length text)) }
 
-returns : tie.Need-returns
+put_instants-requires : tie.Need-put_instants-requires
+put_instants-requires c κs =
+    let a = c.before.before in
+    let r = a.before in
+    let text = text-read _ (start r).args.log.now r.read_sheet-read.ensures a.in-Done.is in
+    record { clocks = clocks-read _ (start r).args.log.now r.read_sheet-read.ensures a.in-Done.is (sheet-bytes r); room = omega (arith, room r, ap length text) }
+
+returns : tie.Need-returns-in-Refused
 returns c =
     let line = c.before in
-    let a = line.before.before.before in
-    let r = a.before.before in
-    let text = text-refused _ (start r).args.log.now r.read-sheet.ensures a.answer.given.1 in
-    rw text (put-once (refusal_line _) _ (omega (arith, room r, ap length text)) (put-bytes c.put-line.ensures line.refusal-line.ensures.1) (put-end c.put-line.ensures line.refusal-line.ensures.1))
+    let a = line.before.before in
+    let r = a.before in
+    let text = text-refused _ (start r).args.log.now r.read_sheet-read.ensures a.in-Refused.is in
+    rw text (put-once (refusal_line _) _ (omega (arith, room r, ap length text)) (put-bytes c.put_line.ensures line.refusal_line.ensures.1) (put-end c.put_line.ensures line.refusal_line.ensures.1))
 
-returns-2 : tie.Need-returns-2
+returns-2 : tie.Need-returns-in-Done
 returns-2 c =
     let a = c.before.before.before in
-    let r = a.before.before in
-    rw (text-read _ (start r).args.log.now r.read-sheet.ensures a.enum_told.given.1) c.put-instants.ensures
+    let r = a.before in
+    rw (text-read _ (start r).args.log.now r.read_sheet-read.ensures a.in-Done.is) c.put_instants.ensures
 
-pub columns-text-spec : {M : Type 1} → statement M
-columns-text-spec =
+pub columns_text_spec : {M : Type 1} → statement M
+columns_text_spec =
     tie.close
-    (tie.spec (λ c κs. search rules) (λ c. search rules) (λ c κs. search rules) put-line-requires (λ c. search rules) put-instants-requires returns returns-2)
+    (tie.spec (λ c κs. search rules) (λ c. search rules) (λ c κs. search rules) put_line-requires (λ c. search rules) put_instants-requires returns returns-2)

@@ -13,108 +13,108 @@ use Rattle.text.proofs.columns.Laws.{span-bytes, Telling, telling-start, told-en
 use Rattle.text.proofs.columns.put_instants.Statement.{statement}
 use Rattle.text.proofs.columns.put_instants.Tie as tie
 
-abbrev invariant-loop : tie.invariant-loop
+abbrev invariant-loop : tie.invariant-loop-at
 invariant-loop clocks log out₀ taken₀ end₀ at₀ out taken end at = Telling clocks log out₀ out taken end at
 
-abbrev decreases-loop : tie.decreases-loop
+abbrev decreases-loop : tie.decreases-loop-at
 decreases-loop clocks log out₀ taken₀ end₀ at₀ out taken end at = length log - at
 
 -- ---- places
 
-abbrev start : tie.At-loop invariant-loop decreases-loop → tie.Start invariant-loop decreases-loop
+abbrev start : tie.At-loop-at invariant-loop decreases-loop → tie.Start invariant-loop decreases-loop
 start c = c.before.before.before
 
-abbrev head : tie.After-read-next invariant-loop decreases-loop → tie.At-loop invariant-loop decreases-loop
+abbrev head : tie.After-read_next-read invariant-loop decreases-loop → tie.At-loop-at invariant-loop decreases-loop
 head c = c.before.before.before
 
 -- 12 to 16, 19, and an instant that is taken
-abbrev refusing : tie.After-refusal-line invariant-loop decreases-loop → tie.After-answer invariant-loop decreases-loop
-refusing c = c.before.before.before
+abbrev refusing : tie.After-refusal_line invariant-loop decreases-loop → tie.In-Refused invariant-loop decreases-loop
+refusing c = c.before.before
 
-abbrev taking : tie.After-put-tags-arg invariant-loop decreases-loop → tie.After-enum-told invariant-loop decreases-loop
+abbrev taking : tie.After-put_tags-arg-1 invariant-loop decreases-loop → tie.In-Done invariant-loop decreases-loop
 taking c = c.before.before.before
 
 -- the record at this place of the log
-here : (c : tie.After-record-bytes invariant-loop decreases-loop) → TheRecord c.before.before.before.before.before.args.log.now c.before.before.loop.at c.record-bytes.result.now
-here c = the-record _ _ c.record-bytes.ensures c.before.loop-test.true
+here : (c : tie.After-record_bytes-record invariant-loop decreases-loop) → TheRecord c.args.log.now c.loop-at.at c.record_bytes-record.result.now
+here c = the-record _ _ c.record_bytes-record.ensures c.loop-at-test.true
 
-bytes : (c : tie.After-record-bytes invariant-loop decreases-loop) → IsBytes c.record-bytes.result.now
+bytes : (c : tie.After-record_bytes-record invariant-loop decreases-loop) → IsBytes c.record_bytes-record.result.now
 bytes c =
     let known = c.before.before.before.before in
-    span-bytes known.before.args.log.now c.before.before.loop.at (each-byte known.before.args.log.now (λ i. (known.shared-slice-known.given i).fits)) c.record-bytes.ensures
+    span-bytes known.args.log.now c.loop-at.at (each-byte known.args.log.now (λ i. (known.shared_slice_known-1.given i).fits)) c.record_bytes-record.ensures
 
 -- ---- needs
 
-loop-holds : tie.Need-loop-init invariant-loop decreases-loop
+loop-holds : tie.Need-loop-at-init invariant-loop decreases-loop
 loop-holds c = telling-start _ _ _
 
-put-line-requires : tie.Need-put-line-requires invariant-loop decreases-loop
-put-line-requires c κs =
+put_line-requires : tie.Need-put_line-requires invariant-loop decreases-loop
+put_line-requires c κs =
     let a = refusing c in
-    let r = a.before.before in
+    let r = a.before in
     let h = head r in
     record {
-      len = c.refusal-line.ensures.0;
-      room = rw c.refusal-line.ensures.1 (refused-room h.loop.inv (start h).pre (here r.before) (reading-refused h.loop.inv (start h).pre (here r.before) r.read_next.ensures a.answer.given.1));
+      len = c.refusal_line.ensures.0;
+      room = rw c.refusal_line.ensures.1 (refused-room h.loop-at.invariant (start h).requires (here r.before) (reading-refused h.loop-at.invariant (start h).requires (here r.before) r.read_next-read.ensures a.in-Refused.is));
     }
 
-same_length : tie.Need-same-length invariant-loop decreases-loop
+same_length : tie.Need-shape_of-out-in-Refused invariant-loop decreases-loop
 same_length c =
     let p = c.before.before in
-    put-size p.put-line.ensures ∙ same_size (head (refusing p.before).before.before).loop.inv.printing.putting
+    put-size p.put_line.ensures ∙ same_size (head (refusing p.before).before).loop-at.invariant.printing.putting
 
-returns : tie.Need-returns invariant-loop decreases-loop
+returns : tie.Need-returns-in-Refused invariant-loop decreases-loop
 returns c =
     let p = c.before.before in
     let line = p.before in
     let a = refusing line in
-    let r = a.before.before in
+    let r = a.before in
     let h = head r in
-    told-refused h.loop.inv (start h).pre (here r.before) (reading-refused h.loop.inv (start h).pre (here r.before) r.read_next.ensures a.answer.given.1)
-    (put-bytes p.put-line.ensures line.refusal-line.ensures.1) (put-end p.put-line.ensures line.refusal-line.ensures.1)
+    told-refused h.loop-at.invariant (start h).requires (here r.before) (reading-refused h.loop-at.invariant (start h).requires (here r.before) r.read_next-read.ensures a.in-Refused.is)
+    (put-bytes p.put_line.ensures line.refusal_line.ensures.1) (put-end p.put_line.ensures line.refusal_line.ensures.1)
 
-put-tags-requires : tie.Need-put-tags-requires invariant-loop decreases-loop
-put-tags-requires c κs =
+put_tags-requires : tie.Need-put_tags-end-requires invariant-loop decreases-loop
+put_tags-requires c κs =
     let e = taking c in
-    let r = e.before.before in
+    let r = e.before in
     let h = head r in
-    record { clocks = (start h).pre.clocks; room = tags-room h.loop.inv (start h).pre (here r.before) r.read_next.ensures e.enum_told.given.1 (bytes r.before) }
+    record { clocks = (start h).requires.clocks; room = tags-room h.loop-at.invariant (start h).requires (here r.before) r.read_next-read.ensures e.in-Done.is (bytes r.before) }
 
 -- after the lines of an instant
-abbrev put : tie.After-slice-known3 invariant-loop decreases-loop → tie.After-put-tags invariant-loop decreases-loop
+abbrev put : tie.After-slice_known-in-Done-1 invariant-loop decreases-loop → tie.After-put_tags-end invariant-loop decreases-loop
 put c = c.before.before
 
-abbrev record-read : tie.After-put-tags invariant-loop decreases-loop → tie.After-record-bytes invariant-loop decreases-loop
-record-read c = (taking c.before).before.before.before
+abbrev record-read : tie.After-put_tags-end invariant-loop decreases-loop → tie.After-record_bytes-record invariant-loop decreases-loop
+record-read c = (taking c.before).before.before
 
-add-taken : tie.Need-overflow-add-taken invariant-loop decreases-loop
+add-taken : tie.Need-overflow_add-taken invariant-loop decreases-loop
 add-taken c =
     let e = taking (put c).before in
-    let r = e.before.before in
+    let r = e.before in
     let h = head r in
-    record { fits = omega (arith, few-taken h.loop.inv (start h).pre (here r.before) r.read_next.ensures e.enum_told.given.1) }
+    record { fits = omega (arith, few-taken h.loop-at.invariant (start h).requires (here r.before) r.read_next-read.ensures e.in-Done.is) }
 
-add_at : tie.Need-overflow-add-at invariant-loop decreases-loop
+add_at : tie.Need-overflow_add-at invariant-loop decreases-loop
 add_at c = omega (arith, (here (record-read (put c))).within)
 
-loop-less : tie.Need-loop-smaller invariant-loop decreases-loop
+loop-less : tie.Need-loop-at-smaller invariant-loop decreases-loop
 loop-less c = omega (arith, (here (record-read (put c))).some)
 
-loop-again : tie.Need-loop-preserved invariant-loop decreases-loop
+loop-again : tie.Need-loop-at-preserved invariant-loop decreases-loop
 loop-again c =
     let p = put c in
     let e = taking p.before in
-    let r = e.before.before in
+    let r = e.before in
     let h = head r in
-    told_more h.loop.inv (start h).pre (here r.before) r.read_next.ensures e.enum_told.given.1 (bytes r.before) p.put-tags.ensures.stored p.put-tags.ensures.ends
+    told_more h.loop-at.invariant (start h).requires (here r.before) r.read_next-read.ensures e.in-Done.is (bytes r.before) p.put_tags-end.ensures.stored p.put_tags-end.ensures.ends
 
-same-length-2 : tie.Need-same-length-2 invariant-loop decreases-loop
-same-length-2 c = same_size c.before.loop.invariant.printing.putting
+same_length-2 : tie.Need-shape_of-out invariant-loop decreases-loop
+same_length-2 c = same_size c.loop-at.invariant.printing.putting
 
-returns-2 : tie.Need-returns-2 invariant-loop decreases-loop
-returns-2 c = told-end c.before.loop.invariant (start c.before).pre c.loop-test.false
+returns-2 : tie.Need-returns invariant-loop decreases-loop
+returns-2 c = told-end c.loop-at.invariant (start c.before).requires c.loop-at-test.false
 
-pub put-instants-spec : {M : Type 1} → statement M
-put-instants-spec =
+pub put_instants_spec : {M : Type 1} → statement M
+put_instants_spec =
     tie.close (tie.spec invariant-loop decreases-loop loop-holds (λ c κs. search rules) (λ c κs. search rules) (λ c. search rules) (λ c κs. search rules)
-    put-line-requires same_length returns (λ c. search rules) put-tags-requires add-taken add_at loop-less loop-again same-length-2 returns-2)
+    put_line-requires same_length returns (λ c. search rules) put_tags-requires add-taken add_at loop-less loop-again same_length-2 returns-2)

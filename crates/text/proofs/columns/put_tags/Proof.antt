@@ -12,46 +12,46 @@ use Rattle.text.proofs.columns.Laws.{Listing, listing-size, listed-all, line-roo
 use Rattle.text.proofs.columns.put_tags.Statement.{statement}
 use Rattle.text.proofs.columns.put_tags.Tie as tie
 
-abbrev invariant-loop : tie.invariant-loop
+abbrev invariant-loop : tie.invariant-loop-i
 invariant-loop out₀ at tags clocks n end₀ i₀ out end i = Listing at tags n out₀ out end i
 
-abbrev decreases-loop : tie.decreases-loop
+abbrev decreases-loop : tie.decreases-loop-i
 decreases-loop out₀ at tags clocks n end₀ i₀ out end i = n - i
 
-abbrev turn : tie.After-column-line invariant-loop decreases-loop → tie.In-loop invariant-loop decreases-loop
+abbrev turn : tie.After-column_line invariant-loop decreases-loop → tie.In-loop-i invariant-loop decreases-loop
 turn c = c.before.before.before
 
 -- the line is that of the tag at this clock
-line : (c : tie.After-column-line invariant-loop decreases-loop) → text_of c.column-line.result ≡ column_line (cell_tag c.before.before.before.before.before.before.args.tags c.before.before.before.before.loop.i)
-line c = c.column-line.ensures.1 ∙ ap column_line (back c.before.tag_at.type-inv c.before.tag_at.ensures)
+line : (c : tie.After-column_line invariant-loop decreases-loop) → text_of c.column_line.result ≡ column_line (cell_tag c.args.tags c.loop-i.i)
+line c = c.column_line.ensures.1 ∙ ap column_line (back c.tag_at.type_inv c.tag_at.ensures)
 
-loop-holds : tie.Need-loop-init invariant-loop decreases-loop
+loop-holds : tie.Need-loop-i-init invariant-loop decreases-loop
 loop-holds c =
     let s = c.before in
-    let l : length s.args.tags ≡ 8 = s.well-formed.1.1.0.1.0.1 in
+    let l : length s.args.tags ≡ 8 = s.well_formed.1.1.0.1.0.1 in
     record { turns = omega arith; few = omega (arith, l, s.requires.clocks); room = s.requires.room; ends = omega arith; stored = refl }
 
-tag-at-requires : tie.Need-tag-at-requires invariant-loop decreases-loop
-tag-at-requires c κs = omega (arith, c.before.before.before.before.requires.clocks)
+tag_at-requires : tie.Need-tag_at-requires invariant-loop decreases-loop
+tag_at-requires c κs = omega (arith, c.requires.clocks)
 
-put-line-requires : tie.Need-put-line-requires invariant-loop decreases-loop
-put-line-requires c κs =
+put_line-requires : tie.Need-put_line-end-requires invariant-loop decreases-loop
+put_line-requires c κs =
     let t = turn c in
-    record { len = c.column-line.ensures.0; room = rw (line c) (line-room t.before.loop.inv t.loop-test.taken) }
+    record { len = c.column_line.ensures.0; room = rw (line c) (line-room t.loop-i.invariant t.loop-i-test.true) }
 
-loop-again : tie.Need-loop-preserved invariant-loop decreases-loop
+loop-again : tie.Need-loop-i-preserved invariant-loop decreases-loop
 loop-again c =
     let p = c.before.before in
     let t = turn p.before in
-    listing-more t.before.loop.inv t.loop-test.taken (put-bytes p.put-line.ensures (line p.before)) (put-end p.put-line.ensures (line p.before))
+    listing-more t.loop-i.invariant t.loop-i-test.true (put-bytes p.put_line-end.ensures (line p.before)) (put-end p.put_line-end.ensures (line p.before))
 
-same_length : tie.Need-same-length invariant-loop decreases-loop
-same_length c = listing-size c.before.loop.invariant
+same_length : tie.Need-shape_of-out invariant-loop decreases-loop
+same_length c = listing-size c.loop-i.invariant
 
 returns : tie.Need-returns invariant-loop decreases-loop
-returns c = listed-all c.before.loop.invariant c.loop-test.false
+returns c = listed-all c.loop-i.invariant c.loop-i-test.false
 
-pub put-tags-spec : {M : Type 1} → statement M
-put-tags-spec =
+pub put_tags_spec : {M : Type 1} → statement M
+put_tags_spec =
     tie.close
-    (tie.spec invariant-loop decreases-loop loop-holds tag-at-requires (λ c κs. search rules) put-line-requires (λ c. search rules) (λ c. search rules) loop-again same_length returns)
+    (tie.spec invariant-loop decreases-loop loop-holds tag_at-requires (λ c κs. search rules) put_line-requires (λ c. search rules) (λ c. search rules) loop-again same_length returns)

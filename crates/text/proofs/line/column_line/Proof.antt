@@ -14,10 +14,10 @@ returns c =
     let space = count.before in
     let raw = space.before.before in
     let start = raw.before.before in
-    made start.blank.ensures (and_then raw.push-decimal.ensures.1 (and_then space.push-word.ensures (and_then count.push-hundredths.ensures.1 c.push-word2.ensures)))
-    (rw (raw.before.raw_of.ensures, to_z-of_z start.before.ranges.tag))
+    made start.blank.ensures (and_then raw.push_decimal-raw.ensures.1 (and_then space.push_word-space.ensures (and_then count.push_hundredths-count.ensures.1 c.push_word.ensures)))
+    (rw (raw.raw_of.ensures, to_z-of_z start.ranges.tag))
 
-pub column-line-spec : {M : Type 1} → statement M
-column-line-spec =
-    tie.close (tie.spec (λ c κs. search rules) (λ c κs. search rules) (λ c. search rules) (λ c κs. omega arith) (λ c. search rules)
-    (λ c κs. omega arith) (λ c κs. omega arith) (λ c. search rules) (λ c κs. omega arith) returns)
+pub column_line_spec : {M : Type 1} → statement M
+column_line_spec =
+    tie.close (tie.spec (λ c κs. search rules) (λ c κs. search rules) (λ c. search rules) (λ c κs. omega arith)
+    (λ c κs. omega arith) (λ c κs. omega arith) (λ c κs. omega arith) returns)

@@ -12,9 +12,9 @@ unfolding line
 returns c =
     let number = c.before.before in
     let refused = number.before in
-    made refused.before.before.blank.ensures (and_then refused.push-word.ensures (and_then number.push-decimal.ensures.1 c.push-word2.ensures)) refl
+    made refused.blank.ensures (and_then refused.push_word-refused.ensures (and_then number.push_decimal-number.ensures.1 c.push_word.ensures)) refl
 
-pub refusal-line-spec : {M : Type 1} → statement M
-refusal-line-spec =
-    tie.close (tie.spec (λ c κs. search rules) (λ c. search rules) (λ c κs. search rules) (λ c κs. omega arith) (λ c. search rules)
+pub refusal_line_spec : {M : Type 1} → statement M
+refusal_line_spec =
+    tie.close (tie.spec (λ c κs. search rules) (λ c κs. search rules) (λ c κs. omega arith)
     (λ c κs. omega arith) returns)

@@ -13,13 +13,13 @@ use Rattle.text.proofs.put.put_line.Statement.{statement}
 use Rattle.text.proofs.put.put_line.Tie as tie
 
 -- a line's array has 64 places, so its bytes are as many as `len` says
-sixty-four : {I : tie.invariant-loop} {μ : tie.decreases-loop} (c : tie.Start I μ) → length c.args.t.bytes ≡ 64
-sixty-four c = simp length-map at c.well-formed.1.1.0.1.1.1.0.1.0.1
+sixty-four : {I : tie.invariant-loop-i} {μ : tie.decreases-loop-i} (c : tie.Start I μ) → length c.args.t.bytes ≡ 64
+sixty-four c = c.well_formed.1.1.0.1.1.1.0.1.0.1
 
-size : {I : tie.invariant-loop} {μ : tie.decreases-loop} (c : tie.Start I μ) → length (text_of c.args.t) ≡ c.args.t.len
+size : {I : tie.invariant-loop-i} {μ : tie.decreases-loop-i} (c : tie.Start I μ) → length (text_of c.args.t) ≡ c.args.t.len
 size c = length-take-le c.args.t.len c.args.t.bytes (omega (arith, sixty-four c, c.requires.len))
 
-abbrev invariant-loop : tie.invariant-loop
+abbrev invariant-loop : tie.invariant-loop-i
 invariant-loop out₀ at n bytes i₀ out i =
     (i ≤ n)
     × (n ≤ length bytes)
@@ -28,23 +28,23 @@ invariant-loop out₀ at n bytes i₀ out i =
     × (length out ≡ length out₀)
     × (puts out₀ at (take n bytes) ≡ puts out (at + i) (take (n - i) (drop i bytes)))
 
-abbrev decreases-loop : tie.decreases-loop
+abbrev decreases-loop : tie.decreases-loop-i
 decreases-loop out₀ at n bytes i₀ out i = n - i
 
-loop-holds : tie.Need-loop-init invariant-loop decreases-loop
+loop-holds : tie.Need-loop-i-init invariant-loop decreases-loop
 loop-holds c =
     let s = c.before in
     (omega arith, omega (arith, sixty-four s, s.requires.len), s.requires.len, omega (arith, size s, s.requires.room), refl, rw (sub-zero, add-zero))
 
-loop-again : tie.Need-loop-preserved invariant-loop decreases-loop
+loop-again : tie.Need-loop-i-preserved invariant-loop decreases-loop
 loop-again c =
-    let inv = c.before.loop.invariant in
+    let inv = c.loop-i.invariant in
     (omega arith, inv.1, inv.2, inv.3, rw length-set inv.4, search (rules, stored_more))
 
 returns : tie.Need-returns invariant-loop decreases-loop
 returns c = record { ends = omega (arith, size c.before.before.before); stored = search (rules, stored-all) }
 
-pub put-line-spec : {M : Type 1} → statement M
-put-line-spec =
+pub put_line_spec : {M : Type 1} → statement M
+put_line_spec =
     tie.close
     (tie.spec invariant-loop decreases-loop loop-holds (λ c. search rules) (λ c. search rules) (λ c. search rules) (λ c. search rules) (λ c. search rules) loop-again (λ c. search rules) (λ c. search rules) returns)

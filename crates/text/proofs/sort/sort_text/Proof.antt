@@ -14,45 +14,45 @@ use Rattle.text.proofs.sort.sort_text.Statement.{statement}
 use Rattle.text.proofs.sort.sort_text.Tie as tie
 
 -- ---- the sheet sorted
-module _ (c : tie.After-sort-sheet) where
+module _ (c : tie.After-sort_sheet) where
   abbrev start : tie.Start
   start = c.before.before.before
 
   bytes : IsBytes start.args.sheet.now
-  bytes = each-byte start.args.sheet.now (λ i. (c.before.before.shared-slice-known.given i).fits)
+  bytes = each-byte start.args.sheet.now (λ i. (c.shared_slice_known-1.given i).fits)
 
   room : 165 ≤ length start.args.out.now
   room = omega arith
 
 -- ---- refused
-module _ (c : tie.After-n) where
-  abbrev sorted : tie.After-sort-sheet
-  sorted = c.before.before
+module _ (c : tie.In-Refused) where
+  abbrev sorted : tie.After-sort_sheet
+  sorted = c.before
 
-  refuses : Refuses (start sorted).args.sheet.now (bytes sorted) (start sorted).args.out.now (room sorted) _ _ sorted.sort-sheet.ensures c.n.given.0.0
-  refuses = sort-refused _ (bytes sorted) _ (room sorted) _ _ sorted.sort-sheet.ensures c.n.given.1
+  refuses : Refuses (start sorted).args.sheet.now (bytes sorted) (start sorted).args.out.now (room sorted) _ _ sorted.sort_sheet.ensures c.in-Refused.n
+  refuses = sort-refused _ (bytes sorted) _ (room sorted) _ _ sorted.sort_sheet.ensures c.in-Refused.is
 
 -- ---- its line
-module _ (c : tie.After-refusal-line) where
-  abbrev told : tie.After-n
-  told = c.before.before.before
+module _ (c : tie.After-refusal_line) where
+  abbrev told : tie.In-Refused
+  told = c.before.before
 
-  short : length (refusal_line told.n.given.0.0) ≤ 11
-  short = refusal-short told.n.given.0.0 (omega (arith, (refuses told).small))
+  short : length (refusal_line told.in-Refused.n) ≤ 11
+  short = refusal-short told.in-Refused.n (omega (arith, (refuses told).small))
 
-put-line-requires : tie.Need-put-line-requires
-put-line-requires c κs =
+put_line-requires : tie.Need-put_line-requires
+put_line-requires c κs =
     let r = refuses (told c) in
-    record { len = c.refusal-line.ensures.0; room = rw c.refusal-line.ensures.1 (omega (arith, short c, ap length r.same, room (sorted (told c)))) }
+    record { len = c.refusal_line.ensures.0; room = rw c.refusal_line.ensures.1 (omega (arith, short c, ap length r.same, room (sorted (told c)))) }
 
-returns : tie.Need-returns
+returns : tie.Need-returns-in-Refused
 returns c =
     let l = c.before in
     let r = refuses (told l) in
-    sort-line _ _ _ _ _ _ _ r (put-once (refusal_line _) _ (omega (arith, short l, ap length r.same, room (sorted (told l)))) (put-bytes c.put-line.ensures l.refusal-line.ensures.1) (put-end c.put-line.ensures l.refusal-line.ensures.1))
+    sort-line _ _ _ _ _ _ _ r (put-once (refusal_line _) _ (omega (arith, short l, ap length r.same, room (sorted (told l)))) (put-bytes c.put_line.ensures l.refusal_line.ensures.1) (put-end c.put_line.ensures l.refusal_line.ensures.1))
 
-returns-2 : tie.Need-returns-2
-returns-2 c = let s = c.before.before.before in sort-done _ (bytes s) _ (room s) _ _ s.sort-sheet.ensures c.before.n2.given.1
+returns-2 : tie.Need-returns-in-Bytes
+returns-2 c = let s = c.before in sort-done _ (bytes s) _ (room s) _ _ s.sort_sheet.ensures c.in-Bytes.is
 
-pub sort-text-spec : {M : Type 1} → statement M
-sort-text-spec = tie.close (tie.spec (λ c κs. search rules) (λ c. search rules) (λ c κs. search rules) put-line-requires (λ c. search rules) returns returns-2)
+pub sort_text_spec : {M : Type 1} → statement M
+sort_text_spec = tie.close (tie.spec (λ c κs. search rules) (λ c. search rules) (λ c κs. search rules) put_line-requires (λ c. search rules) returns returns-2)

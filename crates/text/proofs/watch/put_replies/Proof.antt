@@ -11,94 +11,94 @@ use Rattle.text.proofs.watch.Laws.{Telling, telling-start, told-end, refused-roo
 use Rattle.text.proofs.watch.put_replies.Statement.{statement}
 use Rattle.text.proofs.watch.put_replies.Tie as tie
 
-abbrev invariant-loop : tie.invariant-loop
+abbrev invariant-loop : tie.invariant-loop-at
 invariant-loop log out₀ monitor₀ end₀ at₀ out monitor end at = Telling log out₀ monitor₀ out monitor end at
 
-abbrev decreases-loop : tie.decreases-loop
+abbrev decreases-loop : tie.decreases-loop-at
 decreases-loop log out₀ monitor₀ end₀ at₀ out monitor end at = length log - at
 
 -- ---- places
 
-abbrev start : tie.At-loop invariant-loop decreases-loop → tie.Start invariant-loop decreases-loop
+abbrev start : tie.At-loop-at invariant-loop decreases-loop → tie.Start invariant-loop decreases-loop
 start c = c.before.before.before
 
-abbrev read : tie.After-observe invariant-loop decreases-loop → tie.After-record-bytes invariant-loop decreases-loop
+abbrev read : tie.After-observe-given invariant-loop decreases-loop → tie.After-record_bytes-record invariant-loop decreases-loop
 read c = c.before
 
-abbrev head : tie.After-observe invariant-loop decreases-loop → tie.At-loop invariant-loop decreases-loop
+abbrev head : tie.After-observe-given invariant-loop decreases-loop → tie.At-loop-at invariant-loop decreases-loop
 head c = c.before.before.before
 
-abbrev refusing : tie.After-refusal-line invariant-loop decreases-loop → tie.After-reply invariant-loop decreases-loop
-refusing c = c.before.before.before
+abbrev refusing : tie.After-refusal_line invariant-loop decreases-loop → tie.In-Refused invariant-loop decreases-loop
+refusing c = c.before.before
 
-abbrev answering : tie.After-answer-line invariant-loop decreases-loop → tie.After-reply2 invariant-loop decreases-loop
-answering c = c.before.before.before.before
+abbrev answering : tie.After-answer_line invariant-loop decreases-loop → tie.In-Answered invariant-loop decreases-loop
+answering c = c.before.before.before
 
 -- the record at this place of the log
-here : (c : tie.After-record-bytes invariant-loop decreases-loop) → TheRecord c.before.before.before.before.before.args.log.now c.before.before.loop.at c.record-bytes.result.now
-here c = the-record _ _ c.record-bytes.ensures c.before.loop-test.true
+here : (c : tie.After-record_bytes-record invariant-loop decreases-loop) → TheRecord c.args.log.now c.loop-at.at c.record_bytes-record.result.now
+here c = the-record _ _ c.record_bytes-record.ensures c.loop-at-test.true
 
 -- ---- needs
 
-loop-holds : tie.Need-loop-init invariant-loop decreases-loop
-loop-holds c = telling-start _ _ _ c.before.before.requires
+loop-holds : tie.Need-loop-at-init invariant-loop decreases-loop
+loop-holds c = telling-start _ _ _ c.requires
 
-put-line-requires : tie.Need-put-line-requires invariant-loop decreases-loop
-put-line-requires c κs =
+put_line-requires : tie.Need-put_line-requires invariant-loop decreases-loop
+put_line-requires c κs =
     let r = refusing c in
-    let o = r.before.before in
+    let o = r.before in
     let h = head o in
-    record { len = c.refusal-line.ensures.0; room = rw c.refusal-line.ensures.1 (refused-room h.loop.inv (start h).pre (here (read o)) o.observe.ensures r.reply.given.1) }
+    record { len = c.refusal_line.ensures.0; room = rw c.refusal_line.ensures.1 (refused-room h.loop-at.invariant (start h).requires (here (read o)) o.observe-given.ensures r.in-Refused.is) }
 
-same_length : tie.Need-same-length invariant-loop decreases-loop
+same_length : tie.Need-shape_of-out-in-Refused invariant-loop decreases-loop
 same_length c =
     let p = c.before.before in
-    put-size p.put-line.ensures ∙ same_size (head (refusing p.before).before.before).loop.inv.printing.putting
+    put-size p.put_line.ensures ∙ same_size (head (refusing p.before).before).loop-at.invariant.printing.putting
 
-returns : tie.Need-returns invariant-loop decreases-loop
+returns : tie.Need-returns-in-Refused invariant-loop decreases-loop
 returns c =
     let p = c.before.before in
     let line = p.before in
     let r = refusing line in
-    let o = r.before.before in
+    let o = r.before in
     let h = head o in
-    told-refused h.loop.inv (start h).pre (here (read o)) o.observe.ensures r.reply.given.1
-    (put-bytes p.put-line.ensures line.refusal-line.ensures.1) (put-end p.put-line.ensures line.refusal-line.ensures.1)
+    told-refused h.loop-at.invariant (start h).requires (here (read o)) o.observe-given.ensures r.in-Refused.is
+    (put-bytes p.put_line.ensures line.refusal_line.ensures.1) (put-end p.put_line.ensures line.refusal_line.ensures.1)
 
-put-line-requires-2 : tie.Need-put-line-requires-2 invariant-loop decreases-loop
-put-line-requires-2 c κs =
+put_line-requires-2 : tie.Need-put_line-end-requires invariant-loop decreases-loop
+put_line-requires-2 c κs =
     let r = answering c in
-    let o = r.before.before in
+    let o = r.before in
     let h = head o in
-    record { len = c.answer-line.ensures.0; room = rw c.answer-line.ensures.1 (answered-room h.loop.inv (start h).pre (here (read o)) o.observe.ensures r.reply2.given.1) }
+    record { len = c.answer_line.ensures.0; room = rw c.answer_line.ensures.1 (answered-room h.loop-at.invariant (start h).requires (here (read o)) o.observe-given.ensures r.in-Answered.is) }
 
 -- after the line of an answer
-abbrev told : tie.After-slice-known3 invariant-loop decreases-loop → tie.After-answer-line invariant-loop decreases-loop
+abbrev told : tie.After-slice_known-in-Answered-1 invariant-loop decreases-loop → tie.After-answer_line invariant-loop decreases-loop
 told c = c.before.before.before
 
-add_at : tie.Need-overflow-add-at invariant-loop decreases-loop
-add_at c = omega (arith, (here (read (answering (told c)).before.before)).within)
+add_at : tie.Need-overflow_add-at invariant-loop decreases-loop
+add_at c = omega (arith, (here (read (answering (told c)).before)).within)
 
-loop-less : tie.Need-loop-smaller invariant-loop decreases-loop
-loop-less c = omega (arith, (here (read (answering (told c)).before.before)).some)
+loop-less : tie.Need-loop-at-smaller invariant-loop decreases-loop
+loop-less c = omega (arith, (here (read (answering (told c)).before)).some)
 
-loop-again : tie.Need-loop-preserved invariant-loop decreases-loop
+loop-again : tie.Need-loop-at-preserved invariant-loop decreases-loop
 loop-again c =
     let p = c.before.before in
     let line = p.before in
     let r = answering line in
-    let o = r.before.before in
+    let o = r.before in
     let h = head o in
-    told_more h.loop.inv (start h).pre (here (read o)) o.observe.ensures r.reply2.given.1
-    (put-bytes p.put-line2.ensures line.answer-line.ensures.1) (put-end p.put-line2.ensures line.answer-line.ensures.1)
+    told_more h.loop-at.invariant (start h).requires (here (read o)) o.observe-given.ensures r.in-Answered.is
+    (put-bytes p.put_line-end.ensures line.answer_line.ensures.1) (put-end p.put_line-end.ensures line.answer_line.ensures.1)
 
-same-length-2 : tie.Need-same-length-2 invariant-loop decreases-loop
-same-length-2 c = same_size c.before.loop.invariant.printing.putting
+same_length-2 : tie.Need-shape_of-out invariant-loop decreases-loop
+same_length-2 c = same_size c.loop-at.invariant.printing.putting
 
-returns-2 : tie.Need-returns-2 invariant-loop decreases-loop
-returns-2 c = told-end c.before.loop.invariant (start c.before).pre c.loop-test.false
+returns-2 : tie.Need-returns invariant-loop decreases-loop
+returns-2 c = told-end c.loop-at.invariant (start c.before).requires c.loop-at-test.false
 
-pub put-replies-spec : {M : Type 1} → statement M
-put-replies-spec =
+pub put_replies_spec : {M : Type 1} → statement M
+put_replies_spec =
     tie.close
-    (tie.spec invariant-loop decreases-loop loop-holds (λ c κs. search rules) (λ c κs. search rules) (λ c. search rules) (λ c κs. search rules) put-line-requires same_length returns (λ c. search rules) (λ c κs. search rules) put-line-requires-2 add_at loop-less loop-again same-length-2 returns-2)
+    (tie.spec invariant-loop decreases-loop loop-holds (λ c κs. search rules) (λ c κs. search rules) (λ c. search rules) (λ c κs. search rules) put_line-requires same_length returns (λ c. search rules) (λ c κs. search rules) put_line-requires-2 add_at loop-less loop-again same_length-2 returns-2)
