@@ -10,8 +10,8 @@ loop-i-preserved c =
     let small = c.loop-i.invariant.0 in
     let count = c.loop-i.invariant.1 in
     elim c.if-owes.branch [
-        then-owes w ↦ (omega (arith, w.n-is, small), count-next _ _ _ _ _ _ _ _ c.loop-i-test.true c.owes.ensures count (omega (arith, w.n-is, ap bit w.if-owes.true)))
-        | else-owes w ↦ (omega (arith, w.n-is, small), count-next _ _ _ _ _ _ _ _ c.loop-i-test.true c.owes.ensures count (omega (arith, w.n-is, ap bit w.if-owes.false)))
+      | then-owes w ↦ (omega (arith, w.n-is, small), count-next _ _ _ _ _ _ _ _ c.loop-i-test.true c.owes.ensures count (omega (arith, w.n-is, ap bit w.if-owes.true)))
+      | else-owes w ↦ (omega (arith, w.n-is, small), count-next _ _ _ _ _ _ _ _ c.loop-i-test.true c.owes.ensures count (omega (arith, w.n-is, ap bit w.if-owes.false)))
     ]
 
 pub returns : goal.returns
