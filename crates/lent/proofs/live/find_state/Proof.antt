@@ -25,14 +25,6 @@ returns c =
 abbrev test : tie.After-check_sheet → tie.Else-not-is_state
 test c = c.before.before
 
-returns-2 : tie.Need-returns-then-instants-gt-MAX_INSTANTS
-returns-2 c =
-    let t = c.before in
-    let e = t.before in
-    let h = e.before in
-    let i = (test h).before in
-    found-many (start i).args.state.now (long i) i.progress_in-progress.ensures h.sheet_in-sheet.ensures h.check_sheet.ensures e.in-Done.is (omega (arith, t.if-instants-gt-MAX_INSTANTS.true)) c.nothing_found-then-instants-gt-MAX_INSTANTS.ensures
-
 returns-3 : tie.Need-returns-in-Refused
 returns-3 c =
     let e = c.before in
@@ -54,15 +46,19 @@ rows_within-requires c κs =
     let i = (test h).before in
     found-tests (start i).args.state.now (long i) i.progress_in-progress.ensures h.sheet_in-sheet.ensures h.check_sheet.ensures e.in-Done.is i.is_state.ensures (test h).if-not-is_state.false-raw c.plan_of-plan.ensures
 
-returns-4 : tie.Need-returns-else-instants-gt-MAX_INSTANTS
-returns-4 c =
-    let p = c.before in
-    let f = p.before.before in
-    let e = f.before in
-    let h = e.before in
-    let i = (test h).before in
-    found-held (start i).args.state.now (long i) i.progress_in-progress.ensures h.sheet_in-sheet.ensures h.check_sheet.ensures e.in-Done.is i.is_state.ensures (test h).if-not-is_state.false-raw p.plan_of-plan.ensures (omega (arith, f.if-instants-gt-MAX_INSTANTS.false)) c.rows_within-ok.ensures
-
+-- (the test of the count of instants is not named, since its name would go with the bound)
 pub find_state_spec : {M : Type 1} → statement M
 find_state_spec =
-    tie.close (tie.spec (λ c κs. search rules) (λ c κs. search rules) (λ c κs. search rules) (λ c κs. search rules) returns (λ c κs. search rules) (λ c κs. search rules) (λ c. search rules) (λ c κs. search rules) (λ c. search rules) (λ c κs. search rules) returns-2 plan_of-requires rows_within-requires returns-3 returns-4)
+    tie.close (tie.spec (λ c κs. search rules) (λ c κs. search rules) (λ c κs. search rules) (λ c κs. search rules) returns (λ c κs. search rules) (λ c κs. search rules) (λ c. search rules) (λ c κs. search rules) (λ c. search rules) (λ c κs. search rules)
+    (λ c.
+    let e = c.before.before in
+    let h = e.before in
+    let i = (test h).before in
+    found-many (start i).args.state.now (long i) i.progress_in-progress.ensures h.sheet_in-sheet.ensures h.check_sheet.ensures e.in-Done.is (omega arith) (search rules))
+    plan_of-requires rows_within-requires returns-3
+    (λ c.
+    let p = c.before in
+    let e = p.before.before.before in
+    let h = e.before in
+    let i = (test h).before in
+    found-held (start i).args.state.now (long i) i.progress_in-progress.ensures h.sheet_in-sheet.ensures h.check_sheet.ensures e.in-Done.is i.is_state.ensures (test h).if-not-is_state.false-raw p.plan_of-plan.ensures (omega arith) c.rows_within-ok.ensures))

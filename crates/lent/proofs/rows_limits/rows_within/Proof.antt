@@ -8,21 +8,19 @@ use Rattle.lent.proofs.rows_limits.rows_within.Tie as tie
 abbrev start : tie.In-Live → tie.Start
 start c = c.before
 
-returns : tie.Need-returns-then-n-gt-MAX_LIVE
-returns c =
-    let k = c.before in
-    let a = (start k).args in
-    held-many a.instants a.rows.now a.from k.in-Live.is (omega (arith, c.if-n-gt-MAX_LIVE.true))
-
 returns-2 : tie.Need-returns-in-Exhausted
 returns-2 c = let a = c.args in held_none a.instants a.rows.now a.from c.in-Exhausted.is
 
-returns-3 : tie.Need-returns-else-n-gt-MAX_LIVE
-returns-3 c =
-    let k = c.before.before in
-    let a = (start k).args in
-    held-live a.instants a.rows.now a.from k.in-Live.is (omega (arith, c.if-n-gt-MAX_LIVE.false)) c.each_row_within.ensures
-
+-- (the test of the count is not named, since its name would go with the bound)
 pub rows_within_spec : {M : Type 1} → statement M
 rows_within_spec =
-    tie.close (tie.spec (λ c. search rules) (λ c. search rules) returns (λ c κs. search rules) returns-2 returns-3)
+    tie.close (tie.spec (λ c. search rules) (λ c. search rules)
+    (λ c.
+    let k = c.before in
+    let a = (start k).args in
+    held-many a.instants a.rows.now a.from k.in-Live.is (omega arith))
+    (λ c κs. search rules) returns-2
+    (λ c.
+    let k = c.before.before in
+    let a = (start k).args in
+    held-live a.instants a.rows.now a.from k.in-Live.is (omega arith) c.each_row_within.ensures))

@@ -59,11 +59,9 @@ stopped e = e.before.before
 abbrev turn : tie.Else-not-same_stopped invariant-loop decreases-loop invariant-held decreases-held → tie.In-held invariant-loop decreases-loop invariant-held decreases-held
 turn e = first_count (leads (stopped e))
 
-abbrev smaller-count : tie.Else-row_count-fewer invariant-loop decreases-loop invariant-held decreases-held → tie.Else-not-same_stopped invariant-loop decreases-loop invariant-held decreases-held
-smaller-count e = e.before.before
-
-abbrev some-owed : tie.Else-count-eq0 invariant-loop decreases-loop invariant-held decreases-held → tie.Else-row_count-fewer invariant-loop decreases-loop invariant-held decreases-held
-some-owed e = e.before
+-- (the test of the smaller set's count is not named anywhere here, since its name would go with what it compares)
+abbrev as-many : tie.Else-count-eq0 invariant-loop decreases-loop invariant-held decreases-held → tie.Else-not-same_stopped invariant-loop decreases-loop invariant-held decreases-held
+as-many e = e.before.before.before
 
 abbrev countdowns : tie.Else-not-same_set invariant-loop decreases-loop invariant-held decreases-held → tie.Else-count-eq0 invariant-loop decreases-loop invariant-held decreases-held
 countdowns e = e.before.before
@@ -101,29 +99,23 @@ held-again-2 c = unequal (first_count c.before.before) (other-leads _ _ _ _ _ _ 
 held-again-3 : tie.Need-held-preserved-then-not-same_stopped invariant-loop decreases-loop invariant-held decreases-held
 held-again-3 c = unequal (first_count (leads c.before.before)) (other-stops _ _ _ _ _ _ c.same_stopped.ensures c.if-not-same_stopped.true-raw)
 
-held-again-4 : tie.Need-held-preserved-then-row_count-fewer invariant-loop decreases-loop invariant-held decreases-held
-held-again-4 c =
-    let q = c.before in
-    let at = turn q.before in
-    let x = both (counts at) in
-    unequal at (other-count _ _ _ _ _ _ (1 - x.larger_set-larger.result) (omega arith) (λ e. c.if-row_count-fewer.true (q.row_count-in-held.ensures ∙ sym (x.row_count-fewer.ensures ∙ e))))
-
 -- ---- as many in each set
 
 -- row i, in the larger set of row x and in the smaller
-larger-as-many : (d : tie.Else-row_count-fewer invariant-loop decreases-loop invariant-held decreases-held) → let at = turn (smaller-count d) in
+larger-as-many : (f : tie.Else-not-same_stopped invariant-loop decreases-loop invariant-held decreases-held) → let at = turn f in
     let s = start (counts at) in
     let part = (both (counts at)).larger_set-larger.result in
     row_count s.args.rows.now (s.args.first + at.held.k) part ≡ row_count s.args.rows.now (s.args.first + s.args.n) part
-larger-as-many d =
-    let m = leads (stopped (smaller-count d)) in
+larger-as-many f =
+    let m = leads (stopped f) in
     sym m.row_count.ensures ∙ m.if-row_count-count.false ∙ (both (counts (first_count m))).row_count-count.ensures
 
-smaller-as-many : (d : tie.Else-row_count-fewer invariant-loop decreases-loop invariant-held decreases-held) → let at = turn (smaller-count d) in
+smaller-as-many : {n : ℕ} (f : tie.Else-not-same_stopped invariant-loop decreases-loop invariant-held decreases-held) → let at = turn f in
     let s = start (counts at) in
     let part = (both (counts at)).larger_set-larger.result in
-    row_count s.args.rows.now (s.args.first + at.held.k) (1 - part) ≡ row_count s.args.rows.now (s.args.first + s.args.n) (1 - part)
-smaller-as-many d = sym d.row_count-in-held.ensures ∙ d.if-row_count-fewer.false ∙ (both (counts (turn (smaller-count d)))).row_count-fewer.ensures
+    n ≡ row_count s.args.rows.now (s.args.first + at.held.k) (1 - part) → n ≡ (both (counts at)).row_count-fewer.result
+    → row_count s.args.rows.now (s.args.first + at.held.k) (1 - part) ≡ row_count s.args.rows.now (s.args.first + s.args.n) (1 - part)
+smaller-as-many f e same = sym e ∙ same ∙ (both (counts (turn f))).row_count-fewer.ensures
 
 -- this turn's row is row x, of equal leads, stopped clocks and sets
 it-is : (f : tie.Else-not-same_stopped invariant-loop decreases-loop invariant-held decreases-held) → let at = turn f in
@@ -144,15 +136,16 @@ it-is f sets v e h =
 returns-2 : tie.Need-returns-then-count-eq0 invariant-loop decreases-loop invariant-held decreases-held
 returns-2 c v e h =
     let d = c.before in
-    let f = smaller-count d in
+    let f = d.before.before in
     let x = both (counts (turn f)) in
     let larger = x.larger_set-larger in
     let a = (start (counts (turn f))).args in
-    it-is f (empty-sets a.rows.now (a.first + a.n) (a.first + (turn f).held.k) larger.result larger.ensures.inside (sym x.row_count-count.ensures ∙ c.if-count-eq0.true) larger.ensures.least (larger-as-many d) (smaller-as-many d)) v e h
+    let same : d.row_count-in-held.result ≡ x.row_count-fewer.result = search rules in
+    it-is f (empty-sets a.rows.now (a.first + a.n) (a.first + (turn f).held.k) larger.result larger.ensures.inside (sym x.row_count-count.ensures ∙ c.if-count-eq0.true) larger.ensures.least (larger-as-many f) (smaller-as-many f d.row_count-in-held.ensures same)) v e h
 
 same_set-requires : tie.Need-same_set-requires invariant-loop decreases-loop invariant-held decreases-held
 same_set-requires c κs =
-    let at = turn (smaller-count (some-owed c)) in
+    let at = turn (as-many c) in
     let s = start (counts at) in
     let few = s.requires.1.1.1 in
     record {
@@ -166,16 +159,16 @@ same_set-requires c κs =
 held-again-5 : tie.Need-held-preserved-then-not-same_set invariant-loop decreases-loop invariant-held decreases-held
 held-again-5 c =
     let q = c.before in
-    unequal (turn (smaller-count (some-owed q.before))) (other-set _ _ _ _ _ _ 1 (omega arith) (sym q.same_set.ensures ∙ not-true _ c.if-not-same_set.true-raw))
+    unequal (turn (as-many q.before)) (other-set _ _ _ _ _ _ 1 (omega arith) (sym q.same_set.ensures ∙ not-true _ c.if-not-same_set.true-raw))
 
 -- ---- obligation by obligation
 module _ (f : tie.Else-not-same_set invariant-loop decreases-loop invariant-held decreases-held) where
   -- where both counts were the same
-  abbrev counted : tie.Else-row_count-fewer invariant-loop decreases-loop invariant-held decreases-held
-  counted = some-owed (countdowns f)
+  abbrev counted : tie.Else-not-same_stopped invariant-loop decreases-loop invariant-held decreases-held
+  counted = as-many (countdowns f)
 
   abbrev at : tie.In-held invariant-loop decreases-loop invariant-held decreases-held
-  at = turn (smaller-count counted)
+  at = turn counted
 
   abbrev s : tie.Start invariant-loop decreases-loop invariant-held decreases-held
   s = start (counts at)
@@ -205,7 +198,9 @@ module _ (f : tie.Else-not-same_set invariant-loop decreases-loop invariant-held
   of-i : (counts at).row_count-owed.result ≡ row_count rows i 0
   of-i =
       let larger = (both (counts at)).larger_set-larger in
-      of-x ∙ sym (same-owed rows x i larger.result larger.ensures.inside (larger-as-many counted) (smaller-as-many counted))
+      let d = (countdowns f).before in
+      let same : d.row_count-in-held.result ≡ (both (counts at)).row_count-fewer.result = search rules in
+      of-x ∙ sym (same-owed rows x i larger.result larger.ensures.inside (larger-as-many counted) (smaller-as-many counted d.row_count-in-held.ensures same))
 
   -- one that row x does not have
   missing : (j : ℕ) → j < row_count rows i 0 → has_at rows x i 0 j ≡ false → same s k ≡ false
@@ -245,7 +240,7 @@ returns-3 c v e h =
     let lo = c.before in
     let f = lo.before in
     let z : row_count (rows f) (i f) 0 ≡ lo.loop-j.j = omega (arith, of-i f) in
-    it-is (smaller-count (counted f)) (sets f (ap (λ (m : ℕ). below m (has_at (rows f) (x f) (i f) 0)) z ∙ lo.loop-j.invariant.1)) v e h
+    it-is (counted f) (sets f (ap (λ (m : ℕ). below m (has_at (rows f) (x f) (i f) 0)) z ∙ lo.loop-j.invariant.1)) v e h
 
 returns-4 : tie.Need-returns invariant-loop decreases-loop invariant-held decreases-held
 returns-4 c v e h =
@@ -258,5 +253,12 @@ is_duplicate_spec =
     tie.close (tie.spec invariant-loop decreases-loop invariant-held decreases-held
     returns (λ c. search rules) (λ c κs. search rules) (λ c κs. search rules) (λ c. search rules) (λ c κs. search rules) (λ c κs. search rules) (λ c. (omega arith, refl)) (λ c. search rules) (λ c. search rules)
     (λ c κs. search rules) (λ c. search rules) held-again (λ c κs. search rules) (λ c. search rules) held-again-2 (λ c κs. search rules) (λ c. search rules) held-again-3
-    (λ c κs. search rules) (λ c. search rules) held-again-4 returns-2 same_set-requires (λ c. search rules) held-again-5 (λ c. (omega arith, refl))
+    (λ c κs. search rules) (λ c. search rules)
+    (λ c.
+    let q = c.before in
+    let at = turn q.before in
+    let x = both (counts at) in
+    let differ : q.row_count-in-held.result ≡ x.row_count-fewer.result → ⊥ = search rules in
+    unequal at (other-count _ _ _ _ _ _ (1 - x.larger_set-larger.result) (omega arith) (λ e. differ (q.row_count-in-held.ensures ∙ sym (x.row_count-fewer.ensures ∙ e)))))
+    returns-2 same_set-requires (λ c. search rules) held-again-5 (λ c. (omega arith, refl))
     obligation_at-requires row_owes-requires (λ c. search rules) held-again-6 (λ c. search rules) (λ c. search rules) loop-again returns-3 returns-4)
