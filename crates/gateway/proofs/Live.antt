@@ -2,7 +2,7 @@
 use mathlib.Core.Bool.{Bool, true, false, ◌&&◌}
 use mathlib.Core.List.{List, [], ◌∷◌}
 use mathlib.Core.Option.{Option}
-use mathlib.Core.Path.{◌≡◌, refl, sym, ap, ap₂, ◌∙◌, subst}
+use mathlib.Core.Path.{◌≡◌, refl, sym, ap, ap₂, ◌∙◌}
 use Prim.Native.Nat.{ℕ, ◌≤◌}
 use native.Mathlib.Omega.{arith}
 use lib.ListN.{length}
@@ -13,7 +13,7 @@ use Rattle.tesl.specs.Lists.{count}
 use Rattle.tesl.specs.Remainder.{Remainder}
 use Rattle.tesl.specs.Run.{Instant}
 use Rattle.tesl.specs.Answer.{Answer, answer}
-use Rattle.tesl.specs.Machine.{accepts, list_after, reply, list_after_calls}
+use Rattle.tesl.specs.Machine.{accepts, list_after, list_after_calls}
 use Rattle.theory.specs.Session.{Observing}
 use Rattle.work.specs.View.{held_list}
 use Rattle.judge.specs.declared.answer.Reply.{Reply}
@@ -35,9 +35,9 @@ use Rattle.judge.proofs.Demands.{called-follows}
 use Rattle.lent.proofs.LiveDemands.{called-in, state-in}
 use Rattle.panel.specs.Panel.{owes_clock, panel_count}
 use Rattle.panel.proofs.Run.{within_count}
-use Rattle.gateway.specs.Result.{number_of, unless_refused, packed, shown_count, owing_in}
+use Rattle.gateway.specs.Result.{number_of, packed, shown_count, owing_in}
 use Rattle.gateway.specs.Inner.{Packable}
-use Rattle.gateway.specs.Live.{result_code, LiftOpened, LiftObserved, last_reply, last_code, owing_by, owing_code, LiftCalls, no_call, call, LiftRan, packed_replies, LiftAnswered, LiftSame, LiftDemand3}
+use Rattle.gateway.specs.Live.{result_code, LiftObserved, last_reply, last_code, owing_by, owing_code, LiftCalls, no_call, call, packed_replies, LiftDemand3}
 use Rattle.gateway.proofs.Held.{said-few, instants-few}
 use Rattle.gateway.proofs.owing.Laws.{owing-shown}
 

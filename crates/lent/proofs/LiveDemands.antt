@@ -1,13 +1,13 @@
 -- Demands 2 and 3 over words: a call on a state is a call of the monitor that the words stand for, so it follows the plain machine, and so does every list of calls. Assumes nothing.
 use mathlib.Core.Bool.{true}
 use mathlib.Core.List.{List}
-use mathlib.Core.Path.{◌≡◌, refl, sym, ap, ◌∙◌, subst}
+use mathlib.Core.Path.{◌≡◌, refl, sym, ◌∙◌, subst}
 use Prim.Native.Nat.{ℕ}
 use Rattle.records.specs.Outcome.{Outcome, taken, refused}
 use Rattle.records.specs.Sheet.{SheetValue}
 use Rattle.tesl.specs.Run.{Instant}
 use Rattle.tesl.specs.Answer.{Answer}
-use Rattle.tesl.specs.Machine.{accepts, Reader}
+use Rattle.tesl.specs.Machine.{Reader}
 use Rattle.theory.specs.Session.{Opening, refuses, opens, Observing, FollowsMachine}
 use Rattle.theory.specs.Session as machine
 use Rattle.theory.proofs.Numbered.{runs-along}
@@ -15,10 +15,10 @@ use Rattle.theory.proofs.Machine.{same-session}
 use Rattle.lent.specs.declared.live.Replied.{Replied}
 use Rattle.judge.specs.Answer.{reply_of}
 use Rattle.judge.specs.Progress.{given}
-use Rattle.judge.specs.Promises.{Follows, observes, Called}
+use Rattle.judge.specs.Promises.{observes, Called}
 use Rattle.lent.specs.State.{is_state, state_monitor}
 use Rattle.lent.specs.Live.{observes_in, FollowsIn, ObservedIn, opened_as, OpensIn, ObservesIn, Demand3In, Demand3SaidIn, Demand2In, NumberedRunIn}
-use Rattle.judge.proofs.Demands.{same-call, called-follows, each-said, each_seen}
+use Rattle.judge.proofs.Demands.{called-follows, each-said, each_seen}
 
 -- ---- opening
 

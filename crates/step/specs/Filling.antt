@@ -12,7 +12,6 @@ use Rattle.work.specs.Carried.{need_of, gain_of, loss_of}
 use Rattle.work.specs.Owed.{Owings, begun_by, each_once}
 use Rattle.work.specs.Parts.{is_rule, Leading}
 use Rattle.work.specs.Work.{advanced}
-use Rattle.remainders.specs.declared.obligation.Obligation as code
 use Rattle.step.specs.declared.advance.Next.{Next}
 use Rattle.step.specs.declared.advance.Next.TheVariants.{Fails, Over, Onto}
 use Rattle.step.specs.declared.filling.Filling.{Filling}

@@ -12,7 +12,6 @@ use Rattle.tesl.specs.Remainder.{Remainder}
 use Rattle.tesl.specs.Answer.{Answer}
 use Rattle.judge.specs.declared.answer.Answer as code
 use Rattle.judge.specs.declared.answer.Reply.TheVariants as reply
-use Rattle.remainders.specs.declared.remainder.Remainder as arrays
 use Rattle.lines.specs.declared.plan.Plan.{Plan}
 use Rattle.judge.specs.declared.progress.Progress.{Progress}
 use Rattle.judge.specs.declared.progress.InstantResult.{InstantResult}

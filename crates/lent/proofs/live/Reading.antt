@@ -18,9 +18,8 @@ use Rattle.step.specs.Apply.{found_in, FewOwedIn}
 use Rattle.judge.specs.Stored.{FindingRows, FromRows}
 use Rattle.judge.specs.Monitor.{held_by, blank_monitor, no_monitor, refusal}
 use Rattle.judge.specs.Progress.{given, read_back, ReadBack}
-use Rattle.judge.specs.Promises.{Follows}
-use Rattle.lent.specs.State.{state_sheet, state_count, state_progress, state_monitor}
-use Rattle.lent.specs.Live.{state_within, FollowsIn, SaidIn, GivenIn}
+use Rattle.lent.specs.State.{state_sheet, state_progress, state_monitor}
+use Rattle.lent.specs.Live.{state_within, SaidIn, GivenIn}
 use Rattle.lent.specs.Found.{FoundIn}
 use Rattle.judge.proofs.progress.Laws.{held_rows, same_back, within-back, follows-back, nothing-back}
 use Rattle.lent.proofs.live.Stored.{tags-blank}

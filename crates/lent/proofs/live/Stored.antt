@@ -17,7 +17,6 @@ use Rattle.work.proofs.Listing.{listed_at, map-listed}
 use Rattle.lines.specs.declared.line_words.LineWords.{LineWords}
 use Rattle.lines.specs.declared.plan.Plan.{Plan}
 use Rattle.lines.specs.Plan.{Planned}
-use Rattle.remainders.specs.declared.obligation.Obligation as code
 use Rattle.remainders.specs.declared.held.Status.TheVariants.{Exhausted, Live}
 use Rattle.remainders.specs.Word.{flag_word}
 use Rattle.remainders.specs.Unused.{BlankFrom}

@@ -1,7 +1,7 @@
 -- The records of a log, observed one by one by a monitor in rows: what was said is what the machine says, and the bytes of it stand in the buffer, as long as there is room. Assumes nothing.
 use mathlib.Core.Bool.{Bool}
 use mathlib.Core.List.{List, [], ◌∷◌, ◌++◌}
-use mathlib.Core.Path.{◌≡◌, refl, sym, ap, ◌∙◌, subst}
+use mathlib.Core.Path.{◌≡◌, refl, ap, ◌∙◌, subst}
 use Prim.Native.Nat.{ℕ, ◌+◌, ◌*◌, ◌≤◌}
 use native.Mathlib.Omega.{arith}
 use lib.IntN.{pos}
@@ -15,7 +15,7 @@ use Rattle.records.proofs.Store.{puts-both}
 use Rattle.tesl.specs.Lists.{flat_map}
 use Rattle.tesl.specs.Run.{Instant}
 use Rattle.tesl.specs.Answer.{Answer}
-use Rattle.tesl.specs.Machine.{machine, calls_of}
+use Rattle.tesl.specs.Machine.{calls_of}
 use Rattle.judge.specs.declared.answer.Answer as code
 use Rattle.judge.specs.declared.answer.Reply.{Reply}
 use Rattle.judge.specs.declared.answer.Reply.TheVariants as reply

@@ -1,7 +1,6 @@
 -- `open_state` meets its contract: what was read decides the reply; the words are cleared, and the monitor of no instant is stored in them, part by part. Assumes nothing.
 use mathlib.Core.Path.{◌≡◌, ◌∙◌}
 use Prim.Native.Nat.{ℕ}
-use native.Mathlib.Omega.{arith}
 use lib.ListN.{length, replicate, length-replicate}
 use borrow.Author.Rules.{rules}
 use Rattle.records.specs.Types.{IsBytes}

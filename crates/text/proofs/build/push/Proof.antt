@@ -1,7 +1,7 @@
 -- `push` meets its contract: the store is just past the text. Assumes nothing.
 use mathlib.Core.Path.{◌≡◌, refl}
 use native.Mathlib.Omega.{arith}
-use lib.ListN.{length, length-map}
+use lib.ListN.{length}
 use borrow.Author.Rules.{rules}
 use Rattle.text.proofs.build.Laws.{one_more}
 use Rattle.text.proofs.build.push.Statement.{statement}

@@ -1,5 +1,5 @@
 -- `columns_text` meets its contract: a refused sheet has one line, and the instants of the log follow a sheet that was read; the buffer has room for the longest text. Assumes nothing.
-use mathlib.Core.Path.{◌≡◌, ap}
+use mathlib.Core.Path.{ap}
 use Prim.Native.Nat.{◌≤◌}
 use native.Mathlib.Omega.{arith}
 use lib.ListN.{length}

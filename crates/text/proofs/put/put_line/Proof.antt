@@ -3,7 +3,7 @@ use mathlib.Core.Path.{◌≡◌, refl}
 use Prim.Native.Nat.{◌≤◌, ◌-◌, ◌+◌}
 use native.Mathlib.Omega.{arith}
 use native.Mathlib.Nat.{sub-zero, add-zero}
-use lib.ListN.{length, take, drop, length-set, length-map}
+use lib.ListN.{length, take, drop, length-set}
 use lib.Seq.{length-take-le}
 use borrow.Author.Rules.{rules}
 use Rattle.records.specs.Store.{puts}

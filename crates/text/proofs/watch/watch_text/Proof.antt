@@ -1,11 +1,9 @@
 -- `watch_text` meets its contract: a refused sheet has one line, and the replies to the log follow an opening that answers; the buffer has room for the longest text. Assumes nothing.
-use mathlib.Core.Path.{◌≡◌, sym, ap, ◌∙◌}
-use Prim.Native.Nat.{◌≤◌}
+use mathlib.Core.Path.{ap}
 use native.Mathlib.Omega.{arith}
 use lib.ListN.{length}
 use borrow.Author.Rules.{rules}
 use Rattle.text.specs.Text.{refusal_line}
-use Rattle.text.specs.Output.{watch_text, printed, printed_as}
 use Rattle.text.proofs.Room.{watch-room}
 use Rattle.text.proofs.put.Laws.{put-bytes, put-end, put-once}
 use Rattle.text.proofs.watch.Laws.{text-refused, text-opened, opened-ready}
