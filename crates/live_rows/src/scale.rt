@@ -40,38 +40,32 @@ fn seen(
     owing(rt, state, 1)
 }
 
+// Clock 0 ticks at a tag of that low byte, 1 is idle.
+fn tick(rt: &impl Print, state: &mut [u32; STATE_WORDS], call: &[u8], low: u8) -> io::Result<()> {
+    seen(rt, state, call, TICK, low, IDLE)
+}
+
+// Clock 1 ticks, while 0 is idle at a tag of that low byte.
+fn reading(
+    rt: &impl Print,
+    state: &mut [u32; STATE_WORDS],
+    call: &[u8],
+    low: u8,
+) -> io::Result<()> {
+    seen(rt, state, call, IDLE, low, TICK)
+}
+
 // A delay from the end, and one past it.
 fn from_end(rt: &impl Print) -> io::Result<()> {
     step(rt, b"d = 0, begun at 32,767")?;
     let mut state = [0u32; STATE_WORDS];
     opened(rt, &mut state, 0)?;
-    seen(
-        rt,
-        &mut state,
-        b"observe, tick at 32,767",
-        TICK,
-        AT_END,
-        IDLE,
-    )?;
-    seen(
-        rt,
-        &mut state,
-        b"observe, reading at 32,767",
-        IDLE,
-        AT_END,
-        TICK,
-    )?;
+    tick(rt, &mut state, b"observe, tick at 32,767", AT_END)?;
+    reading(rt, &mut state, b"observe, reading at 32,767", AT_END)?;
     step(rt, b"d = 1, begun at 32,767")?;
     let mut state = [0u32; STATE_WORDS];
     opened(rt, &mut state, 1)?;
-    seen(
-        rt,
-        &mut state,
-        b"observe, tick at 32,767",
-        TICK,
-        AT_END,
-        IDLE,
-    )
+    tick(rt, &mut state, b"observe, tick at 32,767", AT_END)
 }
 
 // A long lift: owed until its reading, and clear to its end.
@@ -79,30 +73,9 @@ fn long_lift(rt: &impl Print) -> io::Result<()> {
     step(rt, b"d = 100, a long lift")?;
     let mut state = [0u32; STATE_WORDS];
     opened(rt, &mut state, 100)?;
-    seen(
-        rt,
-        &mut state,
-        b"observe, tick at 32,600",
-        TICK,
-        AT_32600,
-        IDLE,
-    )?;
-    seen(
-        rt,
-        &mut state,
-        b"observe, reading at 32,700",
-        IDLE,
-        AT_32700,
-        TICK,
-    )?;
-    seen(
-        rt,
-        &mut state,
-        b"observe, tick at 32,700",
-        TICK,
-        AT_32700,
-        IDLE,
-    )?;
+    tick(rt, &mut state, b"observe, tick at 32,600", AT_32600)?;
+    reading(rt, &mut state, b"observe, reading at 32,700", AT_32700)?;
+    tick(rt, &mut state, b"observe, tick at 32,700", AT_32700)?;
     seen(
         rt,
         &mut state,
@@ -116,64 +89,15 @@ fn long_lift(rt: &impl Print) -> io::Result<()> {
 
 // Nine ticks, at 32,759 to 32,767.
 fn ticks(rt: &impl Print, state: &mut [u32; STATE_WORDS]) -> io::Result<()> {
-    seen(rt, state, b"observe, tick at 32,759", TICK, AT_32759, IDLE)?;
-    seen(
-        rt,
-        state,
-        b"observe, tick at 32,760",
-        TICK,
-        AT_32759 + 1,
-        IDLE,
-    )?;
-    seen(
-        rt,
-        state,
-        b"observe, tick at 32,761",
-        TICK,
-        AT_32759 + 2,
-        IDLE,
-    )?;
-    seen(
-        rt,
-        state,
-        b"observe, tick at 32,762",
-        TICK,
-        AT_32759 + 3,
-        IDLE,
-    )?;
-    seen(
-        rt,
-        state,
-        b"observe, tick at 32,763",
-        TICK,
-        AT_32759 + 4,
-        IDLE,
-    )?;
-    seen(
-        rt,
-        state,
-        b"observe, tick at 32,764",
-        TICK,
-        AT_32759 + 5,
-        IDLE,
-    )?;
-    seen(
-        rt,
-        state,
-        b"observe, tick at 32,765",
-        TICK,
-        AT_32759 + 6,
-        IDLE,
-    )?;
-    seen(
-        rt,
-        state,
-        b"observe, tick at 32,766",
-        TICK,
-        AT_32759 + 7,
-        IDLE,
-    )?;
-    seen(rt, state, b"observe, tick at 32,767", TICK, AT_END, IDLE)
+    tick(rt, state, b"observe, tick at 32,759", AT_32759)?;
+    tick(rt, state, b"observe, tick at 32,760", AT_32759 + 1)?;
+    tick(rt, state, b"observe, tick at 32,761", AT_32759 + 2)?;
+    tick(rt, state, b"observe, tick at 32,762", AT_32759 + 3)?;
+    tick(rt, state, b"observe, tick at 32,763", AT_32759 + 4)?;
+    tick(rt, state, b"observe, tick at 32,764", AT_32759 + 5)?;
+    tick(rt, state, b"observe, tick at 32,765", AT_32759 + 6)?;
+    tick(rt, state, b"observe, tick at 32,766", AT_32759 + 7)?;
+    tick(rt, state, b"observe, tick at 32,767", AT_END)
 }
 
 // With a delay of 100 all are due past the end, with one of 8 the first at it.

@@ -87,63 +87,77 @@ fn numbered(rt: &(impl Env + Files + Print)) -> io::Result<()> {
     )
 }
 
-fn main(rt: HostRuntime) -> io::Result<()> {
-    both(&rt, b"document 01's listing", SHEET, LOG)?;
-    both(&rt, b"an empty log", SHEET, EMPTY)?;
-    both(&rt, b"a log that is a folder", SHEET, FOLDER)?;
-    both(&rt, b"a log that can't be opened", SHEET, NO_FILE)?;
-    both(&rt, b"a log that isn't named", SHEET, NOT_NAMED)?;
-    both(&rt, b"a sheet that can't be opened", NO_FILE, LOG)?;
+// Files that are empty, that can't be opened or aren't named.
+fn missing(rt: &(impl Env + Files + Print)) -> io::Result<()> {
+    both(rt, b"an empty log", SHEET, EMPTY)?;
+    both(rt, b"a log that is a folder", SHEET, FOLDER)?;
+    both(rt, b"a log that can't be opened", SHEET, NO_FILE)?;
+    both(rt, b"a log that isn't named", SHEET, NOT_NAMED)?;
+    both(rt, b"a sheet that can't be opened", NO_FILE, LOG)
+}
+
+// A sheet that is refused, and records that are.
+fn refused(rt: &(impl Env + Files + Print)) -> io::Result<()> {
     both(
-        &rt,
+        rt,
         b"a sheet with a clock not below C, and a log with a fault",
         SHEET_REFUSED,
         LOG_TICK,
     )?;
-    both(&rt, b"the fifth record's body torn", SHEET, LOG_TORN_BODY)?;
+    both(rt, b"the fifth record's body torn", SHEET, LOG_TORN_BODY)?;
     both(
-        &rt,
+        rt,
         b"three bytes after the fifth record",
         SHEET,
         LOG_TORN_HEAD,
     )?;
-    both(&rt, b"the third record of kind 31", SHEET, LOG_KIND)?;
-    both(&rt, b"the third record for three clocks", SHEET, LOG_LENGTH)?;
+    both(rt, b"the third record of kind 31", SHEET, LOG_KIND)?;
+    both(rt, b"the third record for three clocks", SHEET, LOG_LENGTH)?;
     both(
-        &rt,
+        rt,
         b"a tick byte 3 in the third record's second clock",
         SHEET,
         LOG_TICK,
-    )?;
-    numbered(&rt)?;
-    both(&rt, b"L9", SHEET_100, LOG_NINE)?;
+    )
+}
+
+// Logs at the limits.
+fn at_limits(rt: &(impl Env + Files + Print)) -> io::Result<()> {
+    both(rt, b"L9", SHEET_100, LOG_NINE)?;
     both(
-        &rt,
+        rt,
         b"twelve instants of eight clocks",
         SHEET_EIGHT,
         LOG_TWELVE,
     )?;
+    both(rt, b"4,000 instants of eight clocks", SHEET_EIGHT, LOG_4000)?;
     both(
-        &rt,
-        b"4,000 instants of eight clocks",
-        SHEET_EIGHT,
-        LOG_4000,
-    )?;
-    both(
-        &rt,
+        rt,
         b"4,001 numbered instants of eight clocks, the last numbered 1",
         SHEET_EIGHT,
         LOG_4001,
-    )?;
-    both(&rt, b"a sheet out of order", SHEET_UNSORTED, LOG)?;
-    sorted(&rt, b"a sheet out of order, with repeats", SHEET_UNSORTED)?;
-    sorted(&rt, b"the same sorted", SHEET_SORTED)?;
-    sorted(&rt, b"a sheet with a clock not below C", SHEET_REFUSED)?;
+    )
+}
+
+fn sorts(rt: &(impl Env + Files + Print)) -> io::Result<()> {
+    sorted(rt, b"a sheet out of order, with repeats", SHEET_UNSORTED)?;
+    sorted(rt, b"the same sorted", SHEET_SORTED)?;
+    sorted(rt, b"a sheet with a clock not below C", SHEET_REFUSED)?;
     sorted(
-        &rt,
+        rt,
         b"seventeen lines of which sixteen differ",
         SHEET_SEVENTEEN,
     )?;
-    sorted(&rt, b"a sheet that can't be opened", NO_FILE)?;
-    sorted(&rt, b"a sheet that isn't named", NOT_NAMED)
+    sorted(rt, b"a sheet that can't be opened", NO_FILE)?;
+    sorted(rt, b"a sheet that isn't named", NOT_NAMED)
+}
+
+fn main(rt: HostRuntime) -> io::Result<()> {
+    both(&rt, b"document 01's listing", SHEET, LOG)?;
+    missing(&rt)?;
+    refused(&rt)?;
+    numbered(&rt)?;
+    at_limits(&rt)?;
+    both(&rt, b"a sheet out of order", SHEET_UNSORTED, LOG)?;
+    sorts(&rt)
 }
