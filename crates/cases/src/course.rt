@@ -1,30 +1,30 @@
 // The instants of a case, drawn one after the other.
-ghost use Rattle.std.specs.Prelude.{◌≤◌};
-
 use crate::plan::{Habit, Plan, tag_above, word};
 use crate::random::below;
 use records::form::Form;
-use records::instant::{Instant, Tick, TickSlot};
+use records::instant::{Instant, Tick};
 use records::word::tag_of;
 
-// The last instant, its tags counted from the least tag, and how many unseen ticks are left to draw.
 #[derive(Clone, Copy)]
 pub struct Course {
+    // The tags of the last instant, counted from the least tag.
     pub above: [u64; 8],
+    // How many unseen ticks are left to draw.
     pub unseen: u64,
+    // The last instant.
     pub instant: Instant,
 }
 
+// No ticks, every tag 0.
 pub fn idle_instant() -> Instant {
-    let ticks = [TickSlot { tick: Tick::Idle }; 8];
-    let tags = [0i16; 8];
     Instant {
         form: Form::Plain,
-        ticks,
-        tags,
+        ticks: [Tick::Idle; 8],
+        tags: [0; 8],
     }
 }
 
+// Before the first instant of a case.
 pub fn begin(p: Plan) -> Course {
     Course {
         above: [p.first; 8],
@@ -34,114 +34,78 @@ pub fn begin(p: Plan) -> Course {
 }
 
 // An instant with another tick and tag at a clock below 8.
-pub fn with_clock(v: Instant, at: usize, tick: Tick, tag: i16) -> Instant {
+pub fn with_clock(mut v: Instant, at: usize, tick: Tick, tag: i16) -> Instant {
     if at < 8 {
-        let form = v.form;
-        let mut ticks = v.ticks;
-        let mut tags = v.tags;
-        ticks[at] = TickSlot { tick };
-        tags[at] = tag;
-        return Instant { form, ticks, tags };
+        v.ticks[at] = tick;
+        v.tags[at] = tag;
     }
     v
 }
 
 // The tick of a clock; one from the eighth on is idle.
 pub fn tick_at(v: Instant, clock: usize) -> Tick {
-    if 7 < clock {
-        return Tick::Idle;
-    }
-    let slot = v.ticks[clock];
-    let tick = slot.tick;
-    tick
-}
-
-fn one_if_unseen(t: Tick) -> usize
-    ensures { result ≤ 1 }
-{
-    match t {
-        Tick::Unseen => 1,
-        _ => 0,
+    if clock < 8 {
+        v.ticks[clock]
+    } else {
+        Tick::Idle
     }
 }
 
 // How many clocks are unseen in an instant, from a clock on.
 pub fn unseen_from(v: Instant, from: usize) -> usize {
-    let mut n = 0;
-    let mut k = from;
-    while k < 8 {
-        n += one_if_unseen(tick_at(v, k));
-        k += 1;
-    }
-    n
+    (from..8)
+        .filter(|k| matches!(tick_at(v, *k), Tick::Unseen))
+        .count()
 }
 
 // A tag's place with a rise, up to the greatest tag.
 fn risen(above: u64, by: u64) -> u64 {
-    if 65535 < above {
-        return 65535;
-    }
-    if 65535 - above < by {
-        return 65535;
-    }
-    above + by
+    above.saturating_add(by).min(65535)
 }
 
 // One of eight draws; unseen only while some are left.
 fn tick_of(h: Habit, draw: u64, unseen: u64) -> Tick {
     if draw < h.0 {
-        return Tick::Idle;
+        Tick::Idle
+    } else if draw < h.1 {
+        Tick::Ticks
+    } else if unseen == 0 {
+        Tick::Idle
+    } else {
+        Tick::Unseen
     }
-    if draw < h.1 {
-        return Tick::Ticks;
-    }
-    if unseen == 0 {
-        return Tick::Idle;
-    }
-    Tick::Unseen
 }
 
 // How many unseen ticks are left after one of them.
 fn left(t: Tick, unseen: u64) -> u64 {
     match t {
-        Tick::Unseen => {
-            if unseen == 0 {
-                return 0;
-            }
-            unseen - 1
-        }
-        _ => unseen,
+        Tick::Unseen => unseen.saturating_sub(1),
+        Tick::Idle | Tick::Ticks => unseen,
     }
 }
 
 // By how much a clock's tag rises.
 fn rise(h: Habit, together: bool, alone: u64, all: u64) -> u64 {
     if together {
-        return all;
+        all
+    } else {
+        h.2 % 65536 + alone % 65536
     }
-    h.2 % 65536 + alone % 65536
 }
 
 // The next tick and tag of a clock.
-fn with_next(p: Plan, c: Course, d: [u64; 48], k: usize) -> Course {
+fn with_next(p: Plan, mut c: Course, d: [u64; 48], k: usize) -> Course {
     if 8 <= k {
         return c;
     }
-    let habits = p.habits;
-    let h = habits[k];
-    let mut above = c.above;
+    let h = p.habits[k];
     let alone = below(d, 10 + k, h.3 % 8 + 1);
-    let at = risen(above[k], rise(h, p.together, alone, below(d, 9, 3)));
-    above[k] = at;
-    let before = c.unseen;
-    let tick = tick_of(h, below(d, k, 8), before);
-    let unseen = left(tick, before);
-    let instant = c.instant;
-    Course {
-        above,
-        unseen,
-        instant: with_clock(instant, k, tick, tag_above(at)),
-    }
+    let at = risen(c.above[k], rise(h, p.together, alone, below(d, 9, 3)));
+    let tick = tick_of(h, below(d, k, 8), c.unseen);
+    c.above[k] = at;
+    c.unseen = left(tick, c.unseen);
+    c.instant = with_clock(c.instant, k, tick, tag_above(at));
+    c
 }
 
 // p × x + q in 16 bits.
@@ -150,35 +114,17 @@ fn wrapped(p: u64, x: u64, q: u64) -> u64 {
 }
 
 // Clock 0 at p times clock 1's tag and q, in 16 bits.
-fn followed(p: Plan, c: Course) -> Course {
-    let above = c.above;
-    let unseen = c.unseen;
-    let v = c.instant;
-    let form = v.form;
-    let ticks = v.ticks;
-    let mut tags = v.tags;
-    let x = above[1] % 65536 + 32768;
-    tags[0] = tag_of(word(wrapped(p.p, x, p.q)));
-    Course {
-        above,
-        unseen,
-        instant: Instant { form, ticks, tags },
-    }
+fn followed(p: Plan, mut c: Course) -> Course {
+    let x = c.above[1] % 65536 + 32768;
+    c.instant.tags[0] = tag_of(word(wrapped(p.p, x, p.q)));
+    c
 }
 
 // The next instant of a case.
 pub fn next(p: Plan, c: Course, d: [u64; 48]) -> Course {
-    let sheet = p.sheet;
-    let clocks = sheet.clocks;
-    let n = clocks as usize;
     let mut now = c;
-    let mut k = 0;
-    while k < n {
+    for k in 0..usize::from(p.sheet.clocks) {
         now = with_next(p, now, d, k);
-        k += 1;
     }
-    if p.follows {
-        return followed(p, now);
-    }
-    now
+    if p.follows { followed(p, now) } else { now }
 }

@@ -1,30 +1,32 @@
-// A sheet's bytes with its lines out of order, and the numbers that refuse them.
+// A sheet's bytes with its lines out of order, and the refusals that are due.
 use crate::plan::has_counted;
 use crate::tape::{Tape, cut, sheet_tape, with_part};
 use records::line::Line;
 use records::number;
+use records::refusal::Refusal;
 use records::sheet::{Sheet, line_at};
 
-// The bytes; the number that refuses them where lines must rise, and the one by document 01's rules, 0 for none.
 #[derive(Clone, Copy)]
 pub struct Disordered {
+    // The bytes.
     pub tape: Tape,
-    pub refusal: u8,
-    pub base: u8,
+    // Why they are refused where lines must rise.
+    pub refusal: Refusal,
+    // Why by document 01's rules, if they are.
+    pub base: Option<Refusal>,
 }
 
-// The number by document 01's rules, from the one where lines must rise. A counted line is no line there, and no fault but of order stands before it.
-fn base_refusal(s: Sheet, refusal: u8) -> u8 {
-    if has_counted(s) {
-        return number::LINE_KIND;
+// The refusal by document 01's rules, from the one where lines must rise. A counted line is no line there, and no fault but of order stands before it.
+fn base_refusal(s: Sheet, refusal: Refusal) -> Option<Refusal> {
+    match refusal {
+        _ if has_counted(s) => Some(Refusal::LineKind),
+        Refusal::NotAbove => None,
+        other => Some(other),
     }
-    if refusal == number::NOT_ABOVE {
-        return 0;
-    }
-    refusal
 }
 
-fn with_numbers(s: Sheet, tape: Tape, refusal: u8) -> Disordered {
+// The bytes with both refusals.
+fn with_refusals(s: Sheet, tape: Tape, refusal: Refusal) -> Disordered {
     Disordered {
         tape,
         refusal,
@@ -33,39 +35,29 @@ fn with_numbers(s: Sheet, tape: Tape, refusal: u8) -> Disordered {
 }
 
 // The bytes of a sheet up to the line at a place.
-fn bytes_before(s: Sheet, i: usize) -> usize {
-    let mut beginning = s;
-    beginning.count = i;
-    let t = sheet_tape(beginning);
-    t.len
+fn bytes_before(mut s: Sheet, i: usize) -> usize {
+    s.count = i;
+    sheet_tape(s).len
 }
 
 fn is_sporadic(l: Line) -> bool {
-    match l {
-        Line::Sporadic { a: _, b: _, t: _ } => true,
-        _ => false,
-    }
+    matches!(l, Line::Sporadic { .. })
 }
 
 // Whether a sheet whose lines rise has eight sporadic ones: they stand before all others.
 fn has_eight_sporadic(s: Sheet) -> bool {
-    if s.count < number::MAX_SPORADIC {
-        return false;
-    }
-    is_sporadic(line_at(s, number::MAX_SPORADIC - 1))
+    number::MAX_SPORADIC <= s.count && is_sporadic(line_at(s, number::MAX_SPORADIC - 1))
 }
 
-// The number that refuses a line of a sheet where it stands once more, behind the last.
-fn repeat_refusal(s: Sheet, l: Line) -> u8 {
+// Why a line of a sheet is refused where it stands once more, behind the last.
+fn repeat_refusal(s: Sheet, l: Line) -> Refusal {
     if number::MAX_LINES <= s.count {
-        return number::SEVENTEENTH_LINE;
+        Refusal::SeventeenthLine
+    } else if is_sporadic(l) && has_eight_sporadic(s) {
+        Refusal::NinthSporadic
+    } else {
+        Refusal::NotAbove
     }
-    if is_sporadic(l) {
-        if has_eight_sporadic(s) {
-            return number::NINTH_SPORADIC;
-        }
-    }
-    number::NOT_ABOVE
 }
 
 // Of a sheet whose lines rise, the line at a place below 16 once more, behind the last.
@@ -73,7 +65,7 @@ pub fn repeated(s: Sheet, i: usize) -> Disordered {
     let at = i % number::MAX_LINES;
     let t = sheet_tape(s);
     let tape = with_part(t, t, bytes_before(s, at), bytes_before(s, at + 1));
-    with_numbers(s, tape, repeat_refusal(s, line_at(s, at)))
+    with_refusals(s, tape, repeat_refusal(s, line_at(s, at)))
 }
 
 // The bytes of a sheet with its lines from the last to the first.
@@ -81,10 +73,8 @@ fn from_last(s: Sheet) -> Tape {
     let t = sheet_tape(s);
     let mut lines = cut(t, bytes_before(s, 0));
     let mut end = t.len;
-    let mut left = s.count;
-    while 0 < left {
-        left -= 1;
-        let start = bytes_before(s, left);
+    for i in (0..s.count).rev() {
+        let start = bytes_before(s, i);
         lines = with_part(lines, t, start, end);
         end = start;
     }
@@ -93,7 +83,7 @@ fn from_last(s: Sheet) -> Tape {
 
 // Of a sheet of two lines or more that rise, the lines from the last to the first.
 pub fn reversed(s: Sheet) -> Disordered {
-    with_numbers(s, from_last(s), number::NOT_ABOVE)
+    with_refusals(s, from_last(s), Refusal::NotAbove)
 }
 
 // The first line behind the last.
@@ -102,15 +92,14 @@ fn moved(s: Sheet) -> Disordered {
     let from = bytes_before(s, 0);
     let to = bytes_before(s, 1);
     let others = with_part(cut(t, from), t, to, t.len);
-    with_numbers(s, with_part(others, t, from, to), number::NOT_ABOVE)
+    with_refusals(s, with_part(others, t, from, to), Refusal::NotAbove)
 }
 
 // One of two ways, of a sheet with a line, its lines in rising order: the first line behind the last, where there are two; or the line at a place repeated.
 pub fn out_of_order(s: Sheet, moves: bool, i: usize) -> Disordered {
-    if moves {
-        if 1 < s.count {
-            return moved(s);
-        }
+    if moves && 1 < s.count {
+        moved(s)
+    } else {
+        repeated(s, i)
     }
-    repeated(s, i)
 }

@@ -8,12 +8,8 @@ use records::sheet::Sheet;
 
 // The habits of four clocks; more are idle.
 pub(crate) fn four(h0: Habit, h1: Habit, h2: Habit, h3: Habit) -> [Habit; 8] {
-    let mut habits = [Habit(8, 8, 0, 0); 8];
-    habits[0] = h0;
-    habits[1] = h1;
-    habits[2] = h2;
-    habits[3] = h3;
-    habits
+    let idle = Habit(8, 8, 0, 0);
+    [h0, h1, h2, h3, idle, idle, idle, idle]
 }
 
 // A plan whose tags rise each by itself.
@@ -80,10 +76,8 @@ fn sporadic_at(d: [u64; 48], i: usize) -> Line {
 // A sheet of n sporadic lines.
 fn sporadics(d: [u64; 48], n: usize) -> Sheet {
     let mut s = empty_sheet(3);
-    let mut i = 0;
-    while i < n {
+    for i in 0..n {
         s = with(s, sporadic_at(d, i));
-        i += 1;
     }
     s
 }
@@ -91,6 +85,7 @@ fn sporadics(d: [u64; 48], n: usize) -> Sheet {
 // Up to eight sporadic lines, and delay lines on ticks of 0: eight and nine owed, where one is met or late.
 pub(crate) fn owed(d: [u64; 48]) -> Plan {
     let n = below(d, 0, 8);
+    // (a usize has no `From` of 64 bits)
     let s = sporadics(d, 1 + n as usize);
     let s = with(s, delayed(0, 100, 1, 2));
     let s = maybe(d, 1, 2, s, delayed(0, 1 + below(d, 2, 3), 1, 2));
@@ -120,7 +115,7 @@ pub(crate) fn on_clocks(d: [u64; 48]) -> Plan {
     plan(s, habits, ZERO, 8, 6)
 }
 
-// A tag at the lower end, or near the upper one.
+// A tag at the lower end, or near the upper one: no conversion of a flag.
 fn end_of(low: bool) -> u64
     ensures { result ≤ 65528 }
 {
@@ -158,9 +153,10 @@ fn factor(n: u64) -> u64 {
 // Any tag, or one at most 120 from 0.
 fn first_of(any: bool, d: [u64; 48]) -> u64 {
     if any {
-        return 2 * below(d, 4, 32768) + below(d, 5, 2);
+        2 * below(d, 4, 32768) + below(d, 5, 2)
+    } else {
+        32648 + below(d, 4, 241)
     }
-    32648 + below(d, 4, 241)
 }
 
 // 0 = p × 1 + q, and clock 0's tag is that in 16 bits: it fits where nothing wraps.

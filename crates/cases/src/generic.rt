@@ -54,17 +54,17 @@ fn factor(draw: u64) -> u64 {
     }
 }
 
+// A sheet of so many lines.
 fn sheet(d: [u64; 48], clocks: u64, lines: u64) -> Sheet {
-    let n = lines as usize;
     let mut s = empty_sheet(clocks);
-    let mut i = 0;
-    while i < n {
+    // (a usize has no `From` of 64 bits)
+    for i in 0..lines as usize {
         s = with(s, line(d, i, clocks));
-        i += 1;
     }
     s
 }
 
+// A case of so many clocks and unseen ticks.
 pub(crate) fn plan(d: [u64; 48], clocks: u64, unseen: u64) -> Plan {
     let lines = below(d, 1, 7);
     let each = Habit(below(d, 2, 5), 5, 0, 2);

@@ -7,27 +7,24 @@ use crate::random::draw;
 use filler::run::{Run, no_instants, with_instant};
 use records::instant::Instant;
 
-// The last number drawn, and the instants.
 #[derive(Clone, Copy)]
 pub struct Listed {
+    // The last number drawn.
     pub last: u64,
+    // The instants.
     pub run: Run,
 }
 
+// The instants of a case, drawn from the number after `from` on.
 pub fn run_of(plan: Plan, from: u64) -> Listed {
-    let n = instants_of(plan);
     let mut c = course::begin(plan);
     let mut run = no_instants();
     let mut last = from;
-    let mut i = 0;
-    while i < n {
+    for _ in 0..instants_of(plan) {
         let drawn = draw(last);
-        let d = drawn.numbers;
-        c = course::next(plan, c, d);
-        let v = c.instant;
-        run = with_instant(run, v);
+        c = course::next(plan, c, drawn.numbers);
+        run = with_instant(run, c.instant);
         last = drawn.last;
-        i += 1;
     }
     Listed { last, run }
 }
@@ -35,7 +32,8 @@ pub fn run_of(plan: Plan, from: u64) -> Listed {
 // The instant at a place below 16; an idle one past it.
 pub fn instant_at(run: Run, i: usize) -> Instant {
     if i < 16 {
-        return run.instants[i];
+        run.instants[i]
+    } else {
+        idle_instant()
     }
-    idle_instant()
 }

@@ -4,7 +4,6 @@ ghost use Rattle.std.specs.Prelude.{◌≤◌};
 use crate::plan::Plan;
 use crate::random::below;
 use crate::{counting, families, generic, wide};
-use records::record::Decision;
 use records::sort::sorted_sheet;
 
 // A case of a family of at most four clocks, by the family's place.
@@ -39,9 +38,10 @@ fn family_of(n: u64) -> u64 {
 fn narrow(number: u64, d: [u64; 48]) -> Plan {
     let n = number % 56;
     if n < 28 {
-        return few_clocks(family_of(n), d);
+        few_clocks(family_of(n), d)
+    } else {
+        generic::plan(d, below(d, 0, 4) + 1, below(d, 3, 8))
     }
-    generic::plan(d, below(d, 0, 4) + 1, below(d, 3, 8))
 }
 
 // A family, and by how many places its clocks are moved up: at least, and of how many.
@@ -75,32 +75,25 @@ fn wide(number: u64, d: [u64; 48]) -> Plan {
 }
 
 // A plan with its sheet's lines in rising order, repeats dropped; a sheet outside its limits stays as it is.
-fn sorted(plan: Plan) -> Plan {
-    let sheet = plan.sheet;
-    let read = sorted_sheet(sheet);
-    let answer = read.answer;
-    let rising = read.sheet;
-    match answer {
-        Decision::Refused(_) => plan,
-        Decision::Done => {
-            let mut next = plan;
-            next.sheet = rising;
-            next
-        }
+fn sorted(mut plan: Plan) -> Plan {
+    if let Ok(sheet) = sorted_sheet(plan.sheet) {
+        plan.sheet = sheet;
     }
+    plan
 }
 
+// A case of five to eight clocks, or of at most four.
 pub fn plan_of(is_wide: bool, number: u64, d: [u64; 48]) -> Plan {
     if is_wide {
-        return sorted(wide(number, d));
+        sorted(wide(number, d))
+    } else {
+        sorted(narrow(number, d))
     }
-    sorted(narrow(number, d))
 }
 
 // How many instants, at most 16.
 pub fn instants_of(plan: Plan) -> u64
     ensures { result ≤ 16 }
 {
-    let n = plan.instants;
-    if n < 16 { n } else { 16 }
+    plan.instants.min(16)
 }

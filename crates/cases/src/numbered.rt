@@ -3,33 +3,25 @@ use crate::damage::{Record, whole};
 use crate::plan::word;
 use records::form::Form;
 use records::instant::Instant;
-use records::number;
+use records::refusal::Refusal;
 
 // An instant with a number.
-pub fn with_number(v: Instant, n: u64) -> Instant {
-    let ticks = v.ticks;
-    let tags = v.tags;
-    Instant {
-        form: Form::Numbered(word(n)),
-        ticks,
-        tags,
-    }
+pub fn with_number(mut v: Instant, n: u64) -> Instant {
+    v.form = Form::Numbered(word(n));
+    v
 }
 
 // An instant with the number that is next where so many are held, or as it is.
 pub fn next_of(v: Instant, held: usize, is_numbered: bool) -> Instant {
     if is_numbered {
-        return with_number(v, (held % 4096) as u64 + 1);
+        with_number(v, (held % 4096) as u64 + 1)
+    } else {
+        v
     }
-    v
 }
 
 pub fn is_numbered(v: Instant) -> bool {
-    let form = v.form;
-    match form {
-        Form::Plain => false,
-        Form::Numbered(_) => true,
-    }
+    matches!(v.form, Form::Numbered(_))
 }
 
 // In how many ways a number is not the next.
@@ -50,11 +42,7 @@ pub fn wrong_number(held: usize, how: u64) -> u64 {
 
 // The record of an instant with a number that is not the next: 19.
 pub fn out_of_turn(v: Instant, clocks: u8, n: u64) -> Record {
-    let r = whole(with_number(v, n), clocks);
-    let bytes = r.bytes;
-    Record {
-        bytes,
-        len: r.len,
-        refusal: number::NOT_NEXT,
-    }
+    let mut r = whole(with_number(v, n), clocks);
+    r.refusal = Some(Refusal::NotNext);
+    r
 }

@@ -1,6 +1,6 @@
 // A case: a sheet, and how its instants are drawn.
 use crate::random::one_in;
-use records::line::{Line, Slot};
+use records::line::Line;
 use records::sheet::{Sheet, line_at};
 use records::word::tag_of;
 
@@ -11,20 +11,28 @@ pub const ZERO: u64 = 32768;
 #[derive(Clone, Copy)]
 pub struct Habit(pub u64, pub u64, pub u64, pub u64);
 
-// The first tag of every clock, counted from the least tag; how many instants, and how many unseen ticks in all; together: the tags of all clocks rise alike; follows: clock 0's tag is p × clock 1's + q in 16 bits.
 #[derive(Clone, Copy)]
 pub struct Plan {
     pub sheet: Sheet,
+    // Of each clock.
     pub habits: [Habit; 8],
+    // The first tag of every clock, counted from the least tag.
     pub first: u64,
+    // How many instants.
     pub instants: u64,
+    // How many unseen ticks in all.
     pub unseen: u64,
+    // The tags of all clocks rise alike.
     pub together: bool,
+    // Clock 0's tag is p × clock 1's + q in 16 bits.
     pub follows: bool,
+    // The word of p.
     pub p: u64,
+    // The word of q.
     pub q: u64,
 }
 
+// A number drawn, cut to a byte: `try_from` would refuse what is to be cut.
 pub fn byte(x: u64) -> u8 {
     (x % 256) as u8
 }
@@ -40,32 +48,25 @@ pub fn tag_above(x: u64) -> i16 {
 
 pub fn empty_sheet(clocks: u64) -> Sheet {
     let line = Line::Implies { a: 0, b: 0 };
-    let lines = [Slot { line }; 16];
     Sheet {
         clocks: byte(clocks),
         count: 0,
-        lines,
+        lines: [line; 16],
     }
 }
 
 // A sheet with one line more; a seventeenth is left out.
-pub fn with(s: Sheet, line: Line) -> Sheet {
-    let at = s.count;
-    if at < 16 {
-        let mut next = s;
-        next.lines[at] = Slot { line };
-        next.count = at + 1;
-        return next;
+pub fn with(mut s: Sheet, line: Line) -> Sheet {
+    if s.count < 16 {
+        s.lines[s.count] = line;
+        s.count += 1;
     }
     s
 }
 
 // A sheet with one line more, where the draw at a place is the first of n.
 pub fn maybe(d: [u64; 48], at: usize, n: u64, s: Sheet, line: Line) -> Sheet {
-    if one_in(d, at, n) {
-        return with(s, line);
-    }
-    s
+    if one_in(d, at, n) { with(s, line) } else { s }
 }
 
 pub fn sporadic(a: u64, b: u64, above: u64) -> Line {
@@ -105,32 +106,17 @@ pub fn counts(a: u64, n: u64, b: u64, d: u64) -> Line {
 }
 
 fn is_counted(l: Line) -> bool {
-    match l {
-        Line::Counted {
-            a: _,
-            b: _,
-            d: _,
-            n: _,
-        } => true,
-        _ => false,
-    }
+    matches!(l, Line::Counted { .. })
 }
 
 // Whether a sheet whose lines rise has a counted one: they stand behind all others.
 pub fn has_counted(s: Sheet) -> bool {
-    let n = s.count;
-    if n == 0 {
-        return false;
-    }
-    is_counted(line_at(s, n - 1))
+    0 < s.count && is_counted(line_at(s, s.count - 1))
 }
 
 // Whether a sheet whose lines rise has a line, and counted ones alone.
 pub fn all_counted(s: Sheet) -> bool {
-    if s.count == 0 {
-        return false;
-    }
-    is_counted(line_at(s, 0))
+    0 < s.count && is_counted(line_at(s, 0))
 }
 
 // How far a line counts, for each of 8 draws.

@@ -6,22 +6,21 @@ fn next(x: u64) -> u64 {
     ((x % 2147483648) * 1103515245 + 12345) % 2147483648
 }
 
-// Numbers of the sequence, and the last of them, from which it goes on.
 #[derive(Clone, Copy)]
 pub struct Draws {
+    // The last number, from which the sequence goes on.
     pub last: u64,
+    // Numbers of the sequence, without their low bits, which repeat soon.
     pub numbers: [u64; 48],
 }
 
-// The next 48 numbers after x, without their low bits, which repeat soon.
+// The next 48 numbers after x.
 pub fn draw(x: u64) -> Draws {
-    let mut numbers = [0u64; 48];
+    let mut numbers = [0; 48];
     let mut last = x;
-    let mut i = 0;
-    while i < 48 {
+    for number in &mut numbers {
         last = next(last);
-        numbers[i] = last / 65536;
-        i += 1;
+        *number = last / 65536;
     }
     Draws { last, numbers }
 }
@@ -30,12 +29,7 @@ pub fn draw(x: u64) -> Draws {
 pub fn below(numbers: [u64; 48], at: usize, n: u64) -> u64
     ensures { result ≤ n }
 {
-    if at < 48 {
-        if 0 < n {
-            return numbers[at] % n;
-        }
-    }
-    0
+    if at < 48 && 0 < n { numbers[at] % n } else { 0 }
 }
 
 // Whether the draw at a place is the first of n.

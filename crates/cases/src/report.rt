@@ -30,16 +30,12 @@ pub fn rows(rt: &impl Print, t: Tally, first: usize, labels: &[u8]) -> io::Resul
 {
     let mut at = first;
     let mut from = 0;
-    let mut i = 0;
-    while i < labels.len() {
-        if labels[i] != LABEL_END {
-            i += 1;
-            continue;
+    for (i, b) in labels.iter().enumerate() {
+        if *b == LABEL_END {
+            row(rt, &labels[from..i], counted(t, at))?;
+            at += 1;
+            from = i + 1;
         }
-        row(rt, &labels[from..i], counted(t, at))?;
-        at += 1;
-        i += 1;
-        from = i;
     }
     Ok(())
 }

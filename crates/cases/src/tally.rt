@@ -5,34 +5,28 @@ pub const TALLY_PLACES: usize = 64;
 
 pub type Tally = [u64; TALLY_PLACES];
 
-// The last number drawn of a case, and what was counted up to its end.
 #[derive(Clone, Copy)]
 pub struct Ended {
+    // The last number drawn of a case.
     pub last: u64,
+    // What was counted up to its end.
     pub tally: Tally,
 }
 
 // One more at a place.
-pub fn count(t: Tally, at: usize) -> Tally {
-    if TALLY_PLACES <= at {
-        return t;
-    }
-    let n = t[at];
-    if n < 18446744073709551615 {
-        let mut next = t;
-        next[at] = n + 1;
-        return next;
+pub fn count(mut t: Tally, at: usize) -> Tally {
+    if at < TALLY_PLACES {
+        t[at] = t[at].saturating_add(1);
     }
     t
 }
 
+// One more at a place, where it is wanted.
 pub fn count_if(wanted: bool, t: Tally, at: usize) -> Tally {
-    if wanted {
-        return count(t, at);
-    }
-    t
+    if wanted { count(t, at) } else { t }
 }
 
+// The count at a place; 0 past the last.
 pub fn counted(t: Tally, at: usize) -> u64 {
     if at < TALLY_PLACES { t[at] } else { 0 }
 }
@@ -44,12 +38,8 @@ pub fn count_answer(t: Tally, first: usize, answer: u64, clear: u64) -> Tally
     match answer {
         1 => count(t, first + 3),
         2 => count(t, first + 2),
-        3 => {
-            if clear == 0 {
-                return count(t, first + 1);
-            }
-            count(t, first)
-        }
+        3 if clear == 0 => count(t, first + 1),
+        3 => count(t, first),
         _ => t,
     }
 }

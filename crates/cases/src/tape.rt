@@ -1,90 +1,68 @@
 // Bytes one after the other: a sheet, or a log.
 use crate::damage::Record;
-use records::record::Written;
 use records::sheet::{Sheet, write_sheet};
 
-// The first `len` bytes.
+// There is no heap, so it is an array and a length. (A line of text in the crate text has two such fields too, and no function in common.)
 #[derive(Clone, Copy)]
 pub struct Tape {
+    // The bytes, at the front.
     pub bytes: [u8; 512],
+    // How many there are.
     pub len: usize,
 }
 
+// An empty tape.
 pub fn no_bytes() -> Tape {
-    let bytes = [0u8; 512];
-    Tape { bytes, len: 0 }
+    Tape {
+        bytes: [0; 512],
+        len: 0,
+    }
 }
 
 // The bytes of a sheet; none of one that can't be written.
 pub fn sheet_tape(s: Sheet) -> Tape {
-    let mut bytes = [0u8; 512];
-    let written = write_sheet(s, &mut bytes);
-    let len = match written {
-        Written::Refused(_) => 0,
-        Written::Bytes(n) => n,
-    };
+    let mut bytes = [0; 512];
+    let len = write_sheet(s, &mut bytes).unwrap_or(0);
     Tape { bytes, len }
 }
 
 // With the bytes of a source from a place to before a later one, behind the others, where they have room.
-fn with_bytes(t: Tape, source: &[u8], from: usize, to: usize) -> Tape {
+fn with_bytes(mut t: Tape, source: &[u8], from: usize, to: usize) -> Tape {
     let at = t.len;
-    if source.len() < to {
+    if source.len() < to || to < from || 512 < at || 512 - at < to - from {
         return t;
     }
-    if to < from {
-        return t;
-    }
-    let more = to - from;
-    if 512 < at {
-        return t;
-    }
-    if 512 - at < more {
-        return t;
-    }
-    let mut bytes = t.bytes;
-    let mut i = 0;
-    while i < more {
-        bytes[at + i] = source[from + i];
-        i += 1;
-    }
-    Tape {
-        bytes,
-        len: at + more,
-    }
+    let end = at + (to - from);
+    t.bytes[at..end].copy_from_slice(&source[from..to]);
+    t.len = end;
+    t
 }
 
 // With a record behind the others, where it has room.
 pub fn with_record(t: Tape, r: Record) -> Tape {
-    let bytes = r.bytes;
-    with_bytes(t, &bytes, 0, r.len)
+    with_bytes(t, &r.bytes, 0, r.len)
 }
 
 // With a part of another tape behind the others, where it has room.
 pub fn with_part(t: Tape, other: Tape, from: usize, to: usize) -> Tape {
-    let bytes = other.bytes;
-    with_bytes(t, &bytes, from, to)
+    with_bytes(t, &other.bytes, from, to)
 }
 
 // With another byte at a place.
-pub fn with_byte(t: Tape, at: usize, x: u8) -> Tape {
-    let mut bytes = t.bytes;
+pub fn with_byte(mut t: Tape, at: usize, x: u8) -> Tape {
     if at < 512 {
-        bytes[at] = x;
+        t.bytes[at] = x;
     }
-    Tape { bytes, len: t.len }
+    t
 }
 
 // The first bytes alone.
-pub fn cut(t: Tape, len: usize) -> Tape {
-    let bytes = t.bytes;
-    Tape { bytes, len }
+pub fn cut(mut t: Tape, len: usize) -> Tape {
+    t.len = len;
+    t
 }
 
 // The first n bytes, or all where there are fewer.
 pub fn front(bytes: &[u8], n: usize) -> &[u8] {
-    if bytes.len() < n {
-        return bytes;
-    }
-    &bytes[0..n]
+    &bytes[..n.min(bytes.len())]
 }

@@ -7,89 +7,74 @@ use records::sheet::{Sheet, line_at};
 
 // A clock so many places up.
 fn up_from(k: u8, up: u64) -> u8 {
-    let place = k as u64;
-    byte(place + up % 8)
+    byte(u64::from(k) + up % 8)
 }
 
-// A line of two clocks, each so many places up.
-fn moved_pair(kind: u64, a: u8, b: u8, up: u64) -> Line {
-    pair(kind, up_from(a, up) as u64, up_from(b, up) as u64)
-}
-
+// A line, its clocks so many places up.
 fn moved_line(l: Line, up: u64) -> Line {
+    let at = |k: u8| up_from(k, up);
     match l {
         Line::Sporadic { a, b, t } => Line::Sporadic {
-            a: up_from(a, up),
-            b: up_from(b, up),
+            a: at(a),
+            b: at(b),
             t,
         },
         Line::Relation { a, b, p, q } => Line::Relation {
-            a: up_from(a, up),
-            b: up_from(b, up),
+            a: at(a),
+            b: at(b),
             p,
             q,
         },
-        Line::Implies { a, b } => moved_pair(18, a, b, up),
-        Line::Excludes { a, b } => moved_pair(19, a, b, up),
+        Line::Implies { a, b } => Line::Implies { a: at(a), b: at(b) },
+        Line::Excludes { a, b } => Line::Excludes { a: at(a), b: at(b) },
         Line::Delayed { a, b, d, by } => Line::Delayed {
-            a: up_from(a, up),
-            b: up_from(b, up),
-            d: up_from(d, up),
+            a: at(a),
+            b: at(b),
+            d: at(d),
             by,
         },
-        Line::Weakly { a, b } => moved_pair(21, a, b, up),
-        Line::Strictly { a, b } => moved_pair(22, a, b, up),
-        Line::Kills { a, b } => moved_pair(23, a, b, up),
+        Line::Weakly { a, b } => Line::Weakly { a: at(a), b: at(b) },
+        Line::Strictly { a, b } => Line::Strictly { a: at(a), b: at(b) },
+        Line::Kills { a, b } => Line::Kills { a: at(a), b: at(b) },
         Line::Counted { a, b, d, n } => Line::Counted {
-            a: up_from(a, up),
-            b: up_from(b, up),
-            d: up_from(d, up),
+            a: at(a),
+            b: at(b),
+            d: at(d),
             n,
         },
     }
 }
 
+// A sheet, its clocks so many places up.
 fn moved_sheet(s: Sheet, up: u64) -> Sheet {
-    let n = s.count;
-    let clocks = up_from(s.clocks, up);
-    let mut moved = empty_sheet(clocks as u64);
-    let mut i = 0;
-    while i < n {
+    let mut moved = empty_sheet(u64::from(up_from(s.clocks, up)));
+    for i in 0..s.count {
         moved = with(moved, moved_line(line_at(s, i), up));
-        i += 1;
     }
     moved
 }
 
 // Clocks below the lowest place are seen at every instant.
 fn moved_habits(habits: [Habit; 8], up: usize) -> [Habit; 8] {
+    let lowest = up.min(8);
     let mut moved = [Habit(6, 8, 0, 1); 8];
-    let mut k = up;
-    while k < 8 {
-        let h = habits[k - up];
-        moved[k] = h;
-        k += 1;
-    }
+    moved[lowest..].copy_from_slice(&habits[..8 - lowest]);
     moved
 }
 
 // A line of two clocks, of any below so many.
 fn another_line(d: [u64; 48], clocks: u8) -> Line {
-    let n = clocks as u64;
+    let n = u64::from(clocks);
     pair(18 + below(d, 42, 6), below(d, 43, n), below(d, 44, n))
 }
 
 // A case of few clocks so many places up, and perhaps a line of two clocks more, over all of them.
-pub(crate) fn moved(p: Plan, up: u64, d: [u64; 48]) -> Plan {
-    let sheet = p.sheet;
-    let s = moved_sheet(sheet, up);
-    let more = another_line(d, s.clocks);
-    let before = p.habits;
-    let habits = moved_habits(before, up as usize);
-    let mut next = p;
-    next.sheet = maybe(d, 41, 2, s, more);
-    next.habits = habits;
-    next
+pub(crate) fn moved(mut p: Plan, up: u64, d: [u64; 48]) -> Plan {
+    let s = moved_sheet(p.sheet, up);
+    p.sheet = maybe(d, 41, 2, s, another_line(d, s.clocks));
+    // (a usize has no `From` of 64 bits)
+    p.habits = moved_habits(p.habits, up as usize);
+    p
 }
 
 // Eight clocks, all or most unseen in the first instant.

@@ -1,8 +1,8 @@
 // When a filled run fits.
 ghost use Rattle.std.specs.Prelude.{◌≤◌};
 
-use crate::history::{Filled, clock_of};
-use crate::obligation::{Obligation, is_kept, wide};
+use crate::history::Filled;
+use crate::obligation::{Obligation, is_kept};
 use crate::sentence::{
     counted, delayed, excludes, implies, kills, never_falls, relation, strictly, weakly,
 };
@@ -13,8 +13,7 @@ use records::sheet::{Sheet, line_at};
 pub(crate) fn line_count(s: Sheet) -> usize
     ensures { result ≤ 16 }
 {
-    let n = s.count;
-    if n < 16 { n } else { 16 }
+    s.count.min(16)
 }
 
 // What a sporadic line begins.
@@ -22,61 +21,31 @@ pub(crate) fn sporadic(a: u8, b: u8, t: i16) -> Obligation {
     Obligation {
         clock: a,
         on: b,
-        due: wide(t),
+        due: i64::from(t),
     }
 }
 
-fn line_fits(n: usize, f: Filled, l: Line) -> bool
-    requires { n ≤ 16 }
-{
+// What a line says.
+fn line_fits(f: &[Filled], l: Line) -> bool {
     match l {
-        Line::Sporadic { a, b, t } => is_kept(n, f, sporadic(a, b, t), 0),
-        Line::Relation { a, b, p, q } => relation(n, clock_of(f, a), clock_of(f, b), p, q),
-        Line::Implies { a, b } => implies(n, clock_of(f, a), clock_of(f, b)),
-        Line::Excludes { a, b } => excludes(n, clock_of(f, a), clock_of(f, b)),
-        Line::Delayed { a, b, d, by } => delayed(n, f, a, b, d, by),
-        Line::Weakly { a, b } => weakly(n, clock_of(f, a), clock_of(f, b)),
-        Line::Strictly { a, b } => strictly(n, clock_of(f, a), clock_of(f, b)),
-        Line::Kills { a, b } => kills(n, clock_of(f, a), clock_of(f, b)),
-        Line::Counted { a, b, d, n: number } => counted(n, f, a, b, d, number),
+        Line::Sporadic { a, b, t } => is_kept(f, sporadic(a, b, t)),
+        Line::Relation { a, b, p, q } => relation(f, a, b, p, q),
+        Line::Implies { a, b } => implies(f, a, b),
+        Line::Excludes { a, b } => excludes(f, a, b),
+        Line::Delayed { a, b, d, by } => delayed(f, a, b, d, by),
+        Line::Weakly { a, b } => weakly(f, a, b),
+        Line::Strictly { a, b } => strictly(f, a, b),
+        Line::Kills { a, b } => kills(f, a, b),
+        Line::Counted { a, b, d, n } => counted(f, a, b, d, n),
     }
 }
 
-fn lines_fit(n: usize, s: Sheet, f: Filled) -> bool
-    requires { n ≤ 16 }
-{
-    let lines = line_count(s);
-    let mut i = 0;
-    while i < lines {
-        if !line_fits(n, f, line_at(s, i)) {
-            return false;
-        }
-        i += 1;
-    }
-    true
+// What each line of a sheet says.
+fn lines_fit(s: Sheet, f: &[Filled]) -> bool {
+    (0..line_count(s)).all(|i| line_fits(f, line_at(s, i)))
 }
 
-fn tags_fit(n: usize, f: Filled) -> bool
-    requires { n ≤ 16 }
-{
-    let mut k = 0;
-    while k < 8 {
-        let clock = f.clocks[k];
-        let tags = clock.tags;
-        if !never_falls(n, tags) {
-            return false;
-        }
-        k += 1;
-    }
-    true
-}
-
-pub(crate) fn fits(n: usize, s: Sheet, f: Filled) -> bool
-    requires { n ≤ 16 }
-{
-    if tags_fit(n, f) {
-        lines_fit(n, s, f)
-    } else {
-        false
-    }
+// What every run keeps to, and what the sheet says.
+pub(crate) fn fits(s: Sheet, f: &[Filled]) -> bool {
+    never_falls(f) && lines_fit(s, f)
 }

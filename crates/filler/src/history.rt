@@ -1,95 +1,61 @@
-// A filled run by its clocks: each clock's ticks and tags at all its instants.
+// A filled run: at each of its instants the clocks that tick, and their tags.
 ghost use Rattle.std.specs.Prelude.{◌≤◌, ◌<◌};
 
-use crate::run::{Run, seen_at, tag_at};
-use records::instant::Tick;
+use records::instant::{Instant, Tick};
 use records::sheet::Sheet;
 
-#[derive(Clone, Copy)]
-pub(crate) struct Clock {
-    pub(crate) ticks: [bool; 16],
-    pub(crate) tags: [i16; 16],
-}
-
+// An instant without unseen ticks; its ticks and tags are two arrays, as in `Instant`, whose tags it has.
 #[derive(Clone, Copy)]
 pub(crate) struct Filled {
-    pub(crate) clocks: [Clock; 8],
+    // Which clocks tick; of those past the sheet's none does.
+    pub(crate) ticking: [bool; 8],
+    // The clocks' tags; those past the sheet's are at tag 0.
+    pub(crate) tags: [i16; 8],
 }
 
-// A clock's ticks, and the bits of the filling that are left for the next clocks.
-#[derive(Clone, Copy)]
-struct Ticks {
-    ticks: [bool; 16],
-    rest: usize,
+impl Filled {
+    // A clock past the eighth is idle.
+    pub(crate) fn ticks(&self, k: u8) -> bool {
+        k < 8 && self.ticking[usize::from(k)]
+    }
+
+    // A clock past the eighth is at tag 0.
+    pub(crate) fn tag(&self, k: u8) -> i16 {
+        if k < 8 { self.tags[usize::from(k)] } else { 0 }
+    }
 }
 
 // How many clocks a sheet has, at most 8.
 fn clock_count(s: Sheet) -> usize
     ensures { result ≤ 8 }
 {
-    let c = s.clocks;
-    let n = c as usize;
-    if n < 8 { n } else { 8 }
+    usize::from(s.clocks).min(8)
 }
 
-fn idle_clock() -> Clock {
-    let ticks = [false; 16];
-    let tags = [0i16; 16];
-    Clock { ticks, tags }
+// The unseen ticks of an instant.
+fn unseen_at(s: Sheet, v: &Instant) -> usize
+    ensures { result ≤ 8 }
+{
+    v.ticks[..clock_count(s)]
+        .iter()
+        .filter(|t| matches!(t, Tick::Unseen))
+        .count()
 }
 
-// A clock past the eighth is idle at tag 0.
-pub(crate) fn clock_of(f: Filled, k: u8) -> Clock {
-    let i = k as usize;
-    if i < 8 { f.clocks[i] } else { idle_clock() }
-}
-
-// One unseen tick more; those past the twelfth are not counted.
-fn count_unseen(t: Tick, count: usize) -> usize
-    requires { count ≤ 12 }
+// The unseen ticks of the instants, at most 12: those past the twelfth are not counted.
+fn unseen_count(s: Sheet, run: &[Instant]) -> usize
     ensures { result ≤ 12 }
 {
-    match t {
-        Tick::Unseen => { if count < 12 { count + 1 } else { 12 } }
-        _ => count,
-    }
-}
-
-// With the unseen ticks of a clock in the first n instants.
-fn count_unseen_of(run: Run, n: usize, k: usize, count: usize) -> usize
-    requires { (n ≤ 16) × ((k < 8) × (count ≤ 12)) }
-    ensures { result ≤ 12 }
-{
-    let mut all = count;
-    let mut i = 0;
-    while i < n {
-        all = count_unseen(seen_at(run, k, i), all);
-        i += 1;
+    let mut all: usize = 0;
+    for v in run {
+        all = (all + unseen_at(s, v)).min(12);
     }
     all
 }
 
-// The unseen ticks of the first n instants, at most 12.
-fn unseen_count(s: Sheet, run: Run, n: usize) -> usize
-    requires { n ≤ 16 }
-    ensures { result ≤ 12 }
-{
-    let clocks = clock_count(s);
-    let mut all = 0;
-    let mut k = 0;
-    while k < clocks {
-        all = count_unseen_of(run, n, k, all);
-        k += 1;
-    }
-    all
-}
-
-// How many fillings the first n instants have: two for each unseen tick.
-pub(crate) fn filling_count(s: Sheet, run: Run, n: usize) -> usize
-    requires { n ≤ 16 }
-{
-    let u = unseen_count(s, run, n);
-    1usize << u
+// How many fillings the instants have: two for each unseen tick.
+pub(crate) fn filling_count(s: Sheet, run: &[Instant]) -> usize {
+    1 << unseen_count(s, run)
 }
 
 // An unseen tick is the lowest bit.
@@ -105,52 +71,34 @@ fn filled_tick(t: Tick, bits: usize) -> bool {
 fn next_bits(t: Tick, bits: usize) -> usize {
     match t {
         Tick::Unseen => bits / 2,
-        _ => bits,
+        Tick::Idle | Tick::Ticks => bits,
     }
 }
 
-fn ticks_of(run: Run, n: usize, k: usize, bits: usize) -> Ticks
-    requires { (n ≤ 16) × (k < 8) }
+// Sets a clock's ticks, the unseen ones by the bits, and its tags; the bits that are left for the next clocks.
+fn fill_clock(filled: &mut [Filled], run: &[Instant], k: usize, bits: usize) -> usize
+    requires { k < 8 }
 {
-    let mut ticks = [false; 16];
     let mut rest = bits;
-    let mut i = 0;
-    while i < n {
-        let t = seen_at(run, k, i);
-        ticks[i] = filled_tick(t, rest);
+    for (f, v) in filled.iter_mut().zip(run) {
+        let t = v.ticks[k];
+        f.ticking[k] = filled_tick(t, rest);
+        f.tags[k] = v.tags[k];
         rest = next_bits(t, rest);
-        i += 1;
     }
-    Ticks { ticks, rest }
+    rest
 }
 
-fn tags_of(run: Run, n: usize, k: usize) -> [i16; 16]
-    requires { (n ≤ 16) × (k < 8) }
-{
-    let mut tags = [0i16; 16];
-    let mut i = 0;
-    while i < n {
-        tags[i] = tag_at(run, k, i);
-        i += 1;
-    }
-    tags
-}
-
-// The first n instants filled by a number, whose bits are the unseen ticks, clock by clock.
-pub(crate) fn fill(s: Sheet, run: Run, n: usize, filling: usize) -> Filled
-    requires { n ≤ 16 }
-{
-    let count = clock_count(s);
-    let mut clocks = [idle_clock(); 8];
+// The instants, at the front, filled by a number, whose bits are the unseen ticks, clock by clock.
+pub(crate) fn fill(s: Sheet, run: &[Instant], filling: usize) -> [Filled; 16] {
+    let idle = Filled {
+        ticking: [false; 8],
+        tags: [0; 8],
+    };
+    let mut filled = [idle; 16];
     let mut bits = filling;
-    let mut k = 0;
-    while k < count {
-        let t = ticks_of(run, n, k, bits);
-        let tags = tags_of(run, n, k);
-        let ticks = t.ticks;
-        clocks[k] = Clock { ticks, tags };
-        bits = t.rest;
-        k += 1;
+    for k in 0..clock_count(s) {
+        bits = fill_clock(&mut filled, run, k, bits);
     }
-    Filled { clocks }
+    filled
 }

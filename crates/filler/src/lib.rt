@@ -1,6 +1,7 @@
 // A judge for tests: it tries every filling of the whole run and carries nothing from instant to instant.
 #![tactic(auto)]
 
+mod few;
 mod fits;
 mod found;
 mod history;

@@ -1,59 +1,43 @@
 // A run of at most 16 instants, in the order in which they happened.
-ghost use Rattle.std.specs.Prelude.{◌≤◌, ◌<◌};
+ghost use Rattle.std.specs.Prelude.{◌≤◌, length};
 
 use records::form::Form;
-use records::instant::{Instant, Tick, TickSlot};
+use records::instant::{Instant, Tick};
 
+// There is no heap, so it is an array and a count.
 #[derive(Clone, Copy)]
 pub struct Run {
+    // How many instants it has.
     pub count: usize,
+    // Its instants, at the front.
     pub instants: [Instant; 16],
 }
 
+// A run that has not begun.
 pub fn no_instants() -> Run {
-    let ticks = [TickSlot { tick: Tick::Idle }; 8];
-    let tags = [0i16; 8];
     let instant = Instant {
         form: Form::Plain,
-        ticks,
-        tags,
+        ticks: [Tick::Idle; 8],
+        tags: [0; 8],
     };
-    let instants = [instant; 16];
-    Run { count: 0, instants }
+    Run {
+        count: 0,
+        instants: [instant; 16],
+    }
 }
 
 // A run with one instant more; a seventeenth is left out.
-pub fn with_instant(r: Run, v: Instant) -> Run {
-    let at = r.count;
-    if at < 16 {
-        let mut next = r;
-        next.instants[at] = v;
-        next.count = at + 1;
-        return next;
+pub fn with_instant(mut r: Run, v: Instant) -> Run {
+    if r.count < 16 {
+        r.instants[r.count] = v;
+        r.count += 1;
     }
     r
 }
 
-// How many instants a run has.
-pub(crate) fn instant_count(run: Run) -> usize
-    ensures { result ≤ 16 }
+// The instants of a run, at most 16.
+pub(crate) fn instants(run: &Run) -> &[Instant]
+    ensures { length result.now ≤ 16 }
 {
-    let n = run.count;
-    if n < 16 { n } else { 16 }
-}
-
-pub(crate) fn seen_at(run: Run, k: usize, i: usize) -> Tick
-    requires { (k < 8) × (i < 16) }
-{
-    let instant = run.instants[i];
-    let slot = instant.ticks[k];
-    let t = slot.tick;
-    t
-}
-
-pub(crate) fn tag_at(run: Run, k: usize, i: usize) -> i16
-    requires { (k < 8) × (i < 16) }
-{
-    let instant = run.instants[i];
-    instant.tags[k]
+    &run.instants[..run.count.min(16)]
 }

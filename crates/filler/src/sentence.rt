@@ -1,207 +1,77 @@
-// What each kind of line says of the first n instants of its clocks.
-ghost use Rattle.std.specs.Prelude.{◌≤◌, ◌<◌};
+// What each kind of line says of the instants of a filled run.
+ghost use Rattle.std.specs.Prelude.{◌≤◌, length};
 
-use crate::history::{Clock, Filled, clock_of};
-use crate::obligation::{begun_at, is_kept, wide};
+use crate::history::Filled;
+use crate::obligation::{begun_at, is_kept};
 
-// No tag is below the tag at the instant before.
-pub(crate) fn never_falls(n: usize, tags: [i16; 16]) -> bool
-    requires { n ≤ 16 }
-{
-    let mut i = 1;
-    while i < n {
-        if tags[i] < tags[i - 1] {
-            return false;
-        }
-        i += 1;
-    }
-    true
+// No clock's tag is below its tag at the instant before.
+pub(crate) fn never_falls(f: &[Filled]) -> bool {
+    (0..8).all(|k| f.is_sorted_by_key(|v| v.tag(k)))
 }
 
-// a = p × b + q, in whole numbers without wrapping.
+// a = p × b + q, in 64 bits, where products and sums of tags don't wrap.
 fn is_product(a: i16, p: i16, b: i16, q: i16) -> bool {
-    wide(a) == wide(p) * wide(b) + wide(q)
+    i64::from(a) == i64::from(p) * i64::from(b) + i64::from(q)
 }
 
-pub(crate) fn relation(n: usize, a: Clock, b: Clock, p: i16, q: i16) -> bool
-    requires { n ≤ 16 }
-{
-    let mut i = 0;
-    while i < n {
-        let x = a.tags[i];
-        let y = b.tags[i];
-        if !is_product(x, p, y, q) {
-            return false;
-        }
-        i += 1;
-    }
-    true
+// A = p × B + q at each instant.
+pub(crate) fn relation(f: &[Filled], a: u8, b: u8, p: i16, q: i16) -> bool {
+    f.iter().all(|v| is_product(v.tag(a), p, v.tag(b), q))
 }
 
 // Where A ticks, B ticks.
-pub(crate) fn implies(n: usize, a: Clock, b: Clock) -> bool
-    requires { n ≤ 16 }
-{
-    let mut i = 0;
-    while i < n {
-        let x = a.ticks[i];
-        let y = b.ticks[i];
-        if x && !y {
-            return false;
-        }
-        i += 1;
-    }
-    true
+pub(crate) fn implies(f: &[Filled], a: u8, b: u8) -> bool {
+    f.iter().all(|v| !v.ticks(a) || v.ticks(b))
 }
 
 // A and B never tick together.
-pub(crate) fn excludes(n: usize, a: Clock, b: Clock) -> bool
-    requires { n ≤ 16 }
-{
-    let mut i = 0;
-    while i < n {
-        let x = a.ticks[i];
-        let y = b.ticks[i];
-        if x && y {
-            return false;
-        }
-        i += 1;
-    }
-    true
+pub(crate) fn excludes(f: &[Filled], a: u8, b: u8) -> bool {
+    !f.iter().any(|v| v.ticks(a) && v.ticks(b))
 }
 
-// It ticks at an instant from `from` on.
-pub(crate) fn ticks_from(n: usize, a: Clock, from: usize) -> bool
-    requires { n ≤ 16 }
-{
-    let mut i = from;
-    while i < n {
-        if a.ticks[i] {
-            return true;
-        }
-        i += 1;
-    }
-    false
+// It ticks at one of the instants.
+pub(crate) fn has_ticked(f: &[Filled], a: u8) -> bool {
+    f.iter().any(|v| v.ticks(a))
 }
 
 // If A ticks at an instant, B doesn't tick there or later.
-pub(crate) fn kills(n: usize, a: Clock, b: Clock) -> bool
-    requires { n ≤ 16 }
-{
-    let mut i = 0;
-    while i < n {
-        let x = a.ticks[i];
-        if x && ticks_from(n, b, i) {
-            return false;
-        }
-        i += 1;
-    }
-    true
+pub(crate) fn kills(f: &[Filled], a: u8, b: u8) -> bool {
+    !f.iter()
+        .enumerate()
+        .any(|(i, v)| v.ticks(a) && has_ticked(&f[i..], b))
 }
 
-pub(crate) fn one_if(b: bool) -> usize
-    ensures { result ≤ 1 }
+// At how many of the instants it ticks.
+pub(crate) fn tick_count(f: &[Filled], a: u8) -> usize
+    ensures { result ≤ length f.now }
 {
-    if b { 1 } else { 0 }
-}
-
-// The ticks from instant `from` on, before instant n.
-pub(crate) fn ticks_between(from: usize, n: usize, a: Clock) -> usize
-    requires { n ≤ 16 }
-    ensures { result ≤ n }
-{
-    let mut count = 0;
-    let mut i = from;
-    while i < n {
-        let x = a.ticks[i];
-        count += one_if(x);
-        i += 1;
-    }
-    count
-}
-
-// The ticks before instant n.
-pub(crate) fn tick_count(n: usize, a: Clock) -> usize
-    requires { n ≤ 16 }
-    ensures { result ≤ n }
-{
-    ticks_between(0, n, a)
+    f.iter().filter(|v| v.ticks(a)).count()
 }
 
 // Up to and with each instant, A has ticked at least as often as B.
-pub(crate) fn weakly(n: usize, a: Clock, b: Clock) -> bool
-    requires { n ≤ 16 }
-{
-    let mut i = 0;
-    while i < n {
-        if tick_count(i + 1, a) < tick_count(i + 1, b) {
-            return false;
-        }
-        i += 1;
-    }
-    true
+pub(crate) fn weakly(f: &[Filled], a: u8, b: u8) -> bool {
+    (1..=f.len()).all(|i| tick_count(&f[..i], b) <= tick_count(&f[..i], a))
 }
 
 // A's ticks before each instant are at least B's ticks up to and with it.
-pub(crate) fn strictly(n: usize, a: Clock, b: Clock) -> bool
-    requires { n ≤ 16 }
-{
-    let mut i = 0;
-    while i < n {
-        if tick_count(i, a) < tick_count(i + 1, b) {
-            return false;
-        }
-        i += 1;
-    }
-    true
+pub(crate) fn strictly(f: &[Filled], a: u8, b: u8) -> bool {
+    (0..f.len()).all(|i| tick_count(&f[..=i], b) <= tick_count(&f[..i], a))
 }
 
 // Each tick of A begins an obligation that a later instant meets, or whose due is not passed.
-pub(crate) fn delayed(n: usize, f: Filled, a: u8, b: u8, d: u8, by: u16) -> bool
-    requires { n ≤ 16 }
-{
-    let clock = clock_of(f, a);
-    let mut i = 0;
-    while i < n {
-        let x = clock.ticks[i];
-        if x && !is_kept(n, f, begun_at(f, b, d, by, i), i + 1) {
-            return false;
-        }
-        i += 1;
-    }
-    true
+pub(crate) fn delayed(f: &[Filled], a: u8, b: u8, d: u8, by: u16) -> bool {
+    f.iter().enumerate().all(|(i, v)| !v.ticks(a) || is_kept(&f[i + 1..], begun_at(v, b, d, by)))
 }
 
-// Where B makes its tick number `wanted` from instant `from` on, D ticks.
-fn is_answered(n: usize, b: Clock, d: Clock, from: usize, wanted: usize) -> bool
-    requires { n ≤ 16 }
-{
-    let mut j = from;
-    while j < n {
-        let x = b.ticks[j];
-        let y = d.ticks[j];
-        j += 1;
-        if x && !y && ticks_between(from, j, b) == wanted {
-            return false;
-        }
-    }
-    true
+// Where B makes its tick number `wanted` of the instants, D ticks.
+fn is_answered(f: &[Filled], b: u8, d: u8, wanted: usize) -> bool {
+    f.iter().enumerate().all(|(i, v)| !v.ticks(b)
+        || v.ticks(d)
+        || tick_count(&f[..=i], b) != wanted)
 }
 
 // After each tick of A, D ticks at the instant at which B makes its later tick of that number; B's ticks count from the following instant on.
-pub(crate) fn counted(n: usize, f: Filled, a: u8, b: u8, d: u8, number: u8) -> bool
-    requires { n ≤ 16 }
-{
-    let clock = clock_of(f, a);
-    let on = clock_of(f, b);
-    let due = clock_of(f, d);
-    let mut i = 0;
-    while i < n {
-        let x = clock.ticks[i];
-        if x && !is_answered(n, on, due, i + 1, number as usize) {
-            return false;
-        }
-        i += 1;
-    }
-    true
+pub(crate) fn counted(f: &[Filled], a: u8, b: u8, d: u8, number: u8) -> bool {
+    f.iter().enumerate().all(|(i, v)| !v.ticks(a)
+        || is_answered(&f[i + 1..], b, d, usize::from(number)))
 }

@@ -1,9 +1,13 @@
 // What a run is judged to be.
 
-// live: how many distinct remainders; clear: one of them has no obligation, neither of sporadic and delay lines nor of lines that count.
-#[derive(Clone, Copy)]
+#[derive(Clone, Copy, Debug, PartialEq, Eq)]
 pub enum Verdict {
     Exhausted,
     Broken,
-    Holding { live: usize, clear: bool },
+    Holding {
+        // How many distinct remainders.
+        live: usize,
+        // One of them has no obligation, neither of sporadic and delay lines nor of lines that count.
+        clear: bool,
+    },
 }

@@ -1,91 +1,77 @@
 // The judge: every beginning of a run, every filling of it.
-ghost use Rattle.std.specs.Prelude.{◌≤◌};
+ghost use Rattle.std.specs.Prelude.{◌≤◌, length};
 
 use crate::fits::fits;
-use crate::found::{
-    Found, found_count, is_clear, is_exhausted, none_found, owing_count, with_remainder,
-};
+use crate::found::{Found, is_clear, none_found, owing_count, with_remainder};
 use crate::history::{Filled, fill, filling_count};
 use crate::remainder::remainder_of;
-use crate::run::{Run, instant_count};
+use crate::run::{Run, instants};
 use crate::verdict::Verdict;
+use records::instant::Instant;
 use records::sheet::Sheet;
 
-// With the remainder of a filled run, if it fits.
-fn with_filled(n: usize, s: Sheet, f: Filled, found: Found) -> Found
-    requires { n ≤ 16 }
-{
-    if fits(n, s, f) {
-        let r = remainder_of(n, s, f);
-        return with_remainder(found, r);
+// With the remainder of a filled run, if it fits; none where there are too many, or it has too many obligations.
+fn with_filled(s: Sheet, f: &[Filled], found: Found) -> Option<Found> {
+    if fits(s, f) {
+        with_remainder(found, remainder_of(s, f)?)
+    } else {
+        Some(found)
     }
-    found
 }
 
-// The distinct remainders of the first n instants; it stops once there are too many.
-fn remainders_of(s: Sheet, run: Run, n: usize) -> Found
-    requires { n ≤ 16 }
+// The distinct remainders of a beginning of a run; none where there are too many, or one has too many obligations.
+fn remainders_of(s: Sheet, run: &[Instant]) -> Option<Found>
+    requires { length run.now ≤ 16 }
 {
-    let end = filling_count(s, run, n);
     let mut found = none_found();
-    let mut filling = 0;
-    while filling < end {
-        let f = fill(s, run, n, filling);
-        found = with_filled(n, s, f, found);
-        if is_exhausted(found) {
-            return found;
-        }
-        filling += 1;
+    for filling in 0..filling_count(s, run) {
+        let filled = fill(s, run, filling);
+        found = with_filled(s, &filled[..run.len()], found)?;
     }
-    found
+    Some(found)
 }
 
-fn verdict_of(found: Found) -> Verdict {
-    if is_exhausted(found) {
-        return Verdict::Exhausted;
+// What the distinct remainders of the whole run say of it.
+fn verdict_of(found: &Found) -> Verdict {
+    match found.all().len() {
+        0 => Verdict::Broken,
+        live => Verdict::Holding {
+            live,
+            clear: is_clear(found),
+        },
     }
-    let live = found_count(found);
-    if live == 0 {
-        return Verdict::Broken;
+}
+
+// The distinct remainders of the whole run; none where it or a beginning of it is exhausted.
+fn all_of(sheet: Sheet, run: Run) -> Option<Found> {
+    let all = instants(&run);
+    for n in 0..all.len() {
+        let _ = remainders_of(sheet, &all[..n])?;
     }
-    Verdict::Holding {
-        live,
-        clear: is_clear(found),
-    }
+    remainders_of(sheet, all)
 }
 
 // Instants past the sixteenth are left out, unseen ticks past the twelfth are idle.
 pub fn judge(sheet: Sheet, run: Run) -> Verdict {
-    let n = instant_count(run);
-    let mut k = 0;
-    while k < n {
-        let found = remainders_of(sheet, run, k);
-        if is_exhausted(found) {
-            return Verdict::Exhausted;
-        }
-        k += 1;
+    match all_of(sheet, run) {
+        None => Verdict::Exhausted,
+        Some(found) => verdict_of(&found),
     }
-    verdict_of(remainders_of(sheet, run, n))
 }
 
 // How many of the remainders owe each clock a tick.
-fn owing_counts(found: Found) -> [usize; 8] {
-    let mut counts = [0usize; 8];
-    let mut k = 0;
-    while k < 8 {
-        counts[k] = owing_count(found, k as u8);
-        k += 1;
+fn owing_counts(found: &Found) -> [usize; 8] {
+    let mut counts = [0; 8];
+    for k in 0..8u8 {
+        counts[usize::from(k)] = owing_count(found, k);
     }
     counts
 }
 
 // How many of the run's distinct remainders owe each clock a tick; 0 unless the judge says holding.
 pub fn owing(sheet: Sheet, run: Run) -> [usize; 8] {
-    match judge(sheet, run) {
-        Verdict::Holding { live: _, clear: _ } => {
-            let n = instant_count(run);
-            owing_counts(remainders_of(sheet, run, n))
-        }
-        _ => [0usize; 8],
+    match all_of(sheet, run) {
+        None => [0; 8],
+        Some(found) => owing_counts(&found),
     }
 }

@@ -1,4 +1,6 @@
 -- A monitor within its limits holds at most 32 remainders and 4,000 instants, so what it says has room in a result. Assumes nothing.
+use Rattle.std.specs.Prelude.{None, Some}
+use Rattle.std.specs.declared.option.Option as option
 use mathlib.Core.Bool.{true}
 use mathlib.Core.List.{List, [], ◌∷◌}
 use mathlib.Core.Option.{Option, none, some}
@@ -12,8 +14,6 @@ use Rattle.tesl.specs.Remainder.{Remainder}
 use Rattle.tesl.specs.Answer.{judged}
 use Rattle.tesl.proofs.Tests.{≡→T}
 use Rattle.work.specs.View.{held_list}
-use Rattle.remainders.specs.declared.held.Status.{Status}
-use Rattle.remainders.specs.declared.held.Status.TheVariants.{Exhausted, Live}
 use Rattle.judge.specs.declared.monitor.Monitor.{Monitor}
 use Rattle.remainders.specs.View.{view_of, held_in}
 use Rattle.judge.specs.Answer.{said_by}
@@ -39,9 +39,9 @@ module _ (m : Monitor) (e : monitor_within m ≡ true) where
   unfolding held_within
   held-few = by_count m.held.count (within_held m e)
     where
-      by_count : (c : Status) → held_within (sheet_by m) m.instants c m.held.remainders ≡ true → length (held_list (held_in (sheet_by m) c m.held.remainders)) ≤ 32
-      by_count Exhausted h = omega arith
-      by_count (Live n) h = omega (arith, leb→le n 32 (≡→T (both (leb n 32) h).0), take-most n m.held.remainders, length-map (take n m.held.remainders) (view_of (sheet_by m)))
+      by_count : (c : option.Option ℕ) → held_within (sheet_by m) m.instants c m.held.remainders ≡ true → length (held_list (held_in (sheet_by m) c m.held.remainders)) ≤ 32
+      by_count None h = omega arith
+      by_count (Some n) h = omega (arith, leb→le n 32 (≡→T (both (leb n 32) h).0), take-most n m.held.remainders, length-map (take n m.held.remainders) (view_of (sheet_by m)))
 
   pub said-few : live_code (said_by (held_by m)) ≤ 32
   said-few = omega (arith, said-live (held_by m), held-few)

@@ -16,7 +16,9 @@ use Rattle.tesl.specs.Answer.{Answer, answer}
 use Rattle.tesl.specs.Machine.{accepts, list_after, list_after_calls}
 use Rattle.theory.specs.Session.{Observing}
 use Rattle.work.specs.View.{held_list}
-use Rattle.judge.specs.declared.answer.Reply.{Reply}
+use Rattle.std.specs.Prelude.{Result}
+use Rattle.records.specs.declared.refusal.Refusal.{Refusal}
+use Rattle.judge.specs.declared.answer.Answer as code
 use Rattle.lent.specs.declared.live.Replied.{Replied}
 use Rattle.judge.specs.declared.monitor.Monitor.{Monitor}
 use Rattle.judge.specs.declared.monitor.CallResult.{CallResult}
@@ -64,7 +66,7 @@ module _ (w : List ℕ) where
   said_in e = said-few (state_monitor w) (limits-in e)
 
 -- ---- lift_open
-module _ {sheet : List ℕ} {r : Reply} {a b : List ℕ} (o : OpenedIn read_sheet sheet r a b) where
+module _ {sheet : List ℕ} {r : Result code.Answer Refusal} {a b : List ℕ} (o : OpenedIn read_sheet sheet r a b) where
   pub opened-small : Packable (record { outcome = reply_of r; instants = 0 })
   opened-small = by_read (read_sheet sheet) refl
     where
@@ -86,9 +88,6 @@ module _ {bytes : List ℕ} {r : Replied} {a b : List ℕ} (o : ObservedIn bytes
           let k = (o.accepts i e).1 in
           rw k.answers record { live = said-few (state_monitor b) k.limits; count = few }
 
-  pub observed-lifted : {result : ℕ} → result ≡ result_code (reply_of r.reply) r.instants → LiftObserved bytes result a b
-  observed-lifted q = record { replied = r; observed = o; result = q ∙ ap (result_code (reply_of r.reply)) o.instants }
-
 -- ---- lift_last
 module _ {r : Replied} {w : List ℕ} (said : SaidIn r w) where
   last-said : reply_of r.reply ≡ last_reply w
@@ -97,7 +96,7 @@ module _ {r : Replied} {w : List ℕ} (said : SaidIn r w) where
     where
       by-limits : (b : Bool) → state_within w ≡ b → reply_of r.reply ≡ last_reply w
       by-limits true e = said.inside e ∙ rw e
-      by-limits false e = ap reply_of (said.outside e) ∙ rw e
+      by-limits false e = said.outside e ∙ rw e
 
   pub last-small : Packable (record { outcome = reply_of r.reply; instants = r.instants })
   last-small = by-limits (state_within w) refl
@@ -138,7 +137,7 @@ module _ {g : CallResult} {w : List ℕ} (h : GivenIn g w) where
     where
       by-limits : (b : Bool) → state_within w ≡ b → g.monitor.instants ≡ instants_in w
       by-limits true e = ap (λ (m : Monitor). m.instants) (h.monitor e) ∙ sym (instants-held w e)
-      by-limits false e = ap (λ (x : CallResult). x.monitor.instants) (h.outside e) ∙ sym (no-instants w e)
+      by-limits false e = ap (λ (m : Monitor). m.instants) (h.outside e).monitor ∙ sym (no-instants w e)
 
   pub given-few : g.monitor.instants ≤ 4000
   given-few = omega (arith, given-instants, few-instants w)
@@ -150,7 +149,7 @@ module _ {g : CallResult} {w : List ℕ} (h : GivenIn g w) where
       where
         by-limits : (b : Bool) → state_within w ≡ b → number_of (reply_of g.reply) ≡ number_of (owing_by clock w)
         by-limits true e = ap number_of (h.inside e).0 ∙ sym (ap number_of (owing-inside clock w e))
-        by-limits false e = ap (λ (x : CallResult). number_of (reply_of x.reply)) (h.outside e) ∙ sym (ap number_of (owing-outside clock w e))
+        by-limits false e = ap number_of (h.outside e).reply ∙ sym (ap number_of (owing-outside clock w e))
 
     given-count : shown_count (panel_count clock g.monitor) ≡ shown_count (owing_by clock w)
     given-count = by-limits (state_within w) refl
@@ -158,7 +157,7 @@ module _ {g : CallResult} {w : List ℕ} (h : GivenIn g w) where
         by-limits : (b : Bool) → state_within w ≡ b → shown_count (panel_count clock g.monitor) ≡ shown_count (owing_by clock w)
         by-limits true e = ap shown_count (within_count clock g.monitor (h.inside e).1 ∙ ap (counted clock) (h.held e) ∙ sym (owing-inside clock w e))
         by-limits false e =
-            ap shown_count (ap (λ (x : CallResult). panel_count clock x.monitor) (h.outside e) ∙ panel-outside clock no_monitor no-monitor-outside ∙ sym (owing-outside clock w e))
+            ap shown_count (ap (panel_count clock) (h.outside e).monitor ∙ panel-outside clock no_monitor no-monitor-outside ∙ sym (owing-outside clock w e))
 
     pub owing-code : {owing number result : ℕ} → owing ≡ shown_count (panel_count clock g.monitor) → number ≡ number_of (reply_of g.reply)
         → result ≡ packed number 0 owing 0 g.monitor.instants → result ≡ owing_code clock w
@@ -204,7 +203,7 @@ all-calls {s} run f (call {bytes = bytes} o cs) =
 
 pub lift-demand3 : LiftDemand3
 lift-demand3 sheet calls r = record {
-  refuses = λ n e. let k = r.opens.opened.refuses n e in (r.opens.result ∙ ap (λ (x : Reply). result_code (reply_of x) 0) k.0, k.1);
+  refuses = λ n e. let k = r.opens.opened.refuses n e in (r.opens.result ∙ ap (λ (o : Outcome Answer). result_code o 0) k.0, k.1);
   reads = λ s e.
       let k = r.opens.opened.opens s e in
       let c = all-calls [] k.1 r.observes in

@@ -1,7 +1,5 @@
 -- What the contracts of the inner functions cite.
 use Rattle.std.specs.Prelude.{List, ◌≡◌, ℕ, ◌≤◌}
-use Rattle.records.specs.declared.record.Decision as reading
-use Rattle.records.specs.declared.record.Decision.TheVariants.{Done, Refused}
 use Rattle.records.specs.Outcome.{taken, refused}
 use Rattle.records.specs.Sheet.{SheetValue}
 use Rattle.tesl.specs.Run.{Instant}
@@ -12,11 +10,6 @@ use Rattle.judge.specs.Answer.{reply_of}
 use Rattle.logs.specs.Entry.{live_code}
 use Rattle.judge.specs.Promises.{Follows}
 use Rattle.gateway.specs.Result.{unless_refused, owing_in}
-
--- the number of what reading refuses
-abbrev pub reading_number : reading.Decision → ℕ
-reading_number Done = 0
-reading_number (Refused n) = n
 
 -- what has room in a result
 pub record Packable (r : LogResult) : Type 0 where

@@ -1,5 +1,5 @@
 -- What the calls on a state of words return, and demand 3 of exactly these calls. Words are read as `lent` reads them (its specs/State.antt and Live.antt).
-use Rattle.std.specs.Prelude.{cond, List, [], ◌∷◌, ◌≡◌, ℕ, ◌%◌, length}
+use Rattle.std.specs.Prelude.{cond, List, [], ◌∷◌, ◌≡◌, ℕ, ◌%◌, length, Result}
 use Rattle.std.proofs.Math.Option.{some}
 use Rattle.records.specs.Outcome.{Outcome, taken, refused}
 use Rattle.records.specs.Sheet.{SheetValue, read_sheet}
@@ -7,7 +7,8 @@ use Rattle.tesl.specs.Run.{Instant}
 use Rattle.tesl.specs.Answer.{Answer, answer}
 use Rattle.tesl.specs.Machine.{accepts, list_after, reply, list_after_calls}
 use Rattle.theory.specs.Numbered.{RecordOf, RunsAlong}
-use Rattle.judge.specs.declared.answer.Reply.{Reply}
+use Rattle.judge.specs.declared.answer.Answer as code
+use Rattle.records.specs.declared.refusal.Refusal.{Refusal}
 use Rattle.lent.specs.declared.live.Replied.{Replied}
 use Rattle.judge.specs.Answer.{reply_of, said_by}
 use Rattle.judge.specs.Monitor.{held_by}
@@ -24,7 +25,7 @@ result_code o n = judged_code (record { outcome = o; instants = n })
 
 -- lift_open: what opening replies, with no instant held
 pub record LiftOpened (sheet : List ℕ) (r : ℕ) (a b : List ℕ) : Type 0 where
-  pub reply : Reply
+  pub reply : Result code.Answer Refusal
   pub opened : OpenedIn read_sheet sheet reply a b
   pub result : r ≡ result_code (reply_of reply) 0
 

@@ -30,7 +30,7 @@ opening-follows : (read : Reader) (sheet : List ℕ) (outcome : Outcome (machine
 opening-follows read sheet outcome (r, h, e) = subst (Opening read Follows sheet) e (by_read (read sheet) refl)
   where
     by_read : (o : Outcome SheetValue) → read sheet ≡ o → Opening read Follows sheet (opened_of (reply_of r.reply) r.monitor)
-    by_read (refused n) f = rw (h.refuses n f) (refuses f)
+    by_read (refused n) f = rw (h.refuses n f).reply (refuses f)
     by_read (taken s) f = rw (h.opens s f).0 (opens f refl (h.opens s f).1)
 
 -- ---- observing
@@ -48,8 +48,8 @@ called-follows s run m bytes r f h = by-outcome (accepts s run bytes) refl
     by-outcome (refused n) q =
         let g = h.refuses n (same-call s run m bytes f ∙ q) in
         record {
-          same = rw q (ap (λ (x : CallResult). reply_of x.reply) g);
-          follows = rw q (subst (Follows s run) (sym (ap (λ (x : CallResult). x.monitor) g)) f);
+          same = rw q g.reply;
+          follows = rw q (subst (Follows s run) (sym g.monitor) f);
         }
     by-outcome (taken i) q =
         let g = (h.accepts i (same-call s run m bytes f ∙ q)).follows s run f in

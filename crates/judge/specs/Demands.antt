@@ -2,9 +2,8 @@
 -- `read` is how the sheet's bytes are read, by `open` as `read_sheet`, by `open_base` as `read_base`.
 use mathlib.Core.List.{List, ◌∷◌, ◌++◌, Permᴰ}
 use Rattle.std.proofs.Math.Option.{Option}
-use Rattle.std.specs.Prelude.{◌≡◌, ℕ, take}
+use Rattle.std.specs.Prelude.{◌≡◌, ℕ, take, Ok}
 use Rattle.records.specs.declared.line.Line.{Line}
-use Rattle.records.specs.declared.record.Written.TheVariants.{Bytes}
 use Rattle.records.specs.Outcome.{Outcome, taken, refused}
 use Rattle.records.specs.Sheet.{SheetValue, read_sheet, read_base}
 use Rattle.records.specs.Sort.{IsIn, SortsBytes}
@@ -79,7 +78,7 @@ DroppedAnswers =
 -- for sorting: what `sort_sheet` wrote of a sheet that document 01's rules take, n bytes at the buffer's front, opened by `open`
 abbrev pub SortedAnswers : Type 0
 SortedAnswers =
-    (b before after : List ℕ) (n : ℕ) (v : SheetValue) → IsBytes b → read_base b ≡ taken v → SortsBytes b before (Bytes n) after
+    (b before after : List ℕ) (n : ℕ) (v : SheetValue) → IsBytes b → read_base b ≡ taken v → SortsBytes b before (Ok n) after
     → AnsweredAlike read_base b read_sheet (take n after)
 
 -- ---- numbered instants (document 02, Q-5)

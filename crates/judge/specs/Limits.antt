@@ -1,5 +1,5 @@
 -- Limits of a monitor (11), in document 01's order.
-use Rattle.std.specs.Prelude.{Bool, true, false, ◌&&◌, List, ◌≡◌, ℕ, leb, ltb, take}
+use Rattle.std.specs.Prelude.{Bool, true, false, ◌&&◌, List, ◌≡◌, ℕ, leb, ltb, take, None, Option, Some}
 use Rattle.records.specs.declared.order.Order.TheVariants.{Any}
 use Rattle.records.specs.Outcome.{Outcome, taken, refused, decide}
 use Rattle.records.specs.Sheet.{SheetValue, sheet_value, sheet_value_checks}
@@ -9,8 +9,6 @@ use Rattle.tesl.specs.Fits.{most_tag}
 use Rattle.theory.specs.Limits.{least_tag, within_limits}
 use Rattle.remainders.specs.declared.obligation.Obligation as code
 use Rattle.remainders.specs.declared.remainder.Remainder as arrays
-use Rattle.remainders.specs.declared.held.Status.{Status}
-use Rattle.remainders.specs.declared.held.Status.TheVariants.{Exhausted, Live}
 use Rattle.judge.specs.declared.monitor.Monitor.{Monitor}
 use Rattle.remainders.specs.Word.{due_number}
 use Rattle.remainders.specs.View.{view_of, few_owed}
@@ -42,9 +40,9 @@ unfoldable pub remainder_within : SheetValue → ℕ → arrays.Remainder → Bo
 remainder_within v instants r = few_owed r && within_limits most_tag v.clocks instants (view_of v r)
 
 -- live 0 to 32; none is held once exhausted
-unfoldable pub held_within : SheetValue → ℕ → Status → List arrays.Remainder → Bool
-held_within v instants Exhausted rs = true
-held_within v instants (Live n) rs = leb n 32 && all (remainder_within v instants) (take n rs)
+unfoldable pub held_within : SheetValue → ℕ → Option ℕ → List arrays.Remainder → Bool
+held_within v instants None rs = true
+held_within v instants (Some n) rs = leb n 32 && all (remainder_within v instants) (take n rs)
 
 -- instants 0 to 4,000
 unfoldable pub monitor_within : Monitor → Bool

@@ -1,17 +1,16 @@
 -- What a monitor keeps, and what the inner functions of opening and observing promise.
-use Rattle.std.specs.Prelude.{cond, List, [], ◌≡◌, ℕ, suc, ◌≤◌, ◌<◌, T, eqb, ℤ, pos, take, replicate, get_or}
+use Rattle.std.specs.Prelude.{cond, List, [], ◌≡◌, ℕ, suc, ◌≤◌, ◌<◌, T, eqb, ℤ, pos, take, replicate, get_or, Some, Err}
 use Rattle.std.proofs.Math.Option.{Option, none, some}
 use Rattle.records.specs.declared.sheet.Sheet.{Sheet}
 use Rattle.records.specs.declared.instant.Instant.{Instant}
-use Rattle.records.specs.Outcome.{taken}
+use Rattle.records.specs.Outcome.{taken, refused}
 use Rattle.records.specs.Sheet.{SheetValue, sheet_value, sheet_of}
 use Rattle.tesl.specs.Lists.{all}
 use Rattle.tesl.specs.Remainder.{Remainder}
 use Rattle.work.specs.View.{seen_of, tags_before}
 use Rattle.work.specs.Lines.{small_leads}
 use Rattle.work.specs.Work.{worked}
-use Rattle.remainders.specs.declared.held.Status.TheVariants.{Live}
-use Rattle.judge.specs.declared.answer.Reply.TheVariants as reply
+use Rattle.records.specs.declared.refusal.Refusal.{Refusal}
 use Rattle.judge.specs.declared.monitor.Monitor.{Monitor}
 use Rattle.judge.specs.declared.monitor.CallResult.{CallResult}
 use Rattle.remainders.specs.View.{blank_remainder, live_count, held_of, live_of, sized}
@@ -43,15 +42,20 @@ pub record KeepsNothing (m : Monitor) : Type 0 where
 -- ---- no monitor
 
 abbrev pub blank_monitor : Sheet → Monitor
-blank_monitor s = record { sheet = s; instants = 0; tags = replicate 8 (pos 0); held = record { count = Live 0; remainders = replicate 32 blank_remainder } }
+blank_monitor s = record { sheet = s; instants = 0; tags = replicate 8 (pos 0); held = record { count = Some 0; remainders = replicate 32 blank_remainder } }
 
 -- what stands in a monitor's place beside a refused opening: it has no clock, so it is outside its limits
 unfoldable pub no_monitor : Monitor
 no_monitor = blank_monitor (sheet_of (record { clocks = 0; lines = [] }))
 
+-- a call refused: why, and the monitor as it came
+abbrev pub refused_call : Refusal → Monitor → CallResult
+refused_call why m = record { reply = Err why; monitor = m }
+
 -- the number, and the monitor as it came
-abbrev pub refusal : ℕ → Monitor → CallResult
-refusal n m = record { reply = reply.Refused n; monitor = m }
+pub record Refuses (n : ℕ) (m : Monitor) (r : CallResult) : Type 0 where
+  pub reply : reply_of r.reply ≡ refused n
+  pub monitor : r.monitor ≡ m
 
 -- what work asks of a monitor
 pub record Workable (m : Monitor) : Type 0 where

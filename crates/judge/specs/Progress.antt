@@ -1,5 +1,5 @@
 -- A monitor kept in rows, as the struct that it stands for: of each row the places in use.
-use Rattle.std.specs.Prelude.{Bool, true, List, ◌≡◌, ℕ, ◌+◌, ◌-◌, pos, replicate}
+use Rattle.std.specs.Prelude.{Bool, true, List, ◌≡◌, ℕ, ◌+◌, ◌-◌, pos, replicate, Option, Some, Result, Ok, Err}
 use Rattle.records.specs.declared.sheet.Sheet.{Sheet}
 use Rattle.records.specs.declared.instant.Instant.{Instant}
 use Rattle.records.specs.Lists.{listed}
@@ -7,10 +7,7 @@ use Rattle.records.specs.Sheet.{sheet_value}
 use Rattle.records.specs.Types.{IsSheet}
 use Rattle.remainders.specs.declared.remainder.Remainder as arrays
 use Rattle.judge.specs.declared.answer.Answer.{Answer}
-use Rattle.judge.specs.declared.answer.Reply.{Reply}
-use Rattle.judge.specs.declared.answer.Reply.TheVariants.{Answered, Refused}
-use Rattle.remainders.specs.declared.held.Status.{Status}
-use Rattle.remainders.specs.declared.held.Status.TheVariants.{Live}
+use Rattle.records.specs.declared.refusal.Refusal.{Refusal}
 use Rattle.remainders.specs.declared.held.Held.{Held}
 use Rattle.lines.specs.declared.plan.Plan.{Plan}
 use Rattle.judge.specs.declared.progress.Progress.{Progress}
@@ -38,7 +35,7 @@ row_remainder rows i = record {
   stopped = row_stopped rows i;
 }
 
-abbrev pub rows_held : Status → List ℕ → ℕ → Held
+abbrev pub rows_held : Option ℕ → List ℕ → ℕ → Held
 rows_held count rows from = record { count = count; remainders = listed (λ k. row_remainder rows (from + k)) (live_count count) }
 
 -- a monitor kept, with its sheet and its rows
@@ -51,9 +48,9 @@ progress_of m = record { instants = m.instants; tags = m.tags; count = m.held.co
 
 -- a monitor of no instant, its one remainder in the row behind the head
 abbrev pub first_progress : Progress
-first_progress = record { instants = 0; tags = replicate 8 (pos 0); count = Live 1; from = head_rows }
+first_progress = record { instants = 0; tags = replicate 8 (pos 0); count = Some 1; from = head_rows }
 
-abbrev pub given : Reply → Monitor → CallResult
+abbrev pub given : Result Answer Refusal → Monitor → CallResult
 given r m = record { reply = r; monitor = m }
 
 abbrev pub read_back : Sheet → Progress → List arrays.Remainder → Monitor
@@ -80,17 +77,17 @@ pub record Moved (k next : Progress) (a b : List ℕ) : Type 0 where
 
 -- rows to work in after an instant that was read, and, whatever the sheet, what is answered to it with room for so many remainders
 pub record Works (room : ℕ) (k : Progress) (p : Plan) (i : Instant) (lines : List ℕ) (t : InstantResult) (a b : List ℕ) (list : List Bool) : Type 0 where
-  pub working : Working b t.progress.from t.progress.count p list
+  pub working : Working b t.progress.from t.progress.count list
   pub moved : Moved k t.progress a b
   -- it is no refusal
-  pub answered : (n : ℕ) → t.reply ≡ Refused n → ⊥
+  pub answered : (e : Refusal) → t.reply ≡ Err e → ⊥
   pub accepts : (s : Sheet) → Ready s k p lines a → Accepts room (rows_monitor s k a) i (given t.reply (rows_monitor s t.progress b))
 
 -- room to work in after a call; refused, the monitor and all words are as they came; and, whatever the sheet, what the call gives; answered, the last tags of clocks from C on are 0; and the monitor to call next is as ready
 pub record Takes (k : Progress) (p : Plan) (bytes lines : List ℕ) (t : InstantResult) (a b : List ℕ) (list : List Bool) : Type 0 where
-  pub room : Working b t.progress.from t.progress.count p list
-  pub refused : (n : ℕ) → t.reply ≡ Refused n → (t.progress ≡ k) × (b ≡ a)
-  pub moved : (x : Answer) → t.reply ≡ Answered x → Moved k t.progress a b
+  pub room : Working b t.progress.from t.progress.count list
+  pub refused : (e : Refusal) → t.reply ≡ Err e → (t.progress ≡ k) × (b ≡ a)
+  pub moved : (x : Answer) → t.reply ≡ Ok x → Moved k t.progress a b
   pub called : (s : Sheet) → Ready s k p lines a → Called (rows_monitor s k a) bytes (given t.reply (rows_monitor s t.progress b))
-  pub tags : (s : Sheet) → Ready s k p lines a → (x : Answer) → t.reply ≡ Answered x → BlankFrom s.clocks (pos 0) t.progress.tags
+  pub tags : (s : Sheet) → Ready s k p lines a → (x : Answer) → t.reply ≡ Ok x → BlankFrom s.clocks (pos 0) t.progress.tags
   pub ready : (s : Sheet) → Ready s k p lines a → Ready s t.progress p lines b

@@ -15,7 +15,7 @@ use Rattle.judge.specs.declared.monitor.Monitor.{Monitor}
 use Rattle.judge.specs.declared.monitor.CallResult.{CallResult}
 use Rattle.judge.specs.Answer.{reply_of, said_by}
 use Rattle.judge.specs.Limits.{monitor_within}
-use Rattle.judge.specs.Monitor.{KeepsNothing, sheet_by, held_by, last_by, no_monitor, refusal}
+use Rattle.judge.specs.Monitor.{KeepsNothing, sheet_by, held_by, last_by, no_monitor, Refuses}
 
 -- m is a monitor of the sheet s after the accepted instants run: of the instants it has their number, the last tags and the last answer;
 -- while the answer is not exhausted its remainders are the run's distinct ones, each once, and each has an obligation once and a countdown once; and it is within its limits
@@ -32,7 +32,7 @@ pub record Follows (s : SheetValue) (run : List Instant) (m : Monitor) : Type 0 
 
 -- by what the sheet's bytes are read as: refused, the number and no monitor; else the answer for no instant, and a monitor that follows the sheet and keeps nothing in unused places
 pub record Opened (read : Reader) (bytes : List ℕ) (r : CallResult) : Type 0 where
-  pub refuses : (n : ℕ) → read bytes ≡ refused n → r ≡ refusal n no_monitor
+  pub refuses : (n : ℕ) → read bytes ≡ refused n → Refuses n no_monitor r
   pub opens : (s : SheetValue) → read bytes ≡ taken s → (reply_of r.reply ≡ taken (answer s [])) × Follows s [] r.monitor
   pub unused : (s : SheetValue) → read bytes ≡ taken s → KeepsNothing r.monitor
 
@@ -52,7 +52,7 @@ pub record Accepted (m : Monitor) (i : Instant) (r : CallResult) : Type 0 where
 
 -- refused: the number, and the monitor as it came
 pub record Called (m : Monitor) (bytes : List ℕ) (r : CallResult) : Type 0 where
-  pub refuses : (n : ℕ) → observes m bytes ≡ refused n → r ≡ refusal n m
+  pub refuses : (n : ℕ) → observes m bytes ≡ refused n → Refuses n m r
   pub accepts : (i : Instant) → observes m bytes ≡ taken i → Accepted m i r
 
 -- and whatever the monitor was, after an accepted instant it keeps nothing in unused places

@@ -1,5 +1,5 @@
 -- Remainders as structs, stored in rows and read back.
-use Rattle.std.specs.Prelude.{Bool, false, cond, List, map, ◌≡◌, ℕ, ◌+◌, ◌≤◌, ◌<◌, T, length, get_or, take}
+use Rattle.std.specs.Prelude.{Bool, false, cond, List, map, ◌≡◌, ℕ, ◌+◌, ◌≤◌, ◌<◌, T, length, get_or, take, Option}
 use Rattle.records.specs.Sheet.{SheetValue}
 use Rattle.tesl.specs.Lists.{all}
 use Rattle.work.specs.View.{used_part, held_list}
@@ -7,11 +7,10 @@ use Rattle.work.specs.Lines.{small_leads}
 use Rattle.remainders.specs.declared.obligation.Obligation as code
 use Rattle.lines.specs.declared.plan.Plan.{Plan}
 use Rattle.remainders.specs.declared.remainder.Remainder as arrays
-use Rattle.remainders.specs.declared.held.Status.{Status}
 use Rattle.remainders.specs.Word.{number_in}
 use Rattle.remainders.specs.View.{remainder_of, blank_remainder, view_of, live_count, held_in, few_owed, sized_in}
 use Rattle.remainders.specs.Unused.{BlankFrom, NothingUnused}
-use Rattle.lines.specs.Plan.{PlanFits, Planned}
+use Rattle.lines.specs.Plan.{Planned}
 use Rattle.remainders.specs.Rows.{leads_part, stopped_part, parts_end, second_side, head_rows, height, all_words, row_count, row_set, row_lead, row_leads, row_stop, row_stopped, row_of, rows_of, FewInRow, FewOwed, Stays, PartStays, HeadStays}
 use Rattle.step.specs.Apply.{found_in, FewOwedIn}
 
@@ -55,11 +54,10 @@ pub record StoppedAt (clocks i : ℕ) (xs : List Bool) (rows : List ℕ) : Type 
   pub first : (k : ℕ) → k < clocks → get_or xs k false ≡ row_stop rows i k
   pub rest : BlankFrom clocks false xs
 
--- row i, of at most eight in each set, for a plan
-pub record Reading (rows : List ℕ) (i : ℕ) (p : Plan) : Type 0 where
+-- row i, of at most eight in each set
+pub record Reading (rows : List ℕ) (i : ℕ) : Type 0 where
   pub row : i < height
   pub few : FewInRow rows i
-  pub plan : PlanFits p
 
 -- the struct reads as the row does, for every sheet that the plan is of, and keeps nothing else
 pub record RemainderAt (p : Plan) (i : ℕ) (r : arrays.Remainder) (rows : List ℕ) : Type 0 where
@@ -83,12 +81,12 @@ pub record ToRows (n : ℕ) (rs : List arrays.Remainder) (a b : List ℕ) : Type
   pub rows : (v : SheetValue) → rows_of v b head_rows n ≡ map (view_of v) (take n rs)
 
 -- a count that the arrays have room for
-pub record StoringHeld (rows : List ℕ) (count : Status) (rs : List arrays.Remainder) : Type 0 where
+pub record StoringHeld (rows : List ℕ) (count : Option ℕ) (rs : List arrays.Remainder) : Type 0 where
   pub size : length rows ≡ all_words
   pub fits : T (sized_in count rs)
 
 -- those held, in rows; the head stays
-pub record StoredHeld (count : Status) (rs : List arrays.Remainder) (a b : List ℕ) : Type 0 where
+pub record StoredHeld (count : Option ℕ) (rs : List arrays.Remainder) (a b : List ℕ) : Type 0 where
   pub size : length b ≡ all_words
   pub head : HeadStays a b
   pub small : FewOwedIn count b head_rows
@@ -96,12 +94,11 @@ pub record StoredHeld (count : Status) (rs : List arrays.Remainder) (a b : List 
 
 -- ---- those found, as structs
 
--- n rows of a side, for a plan
-pub record Copying (rows : List ℕ) (from n : ℕ) (p : Plan) : Type 0 where
+-- n rows of a side
+pub record Copying (rows : List ℕ) (from n : ℕ) : Type 0 where
   pub side : from ≤ second_side
   pub held : n ≤ 32
   pub small : FewOwed rows from n
-  pub plan : PlanFits p
 
 -- each of n rows, and blank remainders past them
 pub record CopiedRows (p : Plan) (from n : ℕ) (rs : List arrays.Remainder) (rows : List ℕ) : Type 0 where
@@ -109,14 +106,13 @@ pub record CopiedRows (p : Plan) (from n : ℕ) (rs : List arrays.Remainder) (ro
   pub first : (k : ℕ) → k < n → RemainderAt p (from + k) (get_or rs k blank_remainder) rows
   pub rest : BlankFrom n blank_remainder rs
 
--- a count of rows of a side, for a plan
-pub record FindingRows (rows : List ℕ) (count : Status) (from : ℕ) (p : Plan) : Type 0 where
+-- a count of rows of a side
+pub record FindingRows (rows : List ℕ) (count : Option ℕ) (from : ℕ) : Type 0 where
   pub side : from ≤ second_side
   pub small : FewOwedIn count rows from
-  pub plan : PlanFits p
 
 -- those found, for every sheet that the plan is of, and blank remainders past them
-pub record FromRows (p : Plan) (count : Status) (from : ℕ) (rs : List arrays.Remainder) (rows : List ℕ) : Type 0 where
+pub record FromRows (p : Plan) (count : Option ℕ) (from : ℕ) (rs : List arrays.Remainder) (rows : List ℕ) : Type 0 where
   pub fits : T (sized_in count rs)
   pub held : (v : SheetValue) (lines : List ℕ) → Planned v p lines → T (all small_leads (held_list (found_in v count rows from))) → held_in v count rs ≡ found_in v count rows from
   pub unused : (v : SheetValue) (lines : List ℕ) → Planned v p lines → (k : ℕ) → NothingUnused v (get_or rs k blank_remainder)

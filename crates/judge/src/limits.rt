@@ -1,4 +1,4 @@
-// The limits of a monitor, refusal 11.
+// The limits of a monitor, refusal 11. A sheet that is handed in may have any count, so what follows the test of it asks for at most 16.
 ghost use Rattle.std.specs.Prelude.{◌≡◌, ℕ, ◌≤◌, leb, take};
 ghost use Rattle.records.specs.Sheet.{sheet_value};
 ghost use Rattle.tesl.specs.Lists.{all};
@@ -9,9 +9,8 @@ ghost use Rattle.judge.specs.Limits.{stored_within, set_within, remainder_within
 use crate::monitor::Monitor;
 use records::line::Line;
 use records::number;
-use records::record::Decision;
 use records::sheet::{Sheet, check_sheet};
-use remainders::held::{Held, Status};
+use remainders::held::Held;
 use remainders::obligation::{LEAST_DUE, LEAST_WANTED, MOST_DUE, MOST_WANTED, Obligation};
 use remainders::remainder::Remainder;
 
@@ -19,42 +18,7 @@ use remainders::remainder::Remainder;
 pub fn obligation_within(clocks: u8, least: u16, most: u16, o: Obligation) -> bool
     ensures { result ≡ stored_within clocks least most o }
 {
-    if o.clock < clocks {
-        if o.on < clocks {
-            if least <= o.number {
-                o.number <= most
-            } else {
-                false
-            }
-        } else {
-            false
-        }
-    } else {
-        false
-    }
-}
-
-// Each of the first n.
-fn obligations_within(
-    clocks: u8,
-    least: u16,
-    most: u16,
-    n: usize,
-    obligations: [Obligation; 8],
-) -> bool
-    requires { n ≤ 8 }
-    ensures { result ≡ all (stored_within clocks least most) (take n obligations) }
-{
-    let mut i = 0;
-    while i < n {
-        let o = obligations[i];
-        if obligation_within(clocks, least, most, o) {
-            i += 1;
-        } else {
-            return false;
-        }
-    }
-    true
+    o.clock < clocks && o.on < clocks && least <= o.number && o.number <= most
 }
 
 // Only a precedes line's lead is in use.
@@ -62,15 +26,14 @@ fn lead_within(l: Line, lead: u16, instants: usize) -> bool
     ensures { result ≡ leb (in_use l lead) instants }
 {
     match l {
-        Line::Weakly { .. } => (lead as usize) <= instants,
-        Line::Strictly { .. } => (lead as usize) <= instants,
-        Line::Sporadic { .. } => true,
-        Line::Relation { .. } => true,
-        Line::Implies { .. } => true,
-        Line::Excludes { .. } => true,
-        Line::Delayed { .. } => true,
-        Line::Kills { .. } => true,
-        Line::Counted { .. } => true,
+        Line::Weakly { .. } | Line::Strictly { .. } => usize::from(lead) <= instants,
+        Line::Sporadic { .. }
+        | Line::Relation { .. }
+        | Line::Implies { .. }
+        | Line::Excludes { .. }
+        | Line::Delayed { .. }
+        | Line::Kills { .. }
+        | Line::Counted { .. } => true,
     }
 }
 
@@ -78,97 +41,55 @@ fn leads_within(s: Sheet, leads: [u16; 16], instants: usize) -> bool
     requires { s.count ≤ 16 }
     ensures { result ≡ all (λ (n : ℕ). leb n instants) (next_leads in_use (sheet_value s).lines leads) }
 {
-    let n = s.count;
-    let mut i = 0;
-    while i < n {
-        let lead = leads[i];
-        let slot = s.lines[i];
-        let l = slot.line;
-        if lead_within(l, lead, instants) {
-            i += 1;
-        } else {
-            return false;
-        }
-    }
-    true
+    (0..s.count).all(|i| lead_within(s.lines[i], leads[i], instants))
 }
 
 // At most eight, each within bounds.
 fn set_within(clocks: u8, least: u16, most: u16, n: usize, obligations: [Obligation; 8]) -> bool
     ensures { result ≡ set_within clocks least most n (take n obligations) }
 {
-    if number::MAX_OWED < n {
-        return false;
-    }
-    obligations_within(clocks, least, most, n, obligations)
+    n <= number::MAX_OWED
+        && obligations[..n]
+            .iter()
+            .all(|o| obligation_within(clocks, least, most, *o))
 }
 
 fn remainder_within(s: Sheet, instants: usize, r: Remainder) -> bool
     requires { s.count ≤ 16 }
     ensures { result ≡ remainder_within (sheet_value s) instants r }
 {
-    let clocks = s.clocks;
-    let owed = r.owed;
-    let obligations = r.obligations;
-    if !set_within(clocks, LEAST_DUE, MOST_DUE, owed, obligations) {
-        return false;
-    }
-    let counting = r.counting;
-    let countdowns = r.countdowns;
-    if !set_within(clocks, LEAST_WANTED, MOST_WANTED, counting, countdowns) {
-        return false;
-    }
-    let leads = r.leads;
-    leads_within(s, leads, instants)
+    set_within(s.clocks, LEAST_DUE, MOST_DUE, r.owed, r.obligations)
+        && set_within(
+            s.clocks,
+            LEAST_WANTED,
+            MOST_WANTED,
+            r.counting,
+            r.countdowns,
+        )
+        && leads_within(s, r.leads, instants)
 }
 
 fn held_within(s: Sheet, instants: usize, h: Held) -> bool
     requires { s.count ≤ 16 }
     ensures { result ≡ held_within (sheet_value s) instants h.count h.remainders }
 {
-    let count = h.count;
-    match count {
-        Status::Exhausted => true,
-        Status::Live(n) => {
-            if number::MAX_LIVE < n {
-                return false;
-            }
-            each_within(s, instants, n, h)
+    match h.count {
+        None => true,
+        Some(n) => {
+            n <= number::MAX_LIVE
+                && h.remainders[..n]
+                    .iter()
+                    .all(|r| remainder_within(s, instants, *r))
         }
     }
-}
-
-// Each of the first n remainders.
-fn each_within(s: Sheet, instants: usize, n: usize, h: Held) -> bool
-    requires { (s.count ≤ 16) × (n ≤ 32) }
-    ensures { result ≡ all (remainder_within (sheet_value s) instants) (take n h.remainders) }
-{
-    let mut i = 0;
-    while i < n {
-        let r = h.remainders[i];
-        if remainder_within(s, instants, r) {
-            i += 1;
-        } else {
-            return false;
-        }
-    }
-    true
 }
 
 // A sheet value within its own limits, the instants, and those held.
 pub(crate) fn is_within(m: Monitor) -> bool
     ensures { Limited m result }
 {
-    let sheet = m.sheet;
-    match check_sheet(sheet) {
-        Decision::Refused(_) => false,
-        Decision::Done => {
-            let instants = m.instants;
-            if number::MAX_INSTANTS < instants {
-                return false;
-            }
-            let held = m.held;
-            held_within(sheet, instants, held)
-        }
+    match check_sheet(m.sheet) {
+        Err(_) => false,
+        Ok(()) => { m.instants <= number::MAX_INSTANTS && held_within(m.sheet, m.instants, m.held) }
     }
 }

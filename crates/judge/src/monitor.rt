@@ -2,10 +2,10 @@
 ghost use Rattle.std.specs.Prelude.{◌≡◌};
 ghost use Rattle.records.specs.Sheet.{read_by, read_sheet, read_base};
 ghost use Rattle.judge.specs.Limits.{monitor_within};
-ghost use Rattle.judge.specs.Monitor.{blank_monitor, refusal};
+ghost use Rattle.judge.specs.Monitor.{blank_monitor, refused_call};
 ghost use Rattle.judge.specs.Promises.{Opened, Observed};
 
-use crate::answer::Reply;
+use crate::answer::Answer;
 use crate::limits::is_within;
 use crate::progress::{observe_rows, progress_of};
 use crate::start::begin;
@@ -13,9 +13,9 @@ use crate::stored::{read_back, store_held};
 use lines::plan::{NUMBERS, plan_of};
 use records::number;
 use records::order::Order;
-use records::record::Decision;
-use records::sheet::{Sheet, read_by};
-use remainders::held::{Held, Status};
+use records::refusal::Refusal;
+use records::sheet::{Sheet, blank_sheet, read_by};
+use remainders::held::Held;
 use remainders::remainder::blank_remainder;
 use remainders::rows::SIZE;
 use step::list::LIST;
@@ -29,10 +29,12 @@ pub struct Monitor {
     pub held: Held,
 }
 
-// What a call gives: its reply, and the monitor to call next.
+// What a call gives.
 #[derive(Clone, Copy)]
 pub struct CallResult {
-    pub reply: Reply,
+    // The answer, or why the call is refused.
+    pub reply: Result<Answer, Refusal>,
+    // The monitor to call next.
     pub monitor: Monitor,
 }
 
@@ -40,18 +42,14 @@ pub struct CallResult {
 pub fn blank_monitor(sheet: Sheet) -> Monitor
     ensures { result ≡ blank_monitor sheet }
 {
-    let blank = blank_remainder();
-    let remainders = [blank; 32];
-    let held = Held {
-        count: Status::Live(0),
-        remainders,
-    };
-    let tags = [0i16; 8];
     Monitor {
         sheet,
         instants: 0,
-        tags,
-        held,
+        tags: [0i16; 8],
+        held: Held {
+            count: Some(0),
+            remainders: [blank_remainder(); 32],
+        },
     }
 }
 
@@ -59,22 +57,15 @@ pub fn blank_monitor(sheet: Sheet) -> Monitor
 fn open_by(bytes: &[u8], order: Order, last: u16) -> CallResult
     ensures { Opened (read_by order last) bytes.now result }
 {
-    let read = read_by(bytes, order, last);
-    let sheet = read.sheet;
-    let answer = read.answer;
-    match answer {
-        Decision::Refused(n) => refuse(n, blank_monitor(sheet)),
-        Decision::Done => {
+    match read_by(bytes, order, last) {
+        Err(refusal) => refuse(refusal, blank_monitor(blank_sheet(0))),
+        Ok(sheet) => {
             let mut lines = [0u32; NUMBERS];
             let mut rows = [0u32; SIZE];
             let begun = begin(sheet, &mut lines, &mut rows);
-            let first = begun.progress;
-            let plan = begun.plan;
-            let monitor = read_back(sheet, first, plan, &rows);
-            let opening = begun.said;
             CallResult {
-                reply: Reply::Answered(opening),
-                monitor,
+                reply: Ok(begun.said),
+                monitor: read_back(sheet, begun.progress, begun.plan, &rows),
             }
         }
     }
@@ -94,12 +85,14 @@ pub fn open_base(bytes: &[u8]) -> CallResult
     open_by(bytes, Order::Any, number::LAST_BASE_LINE)
 }
 
-// The number, and the monitor as it came.
-pub fn refuse(n: u8, monitor: Monitor) -> CallResult
-    ensures { result ≡ refusal n monitor }
+// The refusal, and the monitor as it came.
+pub fn refuse(refusal: Refusal, monitor: Monitor) -> CallResult
+    ensures { result ≡ refused_call refusal monitor }
 {
-    let reply = Reply::Refused(n);
-    CallResult { reply, monitor }
+    CallResult {
+        reply: Err(refusal),
+        monitor,
+    }
 }
 
 // Takes an instant: refused, the number and the monitor as it came; accepted, the answer and the monitor after it.
@@ -107,27 +100,21 @@ pub fn observe(monitor: Monitor, bytes: &[u8]) -> CallResult
     ensures { Observed monitor bytes.now result }
 {
     if !is_within(monitor) {
-        return refuse(number::MONITOR_LIMITS, monitor);
+        return refuse(Refusal::MonitorLimits, monitor);
     }
-    let sheet = monitor.sheet;
     let mut lines = [0u32; NUMBERS];
-    let plan = plan_of(sheet, &mut lines);
-    let held = monitor.held;
-    let count = held.count;
-    let remainders = held.remainders;
+    let plan = plan_of(monitor.sheet, &mut lines);
     let mut rows = [0u32; SIZE];
-    store_held(&mut rows, count, remainders);
+    store_held(&mut rows, monitor.held.count, monitor.held.remainders);
     let mut list = [false; LIST];
     let progress = progress_of(monitor);
     let told = observe_rows(progress, plan, &lines, bytes, &mut rows, &mut list);
-    let reply = told.reply;
-    match reply {
-        Reply::Refused(n) => refuse(n, monitor),
-        Reply::Answered(_) => {
-            let next = told.progress;
-            let monitor = read_back(sheet, next, plan, &rows);
-            CallResult { reply, monitor }
-        }
+    match told.reply {
+        Err(refusal) => refuse(refusal, monitor),
+        Ok(_) => CallResult {
+            reply: told.reply,
+            monitor: read_back(monitor.sheet, told.progress, plan, &rows),
+        },
     }
 }
 

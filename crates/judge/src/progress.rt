@@ -4,14 +4,13 @@ ghost use Rattle.tesl.specs.Answer.{most_live};
 ghost use Rattle.step.specs.Fill.{Working};
 ghost use Rattle.judge.specs.Progress.{progress_of, first_progress, Works, Takes};
 
-use crate::answer::{Reply, say_rows};
+use crate::answer::{Answer, say_rows};
 use crate::monitor::Monitor;
 use lines::plan::{NUMBERS, Plan};
 use records::instant::Instant;
 use records::next::read_next;
 use records::number;
-use records::record::Decision;
-use remainders::held::Status;
+use records::refusal::Refusal;
 use remainders::rows::{HEAD, SIDES, SIZE};
 use step::fill::{Before, work_rows};
 use step::list::LIST;
@@ -23,16 +22,18 @@ pub struct Progress {
     pub instants: usize,
     // The last tags.
     pub tags: [i16; 8],
-    // How many remainders are held.
-    pub count: Status,
+    // How many remainders the rows hold.
+    pub count: Option<usize>,
     // The first of their rows.
     pub from: usize,
 }
 
-// What an instant gives: the reply, and the monitor to call next.
+// What an instant gives.
 #[derive(Clone, Copy)]
 pub struct InstantResult {
-    pub reply: Reply,
+    // The answer, or why the instant is refused.
+    pub reply: Result<Answer, Refusal>,
+    // The monitor to call next.
     pub progress: Progress,
 }
 
@@ -40,14 +41,12 @@ pub struct InstantResult {
 pub(crate) fn progress_of(monitor: Monitor) -> Progress
     ensures { result ≡ progress_of monitor }
 {
-    let instants = monitor.instants;
+    // through a variable: the borrow checker does not cover an array that goes straight from field to field
     let tags = monitor.tags;
-    let held = monitor.held;
-    let count = held.count;
     Progress {
-        instants,
+        instants: monitor.instants,
         tags,
-        count,
+        count: monitor.held.count,
         from: HEAD,
     }
 }
@@ -56,11 +55,10 @@ pub(crate) fn progress_of(monitor: Monitor) -> Progress
 pub(crate) fn first_progress() -> Progress
     ensures { result ≡ first_progress }
 {
-    let tags = [0i16; 8];
     Progress {
         instants: 0,
-        tags,
-        count: Status::Live(1),
+        tags: [0i16; 8],
+        count: Some(1),
         from: HEAD,
     }
 }
@@ -75,31 +73,36 @@ fn work_instant(
     rows: &mut [u32; SIZE],
     list: &mut [bool; LIST],
 ) -> InstantResult
-    requires { Working rows.old progress.from progress.count plan list.old × ((progress.instants < 4000) × (room ≤ most_live)) }
+    requires { Working rows.old progress.from progress.count list.old × ((progress.instants < 4000) × (room ≤ most_live)) }
     ensures { Works room progress plan instant lines.now result rows.old rows.new list.new }
 {
-    let from = progress.from;
-    let instants = progress.instants;
+    // the tags through variables: the borrow checker does not cover an array that goes straight from field to field
     let was = progress.tags;
     let before = Before {
-        first: instants == 0,
+        first: progress.instants == 0,
         tags: was,
         room,
     };
-    let count = progress.count;
-    let next = work_rows(rows, from, count, plan, lines, before, instant, list);
-    let to = SIDES - from;
-    let said = say_rows(rows, to, next);
+    let next = work_rows(
+        rows,
+        progress.from,
+        progress.count,
+        plan,
+        lines,
+        before,
+        instant,
+        list,
+    );
+    let to = SIDES - progress.from;
     let tags = instant.tags;
-    let progress = Progress {
-        instants: instants + 1,
-        tags,
-        count: next,
-        from: to,
-    };
     InstantResult {
-        reply: Reply::Answered(said),
-        progress,
+        reply: Ok(say_rows(rows, to, next)),
+        progress: Progress {
+            instants: progress.instants + 1,
+            tags,
+            count: next,
+            from: to,
+        },
     }
 }
 
@@ -112,19 +115,16 @@ pub fn observe_rows(
     rows: &mut [u32; SIZE],
     list: &mut [bool; LIST],
 ) -> InstantResult
-    requires { Working rows.old progress.from progress.count plan list.old }
+    requires { Working rows.old progress.from progress.count list.old }
     ensures { Takes progress plan bytes.now lines.now result rows.old rows.new list.new }
 {
     let clocks = plan.clocks as u8;
-    let read = read_next(bytes, clocks, progress.instants);
-    let answer = read.answer;
-    match answer {
-        Decision::Refused(n) => InstantResult {
-            reply: Reply::Refused(n),
+    match read_next(bytes, clocks, progress.instants) {
+        Err(refusal) => InstantResult {
+            reply: Err(refusal),
             progress,
         },
-        Decision::Done => {
-            let instant = read.instant;
+        Ok(instant) => {
             work_instant(progress, number::MAX_LIVE, plan, lines, instant, rows, list)
         }
     }

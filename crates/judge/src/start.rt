@@ -11,12 +11,11 @@ ghost use Rattle.judge.specs.Start.{BlankRow, StartedRow, BegunRows, BegunMonito
 
 use crate::answer::{Answer, say_rows};
 use crate::progress::{Progress, first_progress};
-use lines::line::NewObligation;
 use lines::plan::{NUMBERS, Plan, plan_of};
 use records::line::Line;
 use records::sheet::{Sheet, line_at};
 use remainders::obligation::{Obligation, tag_number};
-use remainders::rows::{HEAD, OBLIGATIONS, SIZE};
+use remainders::rows::{HEAD, Part, SIZE};
 use step::advance::add_row;
 
 // A monitor begun, beside its sheet and its rows.
@@ -31,23 +30,23 @@ pub struct Begun {
 }
 
 // The obligation that a line is from the start.
-fn owed_at_start(l: Line) -> NewObligation
+fn owed_at_start(l: Line) -> Option<Obligation>
     ensures { map obligation_of (new_obligation result) ≡ owed_at_start l }
 {
     match l {
-        Line::Sporadic { a, b, t } => NewObligation::Owed(Obligation {
+        Line::Sporadic { a, b, t } => Some(Obligation {
             clock: a,
             on: b,
             number: tag_number(t),
         }),
-        Line::Relation { .. } => NewObligation::Nothing,
-        Line::Implies { .. } => NewObligation::Nothing,
-        Line::Excludes { .. } => NewObligation::Nothing,
-        Line::Delayed { .. } => NewObligation::Nothing,
-        Line::Weakly { .. } => NewObligation::Nothing,
-        Line::Strictly { .. } => NewObligation::Nothing,
-        Line::Kills { .. } => NewObligation::Nothing,
-        Line::Counted { .. } => NewObligation::Nothing,
+        Line::Relation { .. }
+        | Line::Implies { .. }
+        | Line::Excludes { .. }
+        | Line::Delayed { .. }
+        | Line::Weakly { .. }
+        | Line::Strictly { .. }
+        | Line::Kills { .. }
+        | Line::Counted { .. } => None,
     }
 }
 
@@ -56,20 +55,12 @@ fn start_row(rows: &mut [u32; SIZE], i: usize, s: Sheet) -> bool
     requires { Row rows.old i 0 }
     ensures { StartedRow i (flat_map owed_at_start (sheet_value s).lines) result rows.old rows.new }
 {
-    let n = s.count;
-    let mut j = 0;
-    while j < n {
-        let l = line_at(s, j);
-        j += 1;
-        match owed_at_start(l) {
-            NewObligation::Nothing => {
-                continue;
-            }
-            NewObligation::Owed(o) => {
-                if !add_row(rows, i, OBLIGATIONS, o) {
-                    return false;
-                }
-            }
+    for j in 0..s.count {
+        let Some(o) = owed_at_start(line_at(s, j)) else {
+            continue;
+        };
+        if !add_row(rows, i, Part::Obligations, o) {
+            return false;
         }
     }
     true
@@ -91,8 +82,7 @@ pub fn begin(s: Sheet, lines: &mut [u32; NUMBERS], rows: &mut [u32; SIZE]) -> Be
     let plan = plan_of(s, lines);
     begin_rows(rows, s);
     let progress = first_progress();
-    let count = progress.count;
-    let said = say_rows(rows, HEAD, count);
+    let said = say_rows(rows, HEAD, progress.count);
     Begun {
         plan,
         progress,

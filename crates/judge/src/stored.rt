@@ -1,21 +1,19 @@
 // A monitor's remainders, structs, stored in rows, and read back from them; and the monitor with them.
-ghost use Rattle.std.specs.Prelude.{◌≡◌, cond, ◌<◌, ◌≤◌, T, take};
-ghost use Rattle.remainders.specs.Word.{number_in};
+ghost use Rattle.std.specs.Prelude.{◌≡◌, ◌<◌, ◌≤◌, T, take};
 ghost use Rattle.remainders.specs.View.{few_owed};
 ghost use Rattle.judge.specs.Stored.{Place, PutObligations, PutLeads, PutStopped, PutRemainder, LeadsAt, StoppedAt, Reading, RemainderAt, Storing, ToRows, StoringHeld, StoredHeld, Copying, CopiedRows, FindingRows, FromRows};
-ghost use Rattle.remainders.specs.Rows.{height, parts};
+ghost use Rattle.remainders.specs.Rows.{height, part_number};
 ghost use Rattle.judge.specs.Progress.{ReadBack};
 
 use crate::monitor::Monitor;
 use crate::progress::Progress;
 use lines::plan::Plan;
 use records::sheet::Sheet;
-use remainders::held::{Held, Status};
+use remainders::held::Held;
 use remainders::obligation::Obligation;
 use remainders::remainder::{Remainder, blank_remainder};
 use remainders::rows::{
-    COUNTDOWNS, HEAD, LEADS, OBLIGATIONS, PART_WORDS, SIZE, STOPPED, obligations_at,
-    put_obligation, put_word, row_count, word_at,
+    HEAD, LEADS, Part, SIZE, STOPPED, obligations_at, put_obligation, put_word, row_count, word_at,
 };
 use remainders::word::{count_word, flag_in, flag_word, lead_word, number_in};
 
@@ -23,30 +21,26 @@ use remainders::word::{count_word, flag_in, flag_word, lead_word, number_in};
 fn put_obligations(
     rows: &mut [u32; SIZE],
     i: usize,
-    part: usize,
+    part: Part,
     n: usize,
     obligations: [Obligation; 8],
 )
-    requires { Place rows.old i × ((part < parts) × (n ≤ 8)) }
-    ensures { PutObligations i part n (take n obligations) rows.old rows.new }
+    requires { Place rows.old i × (n ≤ 8) }
+    ensures { PutObligations i (part_number part) n (take n obligations) rows.old rows.new }
 {
-    let mut j = 0;
-    while j < n {
-        let o = obligations[j];
-        put_obligation(rows, i, part, j, o);
-        j += 1;
+    for j in 0..n {
+        put_obligation(rows, i, part, j, obligations[j]);
     }
-    put_word(rows, i, PART_WORDS * part, count_word(n));
+    put_word(rows, i, part.start(), count_word(n));
 }
 
+// Not one generic function with put_stopped: leads and flags become words in two ways, and a trait for them is longer than both.
 fn put_leads(rows: &mut [u32; SIZE], i: usize, leads: [u16; 16])
     requires { Place rows.old i }
     ensures { PutLeads i leads rows.old rows.new }
 {
-    let mut k = 0;
-    while k < 16 {
-        put_word(rows, i, LEADS + k, lead_word(leads[k]));
-        k += 1;
+    for (k, lead) in leads.iter().enumerate() {
+        put_word(rows, i, LEADS + k, lead_word(*lead));
     }
 }
 
@@ -54,10 +48,8 @@ fn put_stopped(rows: &mut [u32; SIZE], i: usize, stopped: [bool; 8])
     requires { Place rows.old i }
     ensures { PutStopped i stopped rows.old rows.new }
 {
-    let mut k = 0;
-    while k < 8 {
-        put_word(rows, i, STOPPED + k, flag_word(stopped[k]));
-        k += 1;
+    for (k, flag) in stopped.iter().enumerate() {
+        put_word(rows, i, STOPPED + k, flag_word(*flag));
     }
 }
 
@@ -66,36 +58,25 @@ fn put_remainder(rows: &mut [u32; SIZE], i: usize, r: Remainder)
     requires { Place rows.old i × T (few_owed r) }
     ensures { PutRemainder i r rows.old rows.new }
 {
-    let owed = r.owed;
-    let obligations = r.obligations;
-    put_obligations(rows, i, OBLIGATIONS, owed, obligations);
-    let counting = r.counting;
-    let countdowns = r.countdowns;
-    put_obligations(rows, i, COUNTDOWNS, counting, countdowns);
-    let leads = r.leads;
-    put_leads(rows, i, leads);
-    let stopped = r.stopped;
-    put_stopped(rows, i, stopped);
+    put_obligations(rows, i, Part::Obligations, r.owed, r.obligations);
+    put_obligations(rows, i, Part::Countdowns, r.counting, r.countdowns);
+    put_leads(rows, i, r.leads);
+    put_stopped(rows, i, r.stopped);
 }
 
-// The lead of a word, where it is in use.
-fn lead_used(used: bool, w: u32) -> u16
-    ensures { result ≡ cond used (number_in w) 0 }
-{
-    if used { number_in(w) } else { 0 }
-}
-
+// Not one generic function with stopped_at: the words are read in two ways, and only leads ask for a flag.
 // The leads of row i that precedes lines have: before `leaders`, where there is a flag.
 fn leads_at(rows: &[u32; SIZE], i: usize, leaders: usize, precede: [bool; 16]) -> [u16; 16]
     requires { (i < height) × (leaders ≤ 16) }
     ensures { LeadsAt leaders precede i result rows.now }
 {
     let mut all = [0u16; 16];
-    let mut k = 0;
-    while k < leaders {
-        let lead = lead_used(precede[k], word_at(rows, i, LEADS + k));
-        all[k] = lead;
-        k += 1;
+    for k in 0..leaders {
+        all[k] = if precede[k] {
+            number_in(word_at(rows, i, LEADS + k))
+        } else {
+            0
+        };
     }
     all
 }
@@ -106,36 +87,26 @@ fn stopped_at(rows: &[u32; SIZE], i: usize, clocks: usize) -> [bool; 8]
     ensures { StoppedAt clocks i result rows.now }
 {
     let mut all = [false; 8];
-    let mut k = 0;
-    while k < clocks {
-        let flag = flag_in(word_at(rows, i, STOPPED + k));
-        all[k] = flag;
-        k += 1;
+    for k in 0..clocks {
+        all[k] = flag_in(word_at(rows, i, STOPPED + k));
     }
     all
 }
 
 // The remainder of row i; places that the plan's sheet doesn't use are blank.
 fn remainder_at(rows: &[u32; SIZE], i: usize, plan: Plan) -> Remainder
-    requires { Reading rows.now i plan }
+    requires { Reading rows.now i }
     ensures { RemainderAt plan i result rows.now }
 {
-    let owed = row_count(rows, i, OBLIGATIONS);
-    let obligations = obligations_at(rows, i, OBLIGATIONS, owed);
-    let counting = row_count(rows, i, COUNTDOWNS);
-    let countdowns = obligations_at(rows, i, COUNTDOWNS, counting);
-    let leaders = plan.leaders;
-    let precede = plan.precede;
-    let leads = leads_at(rows, i, leaders, precede);
-    let clocks = plan.clocks;
-    let stopped = stopped_at(rows, i, clocks);
+    let owed = row_count(rows, i, Part::Obligations);
+    let counting = row_count(rows, i, Part::Countdowns);
     Remainder {
         owed,
-        obligations,
+        obligations: obligations_at(rows, i, Part::Obligations, owed),
         counting,
-        countdowns,
-        leads,
-        stopped,
+        countdowns: obligations_at(rows, i, Part::Countdowns, counting),
+        leads: leads_at(rows, i, plan.leaders, plan.precede),
+        stopped: stopped_at(rows, i, plan.clocks),
     }
 }
 
@@ -144,39 +115,29 @@ fn to_rows(rows: &mut [u32; SIZE], n: usize, remainders: [Remainder; 32])
     requires { Storing rows.old n remainders }
     ensures { ToRows n remainders rows.old rows.new }
 {
-    let mut k = 0;
-    while k < n {
-        let r = remainders[k];
-        put_remainder(rows, HEAD + k, r);
-        k += 1;
+    for k in 0..n {
+        put_remainder(rows, HEAD + k, remainders[k]);
     }
 }
 
 // Stores those held in the first side.
-pub(crate) fn store_held(rows: &mut [u32; SIZE], count: Status, remainders: [Remainder; 32])
+pub(crate) fn store_held(rows: &mut [u32; SIZE], count: Option<usize>, remainders: [Remainder; 32])
     requires { StoringHeld rows.old count remainders }
     ensures { StoredHeld count remainders rows.old rows.new }
 {
-    match count {
-        Status::Exhausted => {}
-        Status::Live(n) => {
-            to_rows(rows, n, remainders);
-        }
+    if let Some(n) = count {
+        to_rows(rows, n, remainders);
     }
 }
 
 // The remainders of n rows from row `from` on, and blank ones past them.
 fn copy_rows(rows: &[u32; SIZE], from: usize, n: usize, plan: Plan) -> [Remainder; 32]
-    requires { Copying rows.now from n plan }
+    requires { Copying rows.now from n }
     ensures { CopiedRows plan from n result rows.now }
 {
-    let blank = blank_remainder();
-    let mut all = [blank; 32];
-    let mut k = 0;
-    while k < n {
-        let r = remainder_at(rows, from + k, plan);
-        all[k] = r;
-        k += 1;
+    let mut all = [blank_remainder(); 32];
+    for k in 0..n {
+        all[k] = remainder_at(rows, from + k, plan);
     }
     all
 }
@@ -185,32 +146,29 @@ fn copy_rows(rows: &[u32; SIZE], from: usize, n: usize, plan: Plan) -> [Remainde
 pub(crate) fn from_rows(
     rows: &[u32; SIZE],
     from: usize,
-    count: Status,
+    count: Option<usize>,
     plan: Plan,
 ) -> [Remainder; 32]
-    requires { FindingRows rows.now count from plan }
+    requires { FindingRows rows.now count from }
     ensures { FromRows plan count from result rows.now }
 {
-    match count {
-        Status::Exhausted => copy_rows(rows, from, 0, plan),
-        Status::Live(n) => copy_rows(rows, from, n, plan),
-    }
+    copy_rows(rows, from, count.unwrap_or(0), plan)
 }
 
 // The monitor that is kept in rows, its remainders read back from them.
 pub fn read_back(sheet: Sheet, progress: Progress, plan: Plan, rows: &[u32; SIZE]) -> Monitor
-    requires { FindingRows rows.now progress.count progress.from plan }
+    requires { FindingRows rows.now progress.count progress.from }
     ensures { ReadBack sheet progress plan result rows.now }
 {
-    let count = progress.count;
-    let remainders = from_rows(rows, progress.from, count, plan);
-    let held = Held { count, remainders };
-    let instants = progress.instants;
+    // through a variable: the borrow checker does not cover an array that goes straight from field to field
     let tags = progress.tags;
     Monitor {
         sheet,
-        instants,
+        instants: progress.instants,
         tags,
-        held,
+        held: Held {
+            count: progress.count,
+            remainders: from_rows(rows, progress.from, progress.count, plan),
+        },
     }
 }

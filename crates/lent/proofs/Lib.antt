@@ -1,1 +1,2 @@
 pub mod LiveDemands
+pub mod Ranges

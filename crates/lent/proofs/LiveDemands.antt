@@ -1,7 +1,7 @@
 -- Demands 2 and 3 over words: a call on a state is a call of the monitor that the words stand for, so it follows the plain machine, and so does every list of calls. Assumes nothing.
 use mathlib.Core.Bool.{true}
 use mathlib.Core.List.{List}
-use mathlib.Core.Path.{◌≡◌, refl, sym, ◌∙◌, subst}
+use mathlib.Core.Path.{◌≡◌, refl, sym, ap, ◌∙◌, subst}
 use Prim.Native.Nat.{ℕ}
 use Rattle.records.specs.Outcome.{Outcome, taken, refused}
 use Rattle.records.specs.Sheet.{SheetValue}
@@ -38,7 +38,7 @@ module _ {bytes : List ℕ} {r : Replied} {a b : List ℕ} (o : ObservedIn bytes
   -- a call on the words is a call of the monitor that they stand for
   pub called-in : Called (state_monitor a) bytes (given r.reply (state_monitor b))
   called-in = record {
-    refuses = λ n f. let g = o.refuses n (taken-for ∙ f) in rw (g.0, g.1);
+    refuses = λ n f. let g = o.refuses n (taken-for ∙ f) in record { reply = g.0; monitor = ap state_monitor g.1 };
     accepts = λ i f. (o.accepts i (taken-for ∙ f)).1;
   }
 

@@ -1,12 +1,11 @@
 -- What clearing the words that no remainder uses leaves as it was.
-use Rattle.std.specs.Prelude.{Bool, true, false, List, ◌≡◌, ℕ, ◌+◌, ◌*◌, ◌-◌, ◌≤◌, ◌<◌, length}
+use Rattle.std.specs.Prelude.{Bool, true, false, List, ◌≡◌, ℕ, ◌+◌, ◌*◌, ◌-◌, ◌≤◌, ◌<◌, length, Option}
 use Rattle.records.specs.Sheet.{SheetValue}
 use Rattle.tesl.specs.Answer.{most_live}
 use Rattle.work.specs.View.{used_part}
 use Rattle.lines.specs.declared.plan.Plan.{Plan}
-use Rattle.remainders.specs.declared.held.Status.{Status}
 use Rattle.remainders.specs.View.{live_count}
-use Rattle.lines.specs.Plan.{PlanFits, Planned}
+use Rattle.lines.specs.Plan.{Planned}
 use Rattle.remainders.specs.Rows.{parts, part_words, leads_part, stopped_part, width, sides, word, row_set, row_obligation, row_lead, row_of, CountsSame, NothingInParts, Stays, HeadStays, RowsStay}
 use Rattle.step.specs.Apply.{Side, found_in, FewOwedIn, built_rows}
 use Rattle.step.specs.Fill.{worked_rows}
@@ -63,13 +62,12 @@ pub record ClearedEach (p : Plan) (from n : ℕ) (a b : List ℕ) : Type 0 where
   pub each : (k : ℕ) → k < n → ClearedRow p (from + k) a b
 
 -- those held from row `from` on, a side's first
-pub record Holding (rows : List ℕ) (from : ℕ) (count : Status) (p : Plan) : Type 0 where
+pub record Holding (rows : List ℕ) (from : ℕ) (count : Option ℕ) : Type 0 where
   pub side : Side from
   pub small : FewOwedIn count rows from
-  pub plan : PlanFits p
 
 -- those held are as before, for every sheet that the plan is of, and the head stays; nothing is beside them
-pub record ClearedBeside (p : Plan) (from : ℕ) (count : Status) (a b : List ℕ) : Type 0 where
+pub record ClearedBeside (p : Plan) (from : ℕ) (count : Option ℕ) (a b : List ℕ) : Type 0 where
   pub size : length b ≡ length a
   pub head : HeadStays a b
   pub small : FewOwedIn count b from
@@ -78,7 +76,7 @@ pub record ClearedBeside (p : Plan) (from : ℕ) (count : Status) (a b : List �
   pub nothing : NothingBeside p count from b
 
 -- those found from row `to` on are as before, for every sheet that the plan is of; of the rows that may have been built in, what they don't use is zero, other rows stay
-pub record ClearedFound (p : Plan) (to : ℕ) (count : Status) (a b : List ℕ) : Type 0 where
+pub record ClearedFound (p : Plan) (to : ℕ) (count : Option ℕ) (a b : List ℕ) : Type 0 where
   pub stays : RowsStay to (built_rows count) a b
   pub small : FewOwedIn count b to
   pub found : (v : SheetValue) (lines : List ℕ) → Planned v p lines → found_in v count b to ≡ found_in v count a to
@@ -87,14 +85,13 @@ pub record ClearedFound (p : Plan) (to : ℕ) (count : Status) (a b : List ℕ) 
   pub each : (k : ℕ) → k < live_count count → NothingInRow p b (to + k)
 
 -- those that were held on a side, and those found on the other
-pub record Tidying (rows : List ℕ) (from : ℕ) (was count : Status) (p : Plan) : Type 0 where
+pub record Tidying (rows : List ℕ) (from : ℕ) (was count : Option ℕ) : Type 0 where
   pub side : Side from
   pub held : live_count was ≤ most_live
   pub small : FewOwedIn count rows (sides - from)
-  pub plan : PlanFits p
 
 -- those found are as before, for every sheet that the plan is of, and the head stays; nothing is beside them, if nothing was beside those held before the instant, in the words `before`
-pub record Tidied (p : Plan) (from : ℕ) (was count : Status) (a b : List ℕ) : Type 0 where
+pub record Tidied (p : Plan) (from : ℕ) (was count : Option ℕ) (a b : List ℕ) : Type 0 where
   pub size : length b ≡ length a
   pub head : HeadStays a b
   pub small : FewOwedIn count b (sides - from)

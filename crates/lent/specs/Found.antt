@@ -1,5 +1,5 @@
 -- A monitor found in a state of words, and one stored there after an instant: what the inner functions of the calls on a state promise.
-use Rattle.std.specs.Prelude.{true, false, List, ◌≡◌, ℕ, ◌+◌, ◌-◌, ◌≤◌, ◌<◌, pos, length, get_or}
+use Rattle.std.specs.Prelude.{true, false, List, ◌≡◌, ℕ, ◌+◌, ◌-◌, ◌≤◌, ◌<◌, pos, length, get_or, Option, MatchOption}
 use Rattle.records.specs.Sheet.{SheetValue}
 use Rattle.records.specs.Word.{raw_of}
 use Rattle.tesl.specs.Answer.{most_live}
@@ -7,7 +7,7 @@ use Rattle.judge.specs.declared.progress.Progress.{Progress}
 use Rattle.lines.specs.declared.plan.Plan.{Plan}
 use Rattle.lent.specs.declared.live.FoundState.{FoundState}
 use Rattle.remainders.specs.View.{live_count}
-use Rattle.lines.specs.Plan.{PlanFits, Planned}
+use Rattle.lines.specs.Plan.{Planned}
 use Rattle.remainders.specs.Rows.{all_words, head_rows, width, sides, word, RowsStay}
 use Rattle.step.specs.Apply.{Side, found_in, FewOwedIn}
 use Rattle.step.specs.Fill.{worked_rows}
@@ -17,31 +17,27 @@ use Rattle.judge.specs.Progress.{Ready}
 use Rattle.lent.specs.State.{is_state, state_sheet, state_progress}
 use Rattle.lent.specs.Live.{state_within}
 
--- no monitor, beside what is kept
-pub record NothingFound (k : Progress) (f : FoundState) : Type 0 where
-  pub ok : f.ok ≡ false
-  pub progress : f.progress ≡ k
-  pub plan : PlanFits f.plan
-
--- whether the words are a monitor within its limits; where they are, what is found out about its sheet once
-pub record FoundIn (w : List ℕ) (f : FoundState) (lines : List ℕ) : Type 0 where
+-- what is found out about a monitor within its limits, once
+pub record FoundOne (w : List ℕ) (f : FoundState) (lines : List ℕ) : Type 0 where
   -- an array has as many words as its type says
   pub size : length w ≡ all_words
-  pub ok : f.ok ≡ state_within w
+  pub within : state_within w ≡ true
   pub progress : f.progress ≡ state_progress w
-  pub plan : PlanFits f.plan
-  pub ready : f.ok ≡ true → Ready (state_sheet w) (state_progress w) f.plan lines w
+  pub ready : Ready (state_sheet w) (state_progress w) f.plan lines w
+
+-- one is found exactly where the words are a monitor within its limits
+abbrev pub FoundIn : List ℕ → Option FoundState → List ℕ → Type 0
+FoundIn w found lines = MatchOption found (state_within w ≡ false) (λ f. FoundOne w f lines)
 
 -- ---- after an accepted instant
 
 -- those held before it, kept by k, on one side; those found on the other, to be kept by next
-pub record KeepingNext (rows : List ℕ) (k next : Progress) (p : Plan) : Type 0 where
+pub record KeepingNext (rows : List ℕ) (k next : Progress) : Type 0 where
   pub size : length rows ≡ all_words
   pub side : Side k.from
   pub to : next.from ≡ sides - k.from
   pub held : live_count k.count ≤ most_live
   pub small : FewOwedIn next.count rows next.from
-  pub plan : PlanFits p
   pub instants : next.instants ≤ 4000
 
 -- next is kept, and those found are as before, for every sheet that the plan is of; of the head only the monitor beside its sheet changes

@@ -1,5 +1,5 @@
 -- What the calls on a state of words promise, whole: these are their `ensures`, and what demand 3 over words is proved from. A state is read by `state_monitor`, which every array of words has; `is_state` tells whether it is one.
-use Rattle.std.specs.Prelude.{Bool, true, false, cond, ◌&&◌, List, [], ◌≡◌, ℕ}
+use Rattle.std.specs.Prelude.{Bool, true, false, cond, ◌&&◌, List, [], ◌≡◌, ℕ, Result}
 use Rattle.std.proofs.Math.Option.{Option}
 use Rattle.records.specs.Outcome.{Outcome, taken, refused}
 use Rattle.records.specs.Sheet.{SheetValue}
@@ -11,13 +11,13 @@ use Rattle.theory.specs.Session as machine
 use Rattle.theory.specs.Said.{Said}
 use Rattle.theory.specs.Seen.{SeenJudged}
 use Rattle.theory.specs.Numbered.{AcceptedFrom, RunsAlong}
-use Rattle.judge.specs.declared.answer.Reply.{Reply}
-use Rattle.judge.specs.declared.answer.Reply.TheVariants.{Refused}
+use Rattle.judge.specs.declared.answer.Answer as code
+use Rattle.records.specs.declared.refusal.Refusal.{Refusal}
 use Rattle.lent.specs.declared.live.Replied.{Replied}
 use Rattle.judge.specs.declared.monitor.CallResult.{CallResult}
 use Rattle.judge.specs.Answer.{reply_of, said_by}
 use Rattle.judge.specs.Limits.{monitor_within}
-use Rattle.judge.specs.Monitor.{KeepsNothing, held_by, no_monitor, refusal}
+use Rattle.judge.specs.Monitor.{KeepsNothing, held_by, no_monitor, Refuses}
 use Rattle.judge.specs.Progress.{given, read_back}
 use Rattle.judge.specs.Promises.{Follows, observes, Accepted}
 use Rattle.lent.specs.State.{is_state, state_sheet, state_progress, state_monitor}
@@ -41,8 +41,8 @@ pub record FollowsIn (s : SheetValue) (run : List Instant) (w : List ℕ) : Type
 -- ---- opening: `a` are the words before the call, `b` those after it
 
 -- refused, the number, and every word as it was; else the answer for no instant, and words that follow the sheet, each as it is stored
-pub record OpenedIn (read : Reader) (bytes : List ℕ) (r : Reply) (a b : List ℕ) : Type 0 where
-  pub refuses : (n : ℕ) → read bytes ≡ refused n → (r ≡ Refused n) × (b ≡ a)
+pub record OpenedIn (read : Reader) (bytes : List ℕ) (r : Result code.Answer Refusal) (a b : List ℕ) : Type 0 where
+  pub refuses : (n : ℕ) → read bytes ≡ refused n → (reply_of r ≡ refused n) × (b ≡ a)
   pub opens : (s : SheetValue) → read bytes ≡ taken s → (reply_of r ≡ taken (answer s [])) × FollowsIn s [] b
   pub stored : (s : SheetValue) → read bytes ≡ taken s → AsStored b
 
@@ -54,7 +54,7 @@ observes_in w bytes = cond (is_state w) (observes (state_monitor w) bytes) (refu
 
 -- refused, the number, and every word as it was; accepted, as a monitor that is a struct accepts it, and if each word was as it is stored, it still is; beside either the instants then held
 pub record ObservedIn (bytes : List ℕ) (r : Replied) (a b : List ℕ) : Type 0 where
-  pub refuses : (n : ℕ) → observes_in a bytes ≡ refused n → (r.reply ≡ Refused n) × (b ≡ a)
+  pub refuses : (n : ℕ) → observes_in a bytes ≡ refused n → (reply_of r.reply ≡ refused n) × (b ≡ a)
   pub accepts : (i : Instant) → observes_in a bytes ≡ taken i → (is_state b ≡ true) × Accepted (state_monitor a) i (given r.reply (state_monitor b))
   pub instants : r.instants ≡ instants_in b
   pub stored : (i : Instant) → observes_in a bytes ≡ taken i → AsStored a → AsStored b
@@ -63,7 +63,7 @@ pub record ObservedIn (bytes : List ℕ) (r : Replied) (a b : List ℕ) : Type 0
 
 -- 11, or what those held say
 pub record SaidIn (r : Replied) (w : List ℕ) : Type 0 where
-  pub outside : state_within w ≡ false → r.reply ≡ Refused 11
+  pub outside : state_within w ≡ false → reply_of r.reply ≡ refused 11
   pub inside : state_within w ≡ true → reply_of r.reply ≡ taken (said_by (held_by (state_monitor w)))
   pub instants : r.instants ≡ instants_in w
 
@@ -72,7 +72,7 @@ pub record SaidIn (r : Replied) (w : List ℕ) : Type 0 where
 -- 11 and no monitor; or the last answer, and a struct within its limits: its sheet, its instants, its last tags and how many it holds are those of the words, its remainders are those that they hold, and it follows whatever they follow
 -- where each word is as it is stored, the struct keeps nothing in unused places
 pub record GivenIn (r : CallResult) (w : List ℕ) : Type 0 where
-  pub outside : state_within w ≡ false → r ≡ refusal 11 no_monitor
+  pub outside : state_within w ≡ false → Refuses 11 no_monitor r
   pub inside : state_within w ≡ true → (reply_of r.reply ≡ taken (said_by (held_by (state_monitor w)))) × (monitor_within r.monitor ≡ true)
   pub monitor : state_within w ≡ true → r.monitor ≡ read_back (state_sheet w) (state_progress w) r.monitor.held.remainders
   pub held : state_within w ≡ true → held_by r.monitor ≡ held_by (state_monitor w)
@@ -88,7 +88,7 @@ opened_as (refused n) w = refused n
 
 -- from any words
 abbrev pub OpensIn : Reader → List ℕ → Outcome (machine.OpenedMonitor (List ℕ)) → Type 0
-OpensIn read sheet outcome = (r : Reply) × (a : List ℕ) × (b : List ℕ) × OpenedIn read sheet r a b × (opened_as (reply_of r) b ≡ outcome)
+OpensIn read sheet outcome = (r : Result code.Answer Refusal) × (a : List ℕ) × (b : List ℕ) × OpenedIn read sheet r a b × (opened_as (reply_of r) b ≡ outcome)
 
 abbrev pub ObservesIn : List ℕ → List ℕ → Outcome Answer → List ℕ → Type 0
 ObservesIn a bytes said b = (r : Replied) × ObservedIn bytes r a b × (reply_of r.reply ≡ said)

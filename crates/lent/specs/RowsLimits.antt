@@ -1,12 +1,11 @@
 -- The limits of remainders in rows, refusal 11, tested where they stand.
-use Rattle.std.specs.Prelude.{Bool, false, not, ◌||◌, List, ◌≡◌, ℕ, ◌+◌, ◌≤◌, ◌<◌, leb, get_or}
+use Rattle.std.specs.Prelude.{Bool, false, not, ◌||◌, List, ◌≡◌, ℕ, ◌+◌, leb, get_or, Option}
 use Rattle.records.specs.Sheet.{SheetValue}
 use Rattle.tesl.specs.Lists.{below}
-use Rattle.remainders.specs.declared.held.Status.{Status}
 use Rattle.lines.specs.declared.plan.Plan.{Plan}
 use Rattle.judge.specs.Limits.{stored_within, remainder_within, held_within}
-use Rattle.lines.specs.Plan.{PlanFits, Planned}
-use Rattle.remainders.specs.Rows.{second_side, height, row_obligation, row_lead}
+use Rattle.lines.specs.Plan.{Planned}
+use Rattle.remainders.specs.Rows.{row_obligation, row_lead}
 use Rattle.judge.specs.Progress.{row_remainder, rows_held}
 
 -- place j of a part of row i, and the lead of line k, which only precedes lines have
@@ -15,16 +14,6 @@ place_fits clocks least most rows i part j = stored_within clocks least most (ro
 
 abbrev pub lead_fits : List Bool → ℕ → List ℕ → ℕ → ℕ → Bool
 lead_fits precede instants rows i k = not (get_or precede k false) || leb (row_lead rows i k) instants
-
--- row i, for a plan
-pub record Testing (i : ℕ) (p : Plan) : Type 0 where
-  pub row : i < height
-  pub plan : PlanFits p
-
--- rows from `from` on, of a side, for a plan
-pub record TestingAll (from : ℕ) (p : Plan) : Type 0 where
-  pub side : from ≤ second_side
-  pub plan : PlanFits p
 
 -- whether row i is within its limits, for every sheet that the plan is of
 abbrev pub RowWithin : Plan → ℕ → List ℕ → ℕ → Bool → Type 0
@@ -35,5 +24,5 @@ abbrev pub EachRowWithin : Plan → ℕ → List ℕ → ℕ → ℕ → Bool �
 EachRowWithin p instants rows from n r = (v : SheetValue) (lines : List ℕ) → Planned v p lines → r ≡ below n (λ k. remainder_within v instants (row_remainder rows (from + k)))
 
 -- those held
-abbrev pub RowsWithin : Plan → ℕ → List ℕ → ℕ → Status → Bool → Type 0
+abbrev pub RowsWithin : Plan → ℕ → List ℕ → ℕ → Option ℕ → Bool → Type 0
 RowsWithin p instants rows from count r = (v : SheetValue) (lines : List ℕ) → Planned v p lines → r ≡ held_within v instants count (rows_held count rows from).remainders

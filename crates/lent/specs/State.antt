@@ -1,17 +1,14 @@
 -- A whole monitor in one lent array of words: what the words of its head, rows 0 to 2, are read as. Every array reads as a monitor; `is_state` tells which arrays are states.
 -- Row 0: 0 the format; 1 the clocks and 2 the lines of the sheet; 3 the instants; 4 the first row of the side in use; 5 the case of the answer; 6 live; 8 to 15 the last tags.
 -- Row 1: 0 to 15 the kinds of sixteen lines, 16 to 31 their A, 32 to 47 their B, 48 to 63 their D. Row 2: 0 to 15 their first number, 16 to 31 their second. All other words of the head are free.
-use Rattle.std.specs.Prelude.{Bool, true, cond, not, ◌&&◌, ◌||◌, List, ◌≡◌, ℕ, ◌+◌, ◌≤◌, ◌<◌, T, eqb, leb, ltb, ℤ, pos, length, get_or}
+use Rattle.std.specs.Prelude.{Bool, true, cond, not, ◌&&◌, ◌||◌, List, ◌≡◌, ℕ, ◌+◌, ◌≤◌, ◌<◌, T, eqb, leb, ltb, ℤ, pos, length, get_or, None, Option, Some}
 use Rattle.records.specs.declared.line.Line.{Line}
-use Rattle.records.specs.declared.line.Slot.{Slot}
 use Rattle.records.specs.declared.sheet.Sheet.{Sheet}
 use Rattle.records.specs.Lists.{listed}
 use Rattle.records.specs.Line.{blank_line}
-use Rattle.records.specs.Sheet.{slot_of, line_at, sheet_value}
+use Rattle.records.specs.Sheet.{line_at, sheet_value}
 use Rattle.records.specs.Word.{tag_of, raw_of}
 use Rattle.tesl.specs.Lists.{below}
-use Rattle.remainders.specs.declared.held.Status.{Status}
-use Rattle.remainders.specs.declared.held.Status.TheVariants.{Exhausted, Live}
 use Rattle.judge.specs.declared.progress.Progress.{Progress}
 use Rattle.lines.specs.declared.line_words.LineWords.{LineWords}
 use Rattle.judge.specs.declared.monitor.Monitor.{Monitor}
@@ -47,8 +44,8 @@ abbrev pub clocks_by : ℕ → ℕ
 clocks_by w = cond (ltb w byte_values) w 255
 
 -- place k of sixteen: a line below the count n, the blank line past it
-abbrev pub state_slot : ℕ → List ℕ → ℕ → Slot
-state_slot n w k = slot_of (cond (ltb k n) (state_line w k) blank_line)
+abbrev pub state_slot : ℕ → List ℕ → ℕ → Line
+state_slot n w k = cond (ltb k n) (state_line w k) blank_line
 
 abbrev pub state_sheet : List ℕ → Sheet
 state_sheet w = record { clocks = clocks_by (word w 0 1); count = word w 0 2; lines = listed (state_slot (word w 0 2) w) 16 }
@@ -56,10 +53,10 @@ state_sheet w = record { clocks = clocks_by (word w 0 1); count = word w 0 2; li
 -- ---- the monitor
 
 -- case 1: exhausted, when none is held; any other: how many are held
-abbrev pub count_by : ℕ → ℕ → Status
-count_by case live = cond (eqb case 1) Exhausted (Live live)
+abbrev pub count_by : ℕ → ℕ → Option ℕ
+count_by case live = cond (eqb case 1) None (Some live)
 
-abbrev pub state_count : List ℕ → Status
+abbrev pub state_count : List ℕ → Option ℕ
 state_count w = count_by (word w 0 5) (word w 0 6)
 
 -- the last tag of clock k: 16 bits of its word
@@ -109,12 +106,12 @@ pub record PutFormat (a b : List ℕ) : Type 0 where
 -- ---- contracts: the monitor stored
 
 -- live within its limit
-abbrev pub FewIn : Status → Type 0
-FewIn Exhausted = Unit
-FewIn (Live n) = n ≤ 32
+abbrev pub FewIn : Option ℕ → Type 0
+FewIn None = Unit
+FewIn (Some n) = n ≤ 32
 
 -- how many are held, in the words 5 and 6
-pub record PutCount (c : Status) (a b : List ℕ) : Type 0 where
+pub record PutCount (c : Option ℕ) (a b : List ℕ) : Type 0 where
   pub stays : Stays 0 5 7 a b
   pub count : state_count b ≡ c
   -- 0 once exhausted

@@ -1,5 +1,5 @@
 -- Each word of a state is the one that storing the monitor it reads as writes: so beside its remainders a state keeps of the instants only their number, the last tags and the last answer, and no bit of it is spare: `NoneSpare`.
-use Rattle.std.specs.Prelude.{List, [], ◌∷◌, ◌++◌, map, ◌≡◌, ℕ, ◌+◌, ◌*◌, ◌≤◌, ◌<◌, length, get_or, take}
+use Rattle.std.specs.Prelude.{List, [], ◌∷◌, ◌++◌, map, ◌≡◌, ℕ, ◌+◌, ◌*◌, ◌≤◌, ◌<◌, length, get_or, take, None, Option, Some}
 use Rattle.records.specs.declared.sheet.Sheet.{Sheet}
 use Rattle.records.specs.Lists.{listed}
 use Rattle.records.specs.Sheet.{sheet_value}
@@ -7,8 +7,6 @@ use Rattle.records.specs.Word.{raw_of}
 use Rattle.tesl.specs.Fits.{Obligation, Countdown}
 use Rattle.tesl.specs.Remainder.{Remainder}
 use Rattle.work.specs.View.{used_part}
-use Rattle.remainders.specs.declared.held.Status.{Status}
-use Rattle.remainders.specs.declared.held.Status.TheVariants.{Exhausted, Live}
 use Rattle.lines.specs.declared.line_words.LineWords.{LineWords}
 use Rattle.judge.specs.declared.progress.Progress.{Progress}
 use Rattle.judge.specs.Monitor.{held_by}
@@ -20,9 +18,9 @@ use Rattle.lent.specs.State.{format, state_sheet, state_progress, state_monitor,
 -- ---- the words of a state's rows; behind them a row has zeros
 
 -- row 0: the format, the clocks and the lines of the sheet, the instants, the side, the case of the answer, live, a free word, and the last tags of the sheet's clocks
-abbrev pub case_word : Status → ℕ
-case_word Exhausted = 1
-case_word (Live n) = 2
+abbrev pub case_word : Option ℕ → ℕ
+case_word None = 1
+case_word (Some n) = 2
 
 abbrev pub top_words : Sheet → Progress → List ℕ
 top_words s k = format ∷ s.clocks ∷ s.count ∷ k.instants ∷ k.from ∷ case_word k.count ∷ live_count k.count ∷ 0 ∷ map raw_of (take s.clocks k.tags)

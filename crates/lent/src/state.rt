@@ -1,20 +1,19 @@
-// A whole monitor in a lent array of words: the words of its head, in rows 0 to 2, read and stored. Its remainders stand behind the head, a row each.
-ghost use Rattle.std.specs.Prelude.{◌≡◌, ◌&&◌, ◌||◌, not, ◌≤◌, ◌<◌, length};
+// A whole monitor in a lent array of words: the words of its head, in rows 0 to 2, read and stored. Its remainders stand behind the head, a row each. The place of a line is a number below 16 that loops count.
+ghost use Rattle.std.specs.Prelude.{◌≡◌, ◌&&◌, ◌≤◌, ◌<◌, length};
 ghost use Rattle.records.specs.Lists.{listed};
 ghost use Rattle.records.specs.Line.{blank_line};
 ghost use Rattle.records.specs.Word.{tag_of, raw_of};
-ghost use Rattle.remainders.specs.Word.{byte_values, number_in};
-ghost use Rattle.remainders.specs.Rows.{all_words};
+ghost use Rattle.remainders.specs.Word.{number_in};
 ghost use Rattle.lent.specs.State.{state_words, clocks_by, state_slot, state_sheet, count_by, state_tag, state_progress, has_format, is_kind, kinds_below, has_kinds, is_side, is_case, is_state, PutFormat, FewIn, PutCount, PutLastTags, PuttingProgress, PutProgress, PutWords, no_words, SlotWords, PutLines, PutSheet};
 
 use judge::progress::Progress;
 use lines::line_words::{LineWords, line_of_words, words_of_line};
-use records::line::{Line, Slot};
+use records::line::Line;
 use records::sheet::{Sheet, line_at};
 use records::word::{raw_of, tag_of};
-use remainders::held::Status;
 use remainders::rows::{HEAD, SIDES, SIZE, put_word, word_at};
 use remainders::word::{count_in, number_in};
+use std::array;
 
 // The format and its version.
 pub(crate) const FORMAT: u32 = 1279655939;
@@ -55,125 +54,91 @@ const LIVE_AT: usize = 6;
 
 const TAGS_AT: usize = 8;
 
-// How many values a byte has.
-const BYTE_VALUES: u32 = 256;
-
 // ---- words
 
-fn small_word(n: usize) -> u32
-    requires { n ≤ 4000 }
-    ensures { result ≡ n }
-{
-    n as u32
-}
-
+// A tag, in 16 bits of a word.
 fn tag_in(w: u32) -> i16
     ensures { result ≡ tag_of (number_in w) }
 {
     tag_of(number_in(w))
 }
 
+// The word of a tag.
 fn tag_word(t: i16) -> u32
     ensures { (tag_of (number_in result) ≡ t) × (result ≡ raw_of t) }
 {
-    raw_of(t) as u32
+    u32::from(raw_of(t))
 }
 
-fn count_by(case: u32, live: u32) -> Status
+// How many are held, by the case of the answer and live.
+fn count_by(case: u32, live: u32) -> Option<usize>
     ensures { result ≡ count_by case live }
 {
     if case == EXHAUSTED {
-        Status::Exhausted
+        None
     } else {
-        Status::Live(count_in(live))
+        Some(count_in(live))
     }
 }
 
+// The first row of a side.
 fn is_side(from: usize) -> bool
     ensures { result ≡ is_side from }
 {
-    if from == HEAD {
-        true
-    } else {
-        from == SIDES - HEAD
-    }
+    from == HEAD || from == SIDES - HEAD
 }
 
+// Exhausted, or any other answer.
 fn is_case(w: u32) -> bool
     ensures { result ≡ is_case w }
 {
-    if w == EXHAUSTED { true } else { w == LIVE }
+    w == EXHAUSTED || w == LIVE
 }
 
+// The kind of a line.
 fn is_kind(w: u32) -> bool
     ensures { result ≡ is_kind w }
 {
-    if FIRST_KIND <= w {
-        w <= LAST_KIND
-    } else {
-        false
-    }
+    (FIRST_KIND..=LAST_KIND).contains(&w)
 }
 
+// The clocks of a sheet; 255 where no byte holds them.
 fn clocks_by(w: u32) -> u8
     ensures { result ≡ clocks_by w }
 {
-    if w < BYTE_VALUES { w as u8 } else { 255 }
+    u8::try_from(w).unwrap_or(u8::MAX)
 }
 
 // ---- read
-
-fn has_kind(used: bool, kind: u32) -> bool
-    ensures { result ≡ (not used || is_kind kind) }
-{
-    if used { is_kind(kind) } else { true }
-}
 
 // Whether each of the first n lines has a kind.
 fn kinds_below(state: &[u32; SIZE], n: usize) -> bool
     ensures { result ≡ kinds_below n state.now }
 {
-    let mut k = 0;
-    while k < LINE_PLACES {
-        if has_kind(k < n, word_at(state, LINES_ROW, k)) {
-            k += 1;
-        } else {
-            return false;
-        }
-    }
-    true
+    (0..LINE_PLACES).all(|k| n <= k || is_kind(word_at(state, LINES_ROW, k)))
 }
 
+// Whether the format and its version are known.
 fn has_format(state: &[u32; SIZE]) -> bool
     ensures { result ≡ has_format state.now }
 {
-    let w = word_at(state, TOP, FORMAT_AT);
-    w == FORMAT
+    word_at(state, TOP, FORMAT_AT) == FORMAT
 }
 
 // Whether the format is known and each line in use has a kind.
 fn has_lines(state: &[u32; SIZE]) -> bool
     ensures { result ≡ (has_format state.now && has_kinds state.now) }
 {
-    let n = count_in(word_at(state, TOP, LINES_AT));
-    if has_format(state) {
-        kinds_below(state, n)
-    } else {
-        false
-    }
+    has_format(state) && kinds_below(state, count_in(word_at(state, TOP, LINES_AT)))
 }
 
 // Whether an array of words is a state.
 pub(crate) fn is_state(state: &[u32; SIZE]) -> bool
     ensures { result ≡ is_state state.now }
 {
-    let side = count_in(word_at(state, TOP, SIDE_AT));
-    let case = word_at(state, TOP, CASE_AT);
-    if has_lines(state) {
-        if is_side(side) { is_case(case) } else { false }
-    } else {
-        false
-    }
+    has_lines(state)
+        && is_side(count_in(word_at(state, TOP, SIDE_AT)))
+        && is_case(word_at(state, TOP, CASE_AT))
 }
 
 // The six words of line k.
@@ -181,22 +146,17 @@ fn line_words_at(state: &[u32; SIZE], k: usize) -> LineWords
     requires { k < 16 }
     ensures { result ≡ state_words state.now k }
 {
-    let kind = word_at(state, LINES_ROW, k);
-    let a = word_at(state, LINES_ROW, LINE_PLACES + k);
-    let b = word_at(state, LINES_ROW, 2 * LINE_PLACES + k);
-    let d = word_at(state, LINES_ROW, 3 * LINE_PLACES + k);
-    let x = word_at(state, NUMBERS_ROW, k);
-    let y = word_at(state, NUMBERS_ROW, LINE_PLACES + k);
     LineWords {
-        kind,
-        a,
-        b,
-        d,
-        x,
-        y,
+        kind: word_at(state, LINES_ROW, k),
+        a: word_at(state, LINES_ROW, LINE_PLACES + k),
+        b: word_at(state, LINES_ROW, 2 * LINE_PLACES + k),
+        d: word_at(state, LINES_ROW, 3 * LINE_PLACES + k),
+        x: word_at(state, NUMBERS_ROW, k),
+        y: word_at(state, NUMBERS_ROW, LINE_PLACES + k),
     }
 }
 
+// The line of an unused place.
 fn blank_line() -> Line
     ensures { result ≡ blank_line }
 {
@@ -206,7 +166,7 @@ fn blank_line() -> Line
 // Line k of n lines; the blank line past them.
 fn slot_line(state: &[u32; SIZE], n: usize, k: usize) -> Line
     requires { k < 16 }
-    ensures { result ≡ (state_slot n state.now k).line }
+    ensures { result ≡ state_slot n state.now k }
 {
     if k < n {
         line_of_words(line_words_at(state, k))
@@ -216,98 +176,76 @@ fn slot_line(state: &[u32; SIZE], n: usize, k: usize) -> Line
 }
 
 // The n lines of a state, and blank ones past them.
-fn lines_in(state: &[u32; SIZE], n: usize) -> [Slot; 16]
+fn lines_in(state: &[u32; SIZE], n: usize) -> [Line; 16]
     ensures { result ≡ listed (state_slot n state.now) 16 }
 {
-    let blank = blank_line();
-    let mut lines = [Slot { line: blank }; 16];
-    let mut k = 0;
-    while k < LINE_PLACES {
-        let line = slot_line(state, n, k);
-        lines[k] = Slot { line };
-        k += 1;
-    }
-    lines
+    array::from_fn(|k| slot_line(state, n, k))
 }
 
 // The sheet of a state.
 pub(crate) fn sheet_in(state: &[u32; SIZE]) -> Sheet
     ensures { result ≡ state_sheet state.now }
 {
-    let clocks = clocks_by(word_at(state, TOP, CLOCKS_AT));
     let count = count_in(word_at(state, TOP, LINES_AT));
-    let lines = lines_in(state, count);
     Sheet {
-        clocks,
+        clocks: clocks_by(word_at(state, TOP, CLOCKS_AT)),
         count,
-        lines,
+        lines: lines_in(state, count),
     }
 }
 
+// The last tags of eight clocks.
 fn tags_in(state: &[u32; SIZE]) -> [i16; 8]
     ensures { result ≡ listed (state_tag state.now) 8 }
 {
-    let mut tags = [0i16; 8];
-    let mut k = 0;
-    while k < 8 {
-        let tag = tag_in(word_at(state, TOP, TAGS_AT + k));
-        tags[k] = tag;
-        k += 1;
-    }
-    tags
+    array::from_fn(|k| tag_in(word_at(state, TOP, TAGS_AT + k)))
 }
 
 // The monitor of a state, beside its sheet and its rows.
 pub(crate) fn progress_in(state: &[u32; SIZE]) -> Progress
     ensures { result ≡ state_progress state.now }
 {
-    let instants = count_in(word_at(state, TOP, INSTANTS_AT));
-    let tags = tags_in(state);
-    let case = word_at(state, TOP, CASE_AT);
-    let live = word_at(state, TOP, LIVE_AT);
-    let count = count_by(case, live);
-    let from = count_in(word_at(state, TOP, SIDE_AT));
     Progress {
-        instants,
-        tags,
-        count,
-        from,
+        instants: count_in(word_at(state, TOP, INSTANTS_AT)),
+        tags: tags_in(state),
+        count: count_by(word_at(state, TOP, CASE_AT), word_at(state, TOP, LIVE_AT)),
+        from: count_in(word_at(state, TOP, SIDE_AT)),
     }
 }
 
 // ---- stored
 
+// Stores the format and its version.
 pub(crate) fn put_format(state: &mut [u32; SIZE])
-    requires { length state.old ≡ all_words }
     ensures { PutFormat state.old state.new }
 {
     put_word(state, TOP, FORMAT_AT, FORMAT);
 }
 
-fn put_count(state: &mut [u32; SIZE], count: Status)
-    requires { (length state.old ≡ all_words) × FewIn count }
+// Stores how many are held: the case of the answer, and live.
+fn put_count(state: &mut [u32; SIZE], count: Option<usize>)
+    requires { FewIn count }
     ensures { PutCount count state.old state.new }
 {
     match count {
-        Status::Exhausted => {
+        None => {
             put_word(state, TOP, CASE_AT, EXHAUSTED);
             put_word(state, TOP, LIVE_AT, 0);
         }
-        Status::Live(n) => {
+        Some(n) => {
             put_word(state, TOP, CASE_AT, LIVE);
-            put_word(state, TOP, LIVE_AT, small_word(n));
+            // (32 at most, so nothing is lost)
+            put_word(state, TOP, LIVE_AT, n as u32);
         }
     }
 }
 
+// Stores the last tags.
 fn put_tags(state: &mut [u32; SIZE], tags: [i16; 8])
-    requires { length state.old ≡ all_words }
     ensures { PutLastTags tags state.old state.new }
 {
-    let mut k = 0;
-    while k < 8 {
-        put_word(state, TOP, TAGS_AT + k, tag_word(tags[k]));
-        k += 1;
+    for (k, tag) in tags.iter().enumerate() {
+        put_word(state, TOP, TAGS_AT + k, tag_word(*tag));
     }
 }
 
@@ -316,35 +254,27 @@ pub(crate) fn put_progress(state: &mut [u32; SIZE], progress: Progress)
     requires { PuttingProgress state.old progress }
     ensures { PutProgress progress state.old state.new }
 {
-    let instants = progress.instants;
-    let from = progress.from;
-    put_word(state, TOP, INSTANTS_AT, small_word(instants));
-    put_word(state, TOP, SIDE_AT, small_word(from));
-    let count = progress.count;
-    put_count(state, count);
-    let tags = progress.tags;
-    put_tags(state, tags);
+    // (4,000 and 39 at most, so nothing is lost)
+    put_word(state, TOP, INSTANTS_AT, progress.instants as u32);
+    put_word(state, TOP, SIDE_AT, progress.from as u32);
+    put_count(state, progress.count);
+    put_tags(state, progress.tags);
 }
 
 // Stores six words in the places of line k.
 fn put_line_words(state: &mut [u32; SIZE], k: usize, w: LineWords)
-    requires { (length state.old ≡ all_words) × (k < 16) }
+    requires { k < 16 }
     ensures { PutWords k w state.old state.new }
 {
-    let kind = w.kind;
-    let a = w.a;
-    let b = w.b;
-    let d = w.d;
-    let x = w.x;
-    let y = w.y;
-    put_word(state, LINES_ROW, k, kind);
-    put_word(state, LINES_ROW, LINE_PLACES + k, a);
-    put_word(state, LINES_ROW, 2 * LINE_PLACES + k, b);
-    put_word(state, LINES_ROW, 3 * LINE_PLACES + k, d);
-    put_word(state, NUMBERS_ROW, k, x);
-    put_word(state, NUMBERS_ROW, LINE_PLACES + k, y);
+    put_word(state, LINES_ROW, k, w.kind);
+    put_word(state, LINES_ROW, LINE_PLACES + k, w.a);
+    put_word(state, LINES_ROW, 2 * LINE_PLACES + k, w.b);
+    put_word(state, LINES_ROW, 3 * LINE_PLACES + k, w.d);
+    put_word(state, NUMBERS_ROW, k, w.x);
+    put_word(state, NUMBERS_ROW, LINE_PLACES + k, w.y);
 }
 
+// The words of a place without a line.
 fn no_line_words() -> LineWords
     ensures { result ≡ no_words }
 {
@@ -362,8 +292,7 @@ fn no_line_words() -> LineWords
 fn slot_words(s: Sheet, k: usize) -> LineWords
     ensures { SlotWords s k result }
 {
-    let n = s.count;
-    if k < n {
+    if k < s.count {
         words_of_line(line_at(s, k))
     } else {
         no_line_words()
@@ -372,31 +301,20 @@ fn slot_words(s: Sheet, k: usize) -> LineWords
 
 // Stores the lines of a sheet, and zeros past them.
 fn put_lines(state: &mut [u32; SIZE], sheet: Sheet)
-    requires { length state.old ≡ all_words }
     ensures { PutLines sheet state.old state.new }
 {
-    let mut k = 0;
-    while k < LINE_PLACES {
-        let w = slot_words(sheet, k);
-        put_line_words(state, k, w);
-        k += 1;
+    for k in 0..LINE_PLACES {
+        put_line_words(state, k, slot_words(sheet, k));
     }
-}
-
-fn clocks_word(clocks: u8) -> u32
-    ensures { (result ≡ clocks) × (result < byte_values) }
-{
-    clocks as u32
 }
 
 // Stores a sheet.
 pub(crate) fn put_sheet(state: &mut [u32; SIZE], sheet: Sheet)
-    requires { (length state.old ≡ all_words) × (sheet.count ≤ 16) }
+    requires { sheet.count ≤ 16 }
     ensures { PutSheet sheet state.old state.new }
 {
     put_lines(state, sheet);
-    let clocks = sheet.clocks;
-    put_word(state, TOP, CLOCKS_AT, clocks_word(clocks));
-    let count = sheet.count;
-    put_word(state, TOP, LINES_AT, small_word(count));
+    put_word(state, TOP, CLOCKS_AT, u32::from(sheet.clocks));
+    // (16 at most, so nothing is lost)
+    put_word(state, TOP, LINES_AT, sheet.count as u32);
 }

@@ -1,5 +1,5 @@
 -- What a filling has lines begin, as it is stored, and what it asks of their leads and makes of them.
-use Rattle.std.specs.Prelude.{List, [], ◌∷◌, map, Bool, true, cond, ◌&&◌, ◌≡◌, ℕ, ◌+◌, ◌≤◌, ◌<◌, eqb, ℤ, pos, ◌+ℤ◌, get_or, drop, take}
+use Rattle.std.specs.Prelude.{List, [], ◌∷◌, map, Bool, true, cond, ◌&&◌, ◌≡◌, ℕ, ◌+◌, ◌≤◌, ◌<◌, eqb, ℤ, pos, ◌+ℤ◌, get_or, drop, take, Option, None, Some}
 use Rattle.std.specs.Int.Signed.{le_z}
 use Rattle.records.specs.declared.line.Line.{Line}
 use Rattle.records.specs.Line.{of_delayed, of_counted}
@@ -12,8 +12,6 @@ use Rattle.work.specs.Questions.{tick_in}
 use Rattle.work.specs.Carried.{need_of, gain_of, loss_of}
 use Rattle.work.specs.Parts.{is_delay}
 use Rattle.remainders.specs.declared.obligation.Obligation as code
-use Rattle.lines.specs.declared.line.NewObligation.{NewObligation}
-use Rattle.lines.specs.declared.line.NewObligation.TheVariants.{Nothing, Owed}
 use Rattle.remainders.specs.Word.{due_number}
 use Rattle.remainders.specs.View.{obligation_of, same_stored}
 use Rattle.lines.specs.Plan.{delays_from, counted_rows, plan_line, plan_lines}
@@ -21,9 +19,9 @@ use Rattle.lines.specs.Plan.{delays_from, counted_rows, plan_line, plan_lines}
 -- ---- what lines begin, as it is stored
 
 -- what a line begins, as the list of it
-abbrev pub new_obligation : NewObligation → List code.Obligation
-new_obligation Nothing = []
-new_obligation (Owed o) = o ∷ []
+abbrev pub new_obligation : Option code.Obligation → List code.Obligation
+new_obligation None = []
+new_obligation (Some o) = o ∷ []
 
 -- of a counted line, where its A ticks or not
 abbrev pub count_stored : Bool → ℕ → ℕ → ℕ → List code.Obligation
@@ -47,6 +45,14 @@ pub record LineBegins (most : ℤ) (ticks : List Bool) (tags : List ℤ) (l : Li
 -- what n lines of the plan from row `from` on begin, each once
 abbrev pub stored_once : ℤ → List Bool → List ℤ → List ℕ → ℕ → ℕ → List code.Obligation
 stored_once most ticks tags lines from n = once_each same_stored (flat_map (stored_by most ticks tags) (plan_lines lines from n))
+
+-- what n lines of the plan from row `from` on begin, behind the `first` that stood in `was`
+pub record PartBegins (most : ℤ) (lines : List ℕ) (from n : ℕ) (ticks : List Bool) (tags : List ℤ) (first count : ℕ) (was begun : List code.Obligation) : Type 0 where
+  pub ordered : first ≤ count
+  pub few : count ≤ first + n
+  pub kept : take first begun ≡ take first was
+  pub part : drop first (take count begun) ≡ stored_once most ticks tags lines from n
+  pub reads : (j : ℕ) → j < n → ReadsOwed most ticks tags (plan_line lines (from + j))
 
 -- what the delay lines begin, and behind it what the counted lines do
 pub record LinesBegin (most : ℤ) (lines : List ℕ) (delays counted : ℕ) (ticks : List Bool) (tags : List ℤ) (owed count : ℕ) (begun : List code.Obligation) : Type 0 where

@@ -54,14 +54,6 @@ plan_lines lines from n = listed (λ j. plan_line lines (from + j)) n
 
 -- ---- the plan
 
--- what the code asks of a plan, whatever the sheet
-pub record PlanFits (p : Plan) : Type 0 where
-  pub clocks : p.clocks ≤ 8
-  pub leaders : p.leaders ≤ 16
-  pub few-relations : p.relations ≤ 16
-  pub few-rules : p.rules ≤ 16
-  pub few-begin : p.delays + p.counted ≤ 16
-
 -- what was found out about a sheet: all lines from row 0 on, and its four parts from their rows on; the precedes lines; the clocks that lines name
 pub record Planned (v : SheetValue) (p : Plan) (lines : List ℕ) : Type 0 where
   pub as_many : p.clocks ≡ v.clocks
@@ -106,5 +98,4 @@ pub record Preparing (s : Sheet) (lines : List ℕ) : Type 0 where
 -- a plan of the sheet
 pub record PlanOf (s : Sheet) (p : Plan) (lines : List ℕ) : Type 0 where
   pub size : length lines ≡ numbers
-  pub fits : PlanFits p
   pub planned : Planned (sheet_value s) p lines

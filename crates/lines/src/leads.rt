@@ -1,40 +1,17 @@
 // Which lines have leads, and what a filling asks of the leads and makes of them: once per filling.
-ghost use Rattle.std.specs.Prelude.{◌≡◌, ◌-◌, ◌≤◌};
-ghost use Rattle.theory.specs.Step.{bit};
+ghost use Rattle.std.specs.Prelude.{◌≡◌, ◌≤◌};
 ghost use Rattle.work.specs.Parts.{is_precedes};
 ghost use Rattle.lines.specs.Begun.{AskedLead, LeadChangesOf};
 
-use crate::plan::{NUMBERS, plan_line};
+use crate::plan::NUMBERS;
+use crate::sorted::plan_line;
 use records::line::Line;
 use remainders::clock::ticks_at;
 
 pub(crate) fn precedes(l: Line) -> bool
     ensures { result ≡ is_precedes l }
 {
-    match l {
-        Line::Weakly { .. } => true,
-        Line::Strictly { .. } => true,
-        Line::Sporadic { .. } => false,
-        Line::Relation { .. } => false,
-        Line::Implies { .. } => false,
-        Line::Excludes { .. } => false,
-        Line::Delayed { .. } => false,
-        Line::Kills { .. } => false,
-        Line::Counted { .. } => false,
-    }
-}
-
-fn one(b: bool) -> u16
-    ensures { result ≡ bit b }
-{
-    if b { 1 } else { 0 }
-}
-
-// x - y, at least 0.
-fn less(x: u16, y: u16) -> u16
-    ensures { result ≡ x - y }
-{
-    if y < x { x - y } else { 0 }
+    matches!(l, Line::Weakly { .. } | Line::Strictly { .. })
 }
 
 // Of one line the lead that it needs, its tick of A and its tick of B.
@@ -45,49 +22,42 @@ struct Ask {
     loss: u16,
 }
 
-fn no_lead() -> Ask
-    ensures { (result.need ≡ 0) × ((result.gain ≡ 0) × (result.loss ≡ 0)) }
-{
-    Ask {
-        need: 0,
-        gain: 0,
-        loss: 0,
-    }
-}
-
 fn ask_lead(l: Line, ticks: [bool; 8]) -> Ask
     ensures { AskedLead ticks l result.need result.gain result.loss }
 {
     match l {
         Line::Weakly { a, b } => {
-            let gain = one(ticks_at(ticks, a));
-            let loss = one(ticks_at(ticks, b));
+            let gain = u16::from(ticks_at(ticks, a));
+            let loss = u16::from(ticks_at(ticks, b));
             Ask {
-                need: less(loss, gain),
+                need: loss.saturating_sub(gain),
                 gain,
                 loss,
             }
         }
         Line::Strictly { a, b } => {
-            let gain = one(ticks_at(ticks, a));
-            let loss = one(ticks_at(ticks, b));
+            let loss = u16::from(ticks_at(ticks, b));
             Ask {
                 need: loss,
-                gain,
+                gain: u16::from(ticks_at(ticks, a)),
                 loss,
             }
         }
-        Line::Sporadic { .. } => no_lead(),
-        Line::Relation { .. } => no_lead(),
-        Line::Implies { .. } => no_lead(),
-        Line::Excludes { .. } => no_lead(),
-        Line::Delayed { .. } => no_lead(),
-        Line::Kills { .. } => no_lead(),
-        Line::Counted { .. } => no_lead(),
+        Line::Sporadic { .. }
+        | Line::Relation { .. }
+        | Line::Implies { .. }
+        | Line::Excludes { .. }
+        | Line::Delayed { .. }
+        | Line::Kills { .. }
+        | Line::Counted { .. } => Ask {
+            need: 0,
+            gain: 0,
+            loss: 0,
+        },
     }
 }
 
-// Of each of the first lines the lead that it needs, its ticks of A and its ticks of B.
+// Of each of the first lines the lead that it needs, its ticks of A and its ticks of B. Each is a list of its own in every contract, so it is an array of its own here.
 #[derive(Clone, Copy)]
 pub struct LeadChanges {
     pub needs: [u16; 16],
@@ -103,14 +73,11 @@ pub fn lead_changes(lines: &[u32; NUMBERS], leaders: usize, ticks: [bool; 8]) ->
     let mut needs = [0u16; 16];
     let mut gains = [0u16; 16];
     let mut losses = [0u16; 16];
-    let mut i = 0;
-    while i < leaders {
-        let l = plan_line(lines, i);
-        let ask = ask_lead(l, ticks);
+    for i in 0..leaders {
+        let ask = ask_lead(plan_line(lines, i), ticks);
         needs[i] = ask.need;
         gains[i] = ask.gain;
         losses[i] = ask.loss;
-        i += 1;
     }
     LeadChanges {
         needs,

@@ -8,4 +8,5 @@ pub mod line_words;
 pub mod plan;
 pub mod relevant;
 pub mod rules;
+mod sorted;
 pub mod tags;

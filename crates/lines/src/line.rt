@@ -9,13 +9,6 @@ use records::line::Line;
 use remainders::clock::{clock_tag, stop, ticks_at, wide};
 use remainders::obligation::{Obligation, due_number};
 
-// What a line begins at an instant.
-#[derive(Clone, Copy)]
-pub enum NewObligation {
-    Nothing,
-    Owed(Obligation),
-}
-
 // a = p × b + q, in whole numbers without wrapping.
 fn is_product(a: i16, p: i16, b: i16, q: i16) -> bool
     ensures { result ≡ eq_z a (p *ℤ b +ℤ q) }
@@ -29,14 +22,14 @@ pub(crate) fn tags_hold(l: Line, tags: [i16; 8]) -> bool
 {
     match l {
         Line::Relation { a, b, p, q } => is_product(clock_tag(tags, a), p, clock_tag(tags, b), q),
-        Line::Sporadic { .. } => true,
-        Line::Implies { .. } => true,
-        Line::Excludes { .. } => true,
-        Line::Delayed { .. } => true,
-        Line::Weakly { .. } => true,
-        Line::Strictly { .. } => true,
-        Line::Kills { .. } => true,
-        Line::Counted { .. } => true,
+        Line::Sporadic { .. }
+        | Line::Implies { .. }
+        | Line::Excludes { .. }
+        | Line::Delayed { .. }
+        | Line::Weakly { .. }
+        | Line::Strictly { .. }
+        | Line::Kills { .. }
+        | Line::Counted { .. } => true,
     }
 }
 
@@ -52,64 +45,58 @@ pub(crate) fn stopped_after(l: Line, ticks: [bool; 8], stopped: [bool; 8]) -> [b
                 stopped
             }
         }
-        Line::Sporadic { .. } => stopped,
-        Line::Relation { .. } => stopped,
-        Line::Implies { .. } => stopped,
-        Line::Excludes { .. } => stopped,
-        Line::Delayed { .. } => stopped,
-        Line::Weakly { .. } => stopped,
-        Line::Strictly { .. } => stopped,
-        Line::Counted { .. } => stopped,
+        Line::Sporadic { .. }
+        | Line::Relation { .. }
+        | Line::Implies { .. }
+        | Line::Excludes { .. }
+        | Line::Delayed { .. }
+        | Line::Weakly { .. }
+        | Line::Strictly { .. }
+        | Line::Counted { .. } => stopped,
     }
 }
 
 // The countdown of a counted line, where its A ticks.
-fn begins_count(ticks: bool, b: u8, d: u8, n: u8) -> NewObligation
+fn begins_count(ticks: bool, b: u8, d: u8, n: u8) -> Option<Obligation>
     ensures { new_obligation result ≡ count_stored ticks b d n }
 {
-    if !ticks {
-        return NewObligation::Nothing;
+    if !ticks || n == 0 {
+        return None;
     }
-    let number = n as u16;
-    if number == 0 {
-        return NewObligation::Nothing;
-    }
-    NewObligation::Owed(Obligation {
+    Some(Obligation {
         clock: d,
         on: b,
-        number,
+        number: u16::from(n),
     })
 }
 
 // The obligation or countdown that a line begins at an instant; `most` is the number of the end of the scale.
-pub(crate) fn begins(l: Line, ticks: [bool; 8], tags: [i16; 8], most: u16) -> NewObligation
+pub(crate) fn begins(l: Line, ticks: [bool; 8], tags: [i16; 8], most: u16) -> Option<Obligation>
     ensures { LineBegins (due_of most) ticks tags l (new_obligation result) }
 {
     match l {
         Line::Delayed { a, b, d, by } => {
-            if ticks_at(ticks, a) {
-                let number = due_number(clock_tag(tags, b), by);
-                if number <= (most as u32) {
-                    let number = number as u16;
-                    NewObligation::Owed(Obligation {
-                        clock: d,
-                        on: b,
-                        number,
-                    })
-                } else {
-                    NewObligation::Nothing
-                }
+            if !ticks_at(ticks, a) {
+                return None;
+            }
+            let number = due_number(clock_tag(tags, b), by);
+            if number <= u32::from(most) {
+                Some(Obligation {
+                    clock: d,
+                    on: b,
+                    number: number as u16,
+                })
             } else {
-                NewObligation::Nothing
+                None
             }
         }
-        Line::Sporadic { .. } => NewObligation::Nothing,
-        Line::Relation { .. } => NewObligation::Nothing,
-        Line::Implies { .. } => NewObligation::Nothing,
-        Line::Excludes { .. } => NewObligation::Nothing,
-        Line::Weakly { .. } => NewObligation::Nothing,
-        Line::Strictly { .. } => NewObligation::Nothing,
-        Line::Kills { .. } => NewObligation::Nothing,
         Line::Counted { a, b, d, n } => begins_count(ticks_at(ticks, a), b, d, n),
+        Line::Sporadic { .. }
+        | Line::Relation { .. }
+        | Line::Implies { .. }
+        | Line::Excludes { .. }
+        | Line::Weakly { .. }
+        | Line::Strictly { .. }
+        | Line::Kills { .. } => None,
     }
 }

@@ -1,6 +1,5 @@
 // A line in six words of 32 bits. Every six words read as a line.
 ghost use Rattle.std.specs.Prelude.{◌≡◌};
-ghost use Rattle.remainders.specs.Word.{byte_in};
 ghost use Rattle.lines.specs.LineWords.{line_by, line_of_words, words_by, WordsOf};
 
 use records::line::Line;
@@ -24,18 +23,11 @@ pub struct LineWords {
     pub y: u32,
 }
 
-// Of the number of a counted line the last byte counts.
-fn count_of(x: u16) -> u8
-    ensures { result ≡ byte_in x }
-{
-    byte_in(x as u32)
-}
-
-// The line of a kind, with its clocks A, B and D and two numbers; an unknown kind is kills.
+// The line of a kind, with its clocks A, B and D and two numbers, of which a counted line's last byte counts; an unknown kind is kills.
+#[tactic(auto, unfolding(crate::specs::LineWords::line_by))]
 fn line_by(kind: u16, a: u8, b: u8, d: u8, x: u16, y: u16) -> Line
     ensures { result ≡ line_by kind a b d x y }
 {
-    let n = count_of(x);
     match kind {
         number::SPORADIC => Line::Sporadic { a, b, t: tag_of(x) },
         number::RELATION => Line::Relation {
@@ -49,7 +41,12 @@ fn line_by(kind: u16, a: u8, b: u8, d: u8, x: u16, y: u16) -> Line
         number::DELAYED => Line::Delayed { a, b, d, by: x },
         number::WEAKLY => Line::Weakly { a, b },
         number::STRICTLY => Line::Strictly { a, b },
-        number::COUNTED => Line::Counted { a, b, d, n },
+        number::COUNTED => Line::Counted {
+            a,
+            b,
+            d,
+            n: byte_in(u32::from(x)),
+        },
         _ => Line::Kills { a, b },
     }
 }
@@ -58,25 +55,26 @@ fn line_by(kind: u16, a: u8, b: u8, d: u8, x: u16, y: u16) -> Line
 pub fn line_of_words(w: LineWords) -> Line
     ensures { result ≡ line_of_words w }
 {
-    let kind = number_in(w.kind);
-    let a = byte_in(w.a);
-    let b = byte_in(w.b);
-    let d = byte_in(w.d);
-    let x = number_in(w.x);
-    let y = number_in(w.y);
-    line_by(kind, a, b, d, x, y)
+    line_by(
+        number_in(w.kind),
+        byte_in(w.a),
+        byte_in(w.b),
+        byte_in(w.d),
+        number_in(w.x),
+        number_in(w.y),
+    )
 }
 
 fn words_by(kind: u16, a: u8, b: u8, d: u8, x: u16, y: u16) -> LineWords
     ensures { result ≡ words_by kind a b d x y }
 {
     LineWords {
-        kind: kind as u32,
-        a: a as u32,
-        b: b as u32,
-        d: d as u32,
-        x: x as u32,
-        y: y as u32,
+        kind: u32::from(kind),
+        a: u32::from(a),
+        b: u32::from(b),
+        d: u32::from(d),
+        x: u32::from(x),
+        y: u32::from(y),
     }
 }
 
@@ -95,6 +93,6 @@ pub fn words_of_line(l: Line) -> LineWords
         Line::Weakly { a, b } => words_by(number::WEAKLY, a, b, 0, 0, 0),
         Line::Strictly { a, b } => words_by(number::STRICTLY, a, b, 0, 0, 0),
         Line::Kills { a, b } => words_by(number::KILLS, a, b, 0, 0, 0),
-        Line::Counted { a, b, d, n } => words_by(number::COUNTED, a, b, d, n as u16, 0),
+        Line::Counted { a, b, d, n } => words_by(number::COUNTED, a, b, d, u16::from(n), 0),
     }
 }

@@ -1,18 +1,17 @@
 // The clocks whose unseen ticks an instant's work asks about: those that a line, an obligation held or a countdown held names.
 ghost use Rattle.std.specs.Prelude.{◌≡◌, ◌∷◌, [], ◌+◌, ◌≤◌, ◌<◌};
 ghost use Rattle.work.specs.Relevant.{named_by, flagged};
-ghost use Rattle.remainders.specs.Rows.{height, parts, row_count, FewInRow, FewOwed, clocks_asked, part_clocks, row_clocks, rows_clocks};
+ghost use Rattle.remainders.specs.Rows.{height, part_number, row_count, FewInRow, FewOwed, clocks_asked, part_clocks, row_clocks, rows_clocks};
 
 use records::line::Line;
 use remainders::clock::stop;
 use remainders::obligation::Obligation;
-use remainders::rows::{OBLIGATIONS, PARTS, SIZE, obligation_at, row_count};
+use remainders::rows::{Part, SIZE, obligation_at, row_count};
 
 fn flag_both(flags: [bool; 8], a: u8, b: u8) -> [bool; 8]
     ensures { result ≡ flagged (a ∷ b ∷ []) flags }
 {
-    let one = stop(flags, a);
-    stop(one, b)
+    stop(stop(flags, a), b)
 }
 
 // The flags of the clocks whose ticks a line asks about.
@@ -20,53 +19,36 @@ pub(crate) fn flag_line(l: Line, flags: [bool; 8]) -> [bool; 8]
     ensures { result ≡ flagged (named_by l) flags }
 {
     match l {
-        Line::Implies { a, b } => flag_both(flags, a, b),
-        Line::Excludes { a, b } => flag_both(flags, a, b),
-        Line::Weakly { a, b } => flag_both(flags, a, b),
-        Line::Strictly { a, b } => flag_both(flags, a, b),
-        Line::Kills { a, b } => flag_both(flags, a, b),
-        Line::Delayed {
-            a,
-            b: _,
-            d: _,
-            by: _,
-        } => stop(flags, a),
-        Line::Counted {
-            a,
-            b: _,
-            d: _,
-            n: _,
-        } => stop(flags, a),
-        Line::Sporadic { .. } => flags,
-        Line::Relation { .. } => flags,
+        Line::Implies { a, b }
+        | Line::Excludes { a, b }
+        | Line::Weakly { a, b }
+        | Line::Strictly { a, b }
+        | Line::Kills { a, b } => flag_both(flags, a, b),
+        Line::Delayed { a, .. } | Line::Counted { a, .. } => stop(flags, a),
+        Line::Sporadic { .. } | Line::Relation { .. } => flags,
     }
 }
 
 // The flags of the clocks whose ticks one in the set of a part asks about: its own, and of a countdown the on-clock too.
-fn flag_stored(part: usize, o: Obligation, flags: [bool; 8]) -> [bool; 8]
-    ensures { result ≡ flagged (clocks_asked part o) flags }
+fn flag_stored(part: Part, o: Obligation, flags: [bool; 8]) -> [bool; 8]
+    ensures { result ≡ flagged (clocks_asked (part_number part) o) flags }
 {
-    if part == OBLIGATIONS {
-        stop(flags, o.clock)
-    } else {
-        flag_both(flags, o.clock, o.on)
+    match part {
+        Part::Obligations => stop(flags, o.clock),
+        Part::Countdowns => flag_both(flags, o.clock, o.on),
     }
 }
 
-// The flags of those that the set of a part of row i asks about.
-fn flag_part(rows: &[u32; SIZE], i: usize, part: usize, flags: [bool; 8]) -> [bool; 8]
-    requires { (i < height) × ((part < parts) × (row_count rows.now i part ≤ 8)) }
-    ensures { result ≡ flagged (part_clocks rows.now i part) flags }
+// The flags of those that the set of a part of row i asks about. What a call gives stands in `next` first, here and below: no generated proof covers a call whose array is laid in one that holds flags already.
+fn flag_part(rows: &[u32; SIZE], i: usize, part: Part, mut flags: [bool; 8]) -> [bool; 8]
+    requires { (i < height) × (row_count rows.now i (part_number part) ≤ 8) }
+    ensures { result ≡ flagged (part_clocks rows.now i (part_number part)) flags }
 {
-    let n = row_count(rows, i, part);
-    let mut after = flags;
-    let mut j = 0;
-    while j < n {
-        let next = flag_stored(part, obligation_at(rows, i, part, j), after);
-        after = next;
-        j += 1;
+    for j in 0..row_count(rows, i, part) {
+        let next = flag_stored(part, obligation_at(rows, i, part, j), flags);
+        flags = next;
     }
-    after
+    flags
 }
 
 // Of both sets of row i.
@@ -74,27 +56,18 @@ fn flag_row(rows: &[u32; SIZE], i: usize, flags: [bool; 8]) -> [bool; 8]
     requires { (i < height) × FewInRow rows.now i }
     ensures { result ≡ flagged (row_clocks rows.now i) flags }
 {
-    let mut after = flags;
-    let mut part = 0;
-    while part < PARTS {
-        let next = flag_part(rows, i, part, after);
-        after = next;
-        part += 1;
-    }
-    after
+    let owed = flag_part(rows, i, Part::Obligations, flags);
+    flag_part(rows, i, Part::Countdowns, owed)
 }
 
 // Of n rows from row `from` on, besides others.
-pub fn flag_rows(rows: &[u32; SIZE], from: usize, n: usize, flags: [bool; 8]) -> [bool; 8]
+pub fn flag_rows(rows: &[u32; SIZE], from: usize, n: usize, mut flags: [bool; 8]) -> [bool; 8]
     requires { (from + n ≤ height) × FewOwed rows.now from n }
     ensures { result ≡ flagged (rows_clocks rows.now from n) flags }
 {
-    let mut after = flags;
-    let mut k = 0;
-    while k < n {
-        let next = flag_row(rows, from + k, after);
-        after = next;
-        k += 1;
+    for k in 0..n {
+        let next = flag_row(rows, from + k, flags);
+        flags = next;
     }
-    after
+    flags
 }

@@ -1,4 +1,4 @@
-// The questions of a line asked of several lines, and of all clocks.
+// The questions of a line asked of several lines, and of all clocks; the numbers of both come from a plan, whose type bounds them.
 ghost use Rattle.std.specs.Prelude.{◌≡◌, ℕ, ◌≤◌};
 ghost use Rattle.std.specs.Int.Signed.{le_z};
 ghost use Rattle.tesl.specs.Lists.{all, below};
@@ -7,20 +7,18 @@ ghost use Rattle.work.specs.Questions.{tags_hold};
 ghost use Rattle.lines.specs.Plan.{plan_lines, relations_from};
 
 use crate::line::tags_hold;
-use crate::plan::{NUMBERS, RELATIONS, plan_line};
+use crate::plan::{NUMBERS, RELATIONS};
+use crate::sorted::plan_line;
 
 // What n relations ask of the tags.
 pub fn all_tags_hold(lines: &[u32; NUMBERS], n: usize, tags: [i16; 8]) -> bool
     requires { n ≤ 16 }
     ensures { result ≡ all (tags_hold tags) (plan_lines lines.now relations_from n) }
 {
-    let mut i = 0;
-    while i < n {
-        let l = plan_line(lines, RELATIONS + i);
-        if !tags_hold(l, tags) {
+    for i in 0..n {
+        if !tags_hold(plan_line(lines, RELATIONS + i), tags) {
             return false;
         }
-        i += 1;
     }
     true
 }
@@ -30,12 +28,8 @@ pub fn none_falls(clocks: usize, was: [i16; 8], tags: [i16; 8]) -> bool
     requires { clocks ≤ 8 }
     ensures { result ≡ below clocks (λ (k : ℕ). le_z (tag_in was k) (tag_in tags k)) }
 {
-    let mut k = clocks;
-    while 0 < k {
-        k -= 1;
-        let before = was[k];
-        let tag = tags[k];
-        if tag < before {
+    for k in 0..clocks {
+        if tags[k] < was[k] {
             return false;
         }
     }

@@ -3,8 +3,7 @@ use crate::listing::{late, met, torn};
 use crate::place;
 use crate::row::step;
 use crate::same::compared;
-use crate::state::{last, owing};
-use crate::text::say;
+use crate::state::{State, last, owing};
 use gateway::{lift_observe, lift_open};
 use lent::live::STATE_WORDS;
 use std::io;
@@ -12,36 +11,39 @@ use std::io;
 // The bytes of a sheet of sixteen lines: 0 delayed by 0 to 15 on 0 implies 0.
 const SIXTEEN_LINES: usize = 149;
 
-// A line's record, where the first begins, and where its kind and its delay stand in it.
+// A line's record, and where the first begins.
 const LINE: usize = 9;
 
 const FIRST_LINE: usize = 5;
 
-const KIND_IN_LINE: usize = 2;
-
-const DELAY_IN_LINE: usize = 7;
-
-// The format of the version before, 0x4C460002, in which a due could lie past the scale; and a kind that no line has.
-const OLD_FORMAT: u32 = 1279655938;
+// The format of the version before, in which a due could lie past the scale; and a kind that no line has.
+const OLD_FORMAT: u32 = 0x4C46_0002;
 
 const NO_KIND: u32 = 25;
 
 // Obligations of 1 on 0 with dues at both ends, 32,767 and -32,768. No word has a due beyond them.
-const DUE_HIGHEST: u32 = 4294901761;
+const DUE_HIGHEST: u32 = 0xFFFF_0001;
 
-const DUE_LOWEST: u32 = 1;
+const DUE_LOWEST: u32 = 0x0000_0001;
 
 // Obligations of 2 on 0 and of 1 on 2, due at 0.
-const OF_CLOCK_2: u32 = 2147483650;
+const OF_CLOCK_2: u32 = 0x8000_0002;
 
-const ON_CLOCK_2: u32 = 2147484161;
+const ON_CLOCK_2: u32 = 0x8000_0201;
 
 // A countdown of 1 on 0 that wants 256.
-pub const WANTS_256: u32 = 16777217;
+pub const WANTS_256: u32 = 0x0100_0001;
+
+// A row of the first remainder held, of the one behind the two held, and of the other side.
+const ROW: usize = place::HELD;
+
+const THIRD: usize = place::THIRD;
+
+const OTHER: usize = place::OTHER;
 
 // 0 delayed by 2 on 0 implies 1, 0 weakly precedes 1: a tick at -3, unseen at -2. Two remainders are held.
-pub fn two_held() -> [u32; STATE_WORDS] {
-    let mut state = [0u32; STATE_WORDS];
+pub fn two_held() -> State {
+    let mut state = [0; STATE_WORDS];
     let _open = lift_open(
         b"\x01\x00\x01\x00\x02\x05\x00\x14\x00\x00\x00\x01\x02\x00\x02\x00\x15\x00\x00\x01",
         &mut state,
@@ -52,51 +54,37 @@ pub fn two_held() -> [u32; STATE_WORDS] {
 }
 
 fn sixteen_lines() -> [u8; SIXTEEN_LINES] {
-    let mut bytes = [0u8; SIXTEEN_LINES];
-    bytes[0] = 1;
-    bytes[2] = 1;
-    bytes[4] = 2;
-    let mut k = 0;
-    while k < 16 {
-        bytes[FIRST_LINE + LINE * k] = 5;
-        bytes[FIRST_LINE + KIND_IN_LINE + LINE * k] = 20;
-        bytes[FIRST_LINE + DELAY_IN_LINE + LINE * k] = k as u8;
-        k += 1;
+    let mut bytes = [0; SIXTEEN_LINES];
+    bytes[..FIRST_LINE].copy_from_slice(&[1, 0, 1, 0, 2]);
+    for delay in 0..16 {
+        let at = FIRST_LINE + LINE * usize::from(delay);
+        bytes[at..at + LINE].copy_from_slice(&[5, 0, 20, 0, 0, 0, 0, delay, 0]);
     }
     bytes
 }
 
-fn many_lines() -> [u32; STATE_WORDS] {
-    let mut state = [0u32; STATE_WORDS];
+fn many_lines() -> State {
+    let mut state = [0; STATE_WORDS];
     let _open = lift_open(&sixteen_lines(), &mut state);
     state
 }
 
-fn with_word(from: [u32; STATE_WORDS], at: usize, word: u32) -> [u32; STATE_WORDS] {
-    if STATE_WORDS <= at {
-        return from;
+// A state with one word made another.
+fn with_word(from: &State, at: usize, word: u32) -> State {
+    let mut state = *from;
+    if let Some(there) = state.get_mut(at) {
+        *there = word;
     }
-    let mut state = from;
-    state[at] = word;
     state
 }
 
 // The word at a place.
-pub fn word_of(state: &[u32; STATE_WORDS], at: usize) -> u32 {
-    if STATE_WORDS <= at {
-        return 0;
-    }
-    state[at]
+pub fn word_of(state: &State, at: usize) -> u32 {
+    state.get(at).copied().unwrap_or(0)
 }
 
 // The calls on a state with one word made another; then the next instant with the word as it was.
-pub fn refused(
-    rt: &impl Print,
-    what: &[u8],
-    from: [u32; STATE_WORDS],
-    at: usize,
-    word: u32,
-) -> io::Result<()> {
+pub fn refused(rt: &impl Print, what: &str, from: &State, at: usize, word: u32) -> io::Result<()> {
     step(rt, what)?;
     let before = with_word(from, at, word);
     let mut state = before;
@@ -104,62 +92,54 @@ pub fn refused(
     owing(rt, &state, 1)?;
     met(rt, &mut state)?;
     compared(rt, &before, &state)?;
-    say(rt, b"  restored\n")?;
-    let mut again = with_word(state, at, word_of(&from, at));
+    println!(rt; "  restored")?;
+    let mut again = with_word(&state, at, word_of(from, at));
     met(rt, &mut again)
 }
 
-// Words of the first remainder's row.
-fn refused_in_row(rt: &impl Print, s: [u32; STATE_WORDS]) -> io::Result<()> {
-    let row = place::HELD;
-    refused(rt, b"9 obligations", s, row + place::OWED, 9)?;
-    refused(
-        rt,
-        b"an obligation of clock 2",
-        s,
-        row + place::OBLIGATION,
-        OF_CLOCK_2,
-    )?;
-    refused(
-        rt,
-        b"an obligation on clock 2",
-        s,
-        row + place::OBLIGATION,
-        ON_CLOCK_2,
-    )?;
-    refused(rt, b"9 countdowns", s, row + place::COUNTING, 9)?;
-    refused(rt, b"a countdown that wants 0", s, row + place::COUNTING, 1)?;
-    refused(rt, b"a lead of 3", s, row + place::LEAD, 3)
-}
-
 pub fn outside(rt: &impl Print) -> io::Result<()> {
-    say(
-        rt,
-        b"A delay line and a precedes line, two instants: a word made another, outside the limits\n",
+    println!(rt;
+        "A delay line and a precedes line, two instants: a word made another, outside the limits"
     )?;
     let s = two_held();
-    refused(rt, b"another format", s, place::FORMAT, 1)?;
-    refused(rt, b"the format before", s, place::FORMAT, OLD_FORMAT)?;
-    refused(rt, b"no clocks", s, place::CLOCKS, 0)?;
-    refused(rt, b"9 clocks", s, place::CLOCKS, 9)?;
-    refused(rt, b"17 lines", s, place::LINES, 17)?;
-    refused(rt, b"17 lines for 16", many_lines(), place::LINES, 17)?;
-    refused(rt, b"4,001 instants", s, place::INSTANTS, 4001)?;
-    refused(rt, b"side 7", s, place::SIDE, 7)?;
-    refused(rt, b"case 3", s, place::CASE, 3)?;
-    refused(rt, b"33 live", s, place::LIVE, 33)?;
-    refused(rt, b"a line of kind 25", s, place::KIND, NO_KIND)?;
-    refused_in_row(rt, s)
+    for (what, at, word) in [
+        ("another format", place::FORMAT, 1),
+        ("the format before", place::FORMAT, OLD_FORMAT),
+        ("no clocks", place::CLOCKS, 0),
+        ("9 clocks", place::CLOCKS, 9),
+        ("17 lines", place::LINES, 17),
+    ] {
+        refused(rt, what, &s, at, word)?;
+    }
+    refused(rt, "17 lines for 16", &many_lines(), place::LINES, 17)?;
+    for (what, at, word) in [
+        ("4,001 instants", place::INSTANTS, 4001),
+        ("side 7", place::SIDE, 7),
+        ("case 3", place::CASE, 3),
+        ("33 live", place::LIVE, 33),
+        ("a line of kind 25", place::KIND, NO_KIND),
+        ("9 obligations", ROW + place::OWED, 9),
+        (
+            "an obligation of clock 2",
+            ROW + place::OBLIGATION,
+            OF_CLOCK_2,
+        ),
+        (
+            "an obligation on clock 2",
+            ROW + place::OBLIGATION,
+            ON_CLOCK_2,
+        ),
+        ("9 countdowns", ROW + place::COUNTING, 9),
+        ("a countdown that wants 0", ROW + place::COUNTING, 1),
+        ("a lead of 3", ROW + place::LEAD, 3),
+    ] {
+        refused(rt, what, &s, at, word)?;
+    }
+    Ok(())
 }
 
 // What is asked of a state with one word made another.
-pub fn held(
-    rt: &impl Print,
-    what: &[u8],
-    from: [u32; STATE_WORDS],
-    at: usize,
-    word: u32,
-) -> io::Result<()> {
+pub fn held(rt: &impl Print, what: &str, from: &State, at: usize, word: u32) -> io::Result<()> {
     step(rt, what)?;
     let state = with_word(from, at, word);
     last(rt, &state)?;
@@ -167,39 +147,25 @@ pub fn held(
 }
 
 pub fn at_limits(rt: &impl Print) -> io::Result<()> {
-    say(rt, b"The same state: a word made another, at its limit\n")?;
+    println!(rt; "The same state: a word made another, at its limit")?;
     let s = two_held();
-    held(rt, b"8 clocks", s, place::CLOCKS, 8)?;
-    held(rt, b"4,000 instants", s, place::INSTANTS, 4000)?;
-    held(rt, b"32 live", s, place::LIVE, 32)?;
-    held(rt, b"a line of kind 24", s, place::KIND, 24)?;
-    let row = place::HELD;
-    held(rt, b"8 obligations", s, row + place::OWED, 8)?;
-    held(
-        rt,
-        b"a due of 32,767",
-        s,
-        row + place::OBLIGATION,
-        DUE_HIGHEST,
-    )?;
-    held(
-        rt,
-        b"a due of -32,768",
-        s,
-        row + place::OBLIGATION,
-        DUE_LOWEST,
-    )?;
-    held(rt, b"a lead of 2", s, row + place::LEAD, 2)
+    for (what, at, word) in [
+        ("8 clocks", place::CLOCKS, 8),
+        ("4,000 instants", place::INSTANTS, 4000),
+        ("32 live", place::LIVE, 32),
+        ("a line of kind 24", place::KIND, 24),
+        ("8 obligations", ROW + place::OWED, 8),
+        ("a due of 32,767", ROW + place::OBLIGATION, DUE_HIGHEST),
+        ("a due of -32,768", ROW + place::OBLIGATION, DUE_LOWEST),
+        ("a lead of 2", ROW + place::LEAD, 2),
+    ] {
+        held(rt, what, &s, at, word)?;
+    }
+    Ok(())
 }
 
 // The calls on a state with one word made another, and two instants more.
-fn taken(
-    rt: &impl Print,
-    what: &[u8],
-    from: [u32; STATE_WORDS],
-    at: usize,
-    word: u32,
-) -> io::Result<()> {
+fn taken(rt: &impl Print, what: &str, from: &State, at: usize, word: u32) -> io::Result<()> {
     step(rt, what)?;
     let mut state = with_word(from, at, word);
     last(rt, &state)?;
@@ -208,88 +174,42 @@ fn taken(
     late(rt, &mut state)
 }
 
-// Words of the same row.
-fn taken_in_row(rt: &impl Print, s: [u32; STATE_WORDS]) -> io::Result<()> {
-    let row = place::HELD;
-    taken(
-        rt,
-        b"the lead of the delay line 3",
-        s,
-        row + place::DELAY_LEAD,
-        3,
-    )?;
-    taken(
-        rt,
-        b"an eighth obligation of clock 2",
-        s,
-        row + place::EIGHTH_OBLIGATION,
-        OF_CLOCK_2,
-    )?;
-    taken(
-        rt,
-        b"256 wanted by an eighth countdown",
-        s,
-        row + place::EIGHTH_COUNTDOWN,
-        WANTS_256,
-    )
-}
-
-// Words of rows that no remainder has.
-fn taken_beside(rt: &impl Print, s: [u32; STATE_WORDS]) -> io::Result<()> {
-    let third = place::THIRD;
-    taken(
-        rt,
-        b"9 obligations behind the two held",
-        s,
-        third + place::OWED,
-        9,
-    )?;
-    taken(
-        rt,
-        b"9 countdowns behind the two held",
-        s,
-        third + place::COUNTING,
-        9,
-    )?;
-    let other = place::OTHER;
-    taken(
-        rt,
-        b"9 obligations in the other side",
-        s,
-        other + place::OWED,
-        9,
-    )?;
-    taken(
-        rt,
-        b"9 countdowns in the other side",
-        s,
-        other + place::COUNTING,
-        9,
-    )
-}
-
+// Words of the head and of the lines, of the first remainder's row, and of rows that no remainder has.
 pub fn unused(rt: &impl Print) -> io::Result<()> {
-    say(
-        rt,
-        b"The same state: a word that is not in use made another\n",
-    )?;
+    println!(rt; "The same state: a word that is not in use made another")?;
     let s = two_held();
-    taken(rt, b"none", s, place::FREE, 0)?;
-    taken(rt, b"a free word of the head", s, place::FREE, 1)?;
-    taken(
-        rt,
-        b"the kind of a third line 25",
-        s,
-        place::UNUSED_KIND,
-        NO_KIND,
-    )?;
-    taken_in_row(rt, s)?;
-    taken_beside(rt, s)
+    for (what, at, word) in [
+        ("none", place::FREE, 0),
+        ("a free word of the head", place::FREE, 1),
+        ("the kind of a third line 25", place::UNUSED_KIND, NO_KIND),
+        ("the lead of the delay line 3", ROW + place::DELAY_LEAD, 3),
+        (
+            "an eighth obligation of clock 2",
+            ROW + place::EIGHTH_OBLIGATION,
+            OF_CLOCK_2,
+        ),
+        (
+            "256 wanted by an eighth countdown",
+            ROW + place::EIGHTH_COUNTDOWN,
+            WANTS_256,
+        ),
+        ("9 obligations behind the two held", THIRD + place::OWED, 9),
+        (
+            "9 countdowns behind the two held",
+            THIRD + place::COUNTING,
+            9,
+        ),
+        ("9 obligations in the other side", OTHER + place::OWED, 9),
+        ("9 countdowns in the other side", OTHER + place::COUNTING, 9),
+    ] {
+        taken(rt, what, &s, at, word)?;
+    }
+    Ok(())
 }
 
 pub fn no_monitor(rt: &impl Print) -> io::Result<()> {
-    say(rt, b"All words 0\n")?;
-    let mut state = [0u32; STATE_WORDS];
+    println!(rt; "All words 0")?;
+    let mut state = [0; STATE_WORDS];
     last(rt, &state)?;
     owing(rt, &state, 0)?;
     met(rt, &mut state)?;

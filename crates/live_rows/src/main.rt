@@ -14,7 +14,6 @@ mod row;
 mod same;
 mod scale;
 mod state;
-mod text;
 
 use std::io;
 

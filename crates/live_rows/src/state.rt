@@ -1,29 +1,40 @@
 // How clocks are seen, and what is asked of every state.
-use crate::row::{row, row_of};
+use crate::row::row;
 use gateway::{lift_last, lift_observe, lift_owing};
 use lent::live::STATE_WORDS;
+use std::fmt::Display;
 use std::io;
 
-// How a clock is seen.
-pub const IDLE: u8 = 0;
+// The words of a state.
+pub type State = [u32; STATE_WORDS];
 
-pub const TICK: u8 = 1;
-
-pub const UNSEEN: u8 = 2;
+// How a clock is seen, by its tick byte.
+#[derive(Clone, Copy)]
+pub enum Seen {
+    Idle,
+    Tick,
+    Unseen,
+}
 
 // How many owe a clock.
-pub fn owing(rt: &impl Print, state: &[u32; STATE_WORDS], clock: u8) -> io::Result<()> {
-    row_of(rt, b"owing, clock ", clock as u64, lift_owing(state, clock))
+pub fn owing(rt: &impl Print, state: &State, clock: u8) -> io::Result<()> {
+    row(
+        rt,
+        format_args!("owing, clock {clock}"),
+        lift_owing(state, clock),
+    )
 }
 
-pub fn last(rt: &impl Print, state: &[u32; STATE_WORDS]) -> io::Result<()> {
-    row(rt, b"last", lift_last(state))
+// The last answer.
+pub fn last(rt: &impl Print, state: &State) -> io::Result<()> {
+    row(rt, "last", lift_last(state))
 }
 
+// Hands an instant over.
 pub fn observe(
     rt: &impl Print,
-    state: &mut [u32; STATE_WORDS],
-    call: &[u8],
+    state: &mut State,
+    call: impl Display + Drop,
     instant: &[u8],
 ) -> io::Result<()> {
     row(rt, call, lift_observe(state, instant))

@@ -1,12 +1,13 @@
 // Each call with the bytes of a sheet and a log, held against what is due.
-ghost use Rattle.std.specs.Prelude.{◌≤◌};
-
-use crate::due::{Due, Entry, entry_bytes, holding, pack, panel_due, result_due, short_due};
+use crate::due::{
+    BROKEN, Due, EXHAUSTED, Entry, NO_ANSWER, entry_bytes, holding, pack, panel_due, result_due,
+    short_due,
+};
 use crate::tally;
 use cases::tally::{Tally, count, count_answer, count_if};
 use cases::tape::front;
 use gateway::{lift_judge, lift_panel, lift_watch};
-use judge::answer::{Answer, Reply};
+use judge::answer::Answer;
 use logs::log::{Judged, judge_log};
 
 // A byte that no entry has.
@@ -19,44 +20,38 @@ pub fn held(is_due: bool, t: Tally, at: usize) -> Tally {
 
 // Counts a refusal by its number.
 pub fn with_number(n: u8, t: Tally) -> Tally {
-    let at = n as usize;
-    count(t, tally::NUMBERS + at)
+    count(t, tally::NUMBERS + usize::from(n))
 }
 
 fn entry_of(a: Answer) -> Entry {
     match a {
-        Answer::Exhausted => Entry(1, 0, 0),
-        Answer::Broken => Entry(2, 0, 0),
+        Answer::Exhausted => EXHAUSTED,
+        Answer::Broken => BROKEN,
         Answer::Holding { live, clear } => holding(live, clear),
     }
 }
 
 fn packed(j: Judged) -> u64 {
-    let reply = j.reply;
-    match reply {
-        Reply::Refused(n) => pack(n, Entry(0, 0, 0), j.instants),
-        Reply::Answered(a) => pack(0, entry_of(a), j.instants),
+    match j.reply {
+        Err(refusal) => pack(u8::from(refusal), NO_ANSWER, j.instants),
+        Ok(a) => pack(0, entry_of(a), j.instants),
     }
-}
-
-// Counts a result by its answer, if it has one.
-fn with_answer(r: u64, t: Tally, first: usize) -> Tally
-    requires { first ≤ 60 }
-{
-    count_answer(t, first, r / 256 % 256, r / 16777216 % 256)
 }
 
 // Counts a result by its number, or its answer.
 fn with_result(r: u64, is_counted: bool, t: Tally) -> Tally {
-    let t = with_number((r % 256) as u8, t);
-    let t = with_answer(r, t, tally::ANSWERS);
+    let [number, answer, _, clear, ..] = r.to_le_bytes();
+    let (answer, clear) = (u64::from(answer), u64::from(clear));
+    let t = with_number(number, t);
+    let t = count_answer(t, tally::ANSWERS, answer, clear);
     if is_counted {
-        return with_answer(r, t, tally::COUNTED_ANSWERS);
+        count_answer(t, tally::COUNTED_ANSWERS, answer, clear)
+    } else {
+        t
     }
-    t
 }
 
-fn judged(sheet: &[u8], log: &[u8], due: Due, t: Tally) -> Tally {
+fn judged(sheet: &[u8], log: &[u8], due: &Due, t: Tally) -> Tally {
     let wanted = result_due(due);
     let j = judge_log(sheet, log);
     let t = held(packed(j) == wanted, t, tally::JUDGE_LOG);
@@ -68,91 +63,75 @@ fn judged(sheet: &[u8], log: &[u8], due: Due, t: Tally) -> Tally {
 // A result, and the buffer after it.
 #[derive(Clone, Copy)]
 struct Outcome {
+    // The result.
     result: u64,
+    // The buffer.
     out: [u8; 64],
 }
 
 // Lends the first `room` bytes.
-fn watch_in(sheet: &[u8], log: &[u8], out: &mut [u8], room: usize) -> u64 {
-    if out.len() < room {
-        return 0;
-    }
-    lift_watch(sheet, log, &mut out[0..room])
-}
-
 fn watch(sheet: &[u8], log: &[u8], room: usize) -> Outcome {
     let mut out = [BLANK; 64];
-    let result = watch_in(sheet, log, &mut out, room);
+    let result = match out.get_mut(..room) {
+        Some(lent) => lift_watch(sheet, log, lent),
+        None => 0,
+    };
     Outcome { result, out }
 }
 
-// The bytes behind the first n; none where there are fewer.
-fn behind(bytes: &[u8], n: usize) -> &[u8] {
-    if bytes.len() < n {
-        return &bytes[0..0];
-    }
-    &bytes[n..]
-}
-
 // Whether a result is as due, and the buffer holds n bytes of entries, later bytes as they were; the entry of opening is left out.
-fn is_watched(w: Outcome, wanted: u64, entries: [u8; 51], n: usize) -> bool {
-    if w.result != wanted {
-        return false;
-    }
-    let out = w.out;
-    let blank = [BLANK; 64];
-    if behind(&out, n) == behind(&blank, n) {
-        return front(&out, n) == front(behind(&entries, 3), n);
-    }
-    false
+fn is_watched(w: &Outcome, wanted: u64, due: &Due, n: usize) -> bool {
+    w.result == wanted
+        && front(&w.out, n) == front(&due.entries[3..], n)
+        && w.out.iter().skip(n).all(|x| *x == BLANK)
 }
 
 // With room for the entries, and for up to two bytes more.
-fn watched(sheet: &[u8], log: &[u8], due: Due, t: Tally) -> Tally {
+fn watched(sheet: &[u8], log: &[u8], due: &Due, t: Tally) -> Tally {
     let n = entry_bytes(due);
-    let entries = due.entries;
     let w = watch(sheet, log, n + due.taken % 3);
-    let is_due = is_watched(w, result_due(due), entries, n);
-    held(is_due, t, tally::LIFT_WATCH)
+    held(
+        is_watched(&w, result_due(due), due, n),
+        t,
+        tally::LIFT_WATCH,
+    )
 }
 
 // With a byte too little.
-fn watched_short(sheet: &[u8], log: &[u8], due: Due, t: Tally) -> Tally {
+fn watched_short(sheet: &[u8], log: &[u8], due: &Due, t: Tally) -> Tally {
     let n = entry_bytes(due);
     if n == 0 {
         return t;
     }
-    let entries = due.entries;
     let w = watch(sheet, log, n - 1);
     let number = (w.result % 256) as u8;
-    let is_due = is_watched(w, short_due(due), entries, 0);
-    held(is_due, with_number(number, t), tally::SHORT)
+    held(
+        is_watched(&w, short_due(due), due, 0),
+        with_number(number, t),
+        tally::SHORT,
+    )
 }
 
 // Counts a panel's result that has a tick owed.
 fn with_owing(r: u64, is_counted: bool, t: Tally) -> Tally {
-    if r / 65536 % 256 == 0 {
+    let [_, _, owing, ..] = r.to_le_bytes();
+    if owing == 0 {
         return t;
     }
     count_if(is_counted, count(t, tally::OWING), tally::COUNTED_OWING)
 }
 
-// Every clock, and one that no sheet has.
-fn shown(sheet: &[u8], log: &[u8], due: Due, tally: Tally) -> Tally {
-    let mut t = tally;
-    let mut clock = 0u8;
-    while clock < 9 {
-        let r = lift_panel(sheet, log, clock);
-        let more = with_owing(r, due.is_counted, t);
-        t = held(r == panel_due(due, clock), more, tally::LIFT_PANEL);
-        clock += 1;
-    }
-    t
+// A clock that the panel shows.
+fn with_clock(sheet: &[u8], log: &[u8], due: &Due, clock: u8, t: Tally) -> Tally {
+    let r = lift_panel(sheet, log, clock);
+    let t = with_owing(r, due.is_counted, t);
+    held(r == panel_due(due, clock), t, tally::LIFT_PANEL)
 }
 
-pub fn compare(sheet: &[u8], log: &[u8], due: Due, t: Tally) -> Tally {
+// What is compared; of the panel every clock, and one that no sheet has.
+pub fn compare(sheet: &[u8], log: &[u8], due: &Due, t: Tally) -> Tally {
     let t = judged(sheet, log, due, t);
     let t = watched(sheet, log, due, t);
     let t = watched_short(sheet, log, due, t);
-    shown(sheet, log, due, t)
+    (0..9).fold(t, |t, clock| with_clock(sheet, log, due, clock, t))
 }

@@ -4,47 +4,45 @@ ghost use Rattle.std.specs.Prelude.{◌≤◌};
 use filler::run::Run;
 use filler::verdict::Verdict;
 use filler::whole_run::judge as verdict_of;
-use records::number;
+use records::refusal::Refusal;
 use records::sheet::Sheet;
 
 // An answer, live, clear: as bytes.
-#[derive(Clone, Copy)]
-pub struct Entry(pub u8, pub u8, pub u8);
+pub type Entry = [u8; 3];
 
-// The number of the refusal, 0 for none; the instants taken; the entries of opening and of every instant; how many of the remainders owe each clock a tick; whether the lines are all counted, false where a refusal is due.
+// The entry of no answer.
+pub const NO_ANSWER: Entry = [0, 0, 0];
+
+pub const EXHAUSTED: Entry = [1, 0, 0];
+
+pub const BROKEN: Entry = [2, 0, 0];
+
+// What is due. (One array is by instant, the other by clock.)
 #[derive(Clone, Copy)]
 pub struct Due {
-    pub number: u8,
+    // The refusal, if any.
+    pub refusal: Option<Refusal>,
+    // The instants taken.
     pub taken: usize,
+    // The entries of opening and of every instant.
     pub entries: [u8; 51],
+    // How many of the remainders owe each clock a tick.
     pub owing: [usize; 8],
+    // Whether the lines are all counted, false where a refusal is due; it is of the sheet, and says nothing of the refusal beside it.
     pub is_counted: bool,
 }
 
+// Live is 32 at most, so nothing of it is cut off.
 pub fn holding(live: usize, clear: bool) -> Entry {
-    let n = (live % 256) as u8;
-    let c = if clear { 1 } else { 0 };
-    Entry(3, n, c)
+    [3, (live % 256) as u8, u8::from(clear)]
 }
 
 fn entry_of(v: Verdict) -> Entry {
     match v {
-        Verdict::Exhausted => Entry(1, 0, 0),
-        Verdict::Broken => Entry(2, 0, 0),
+        Verdict::Exhausted => EXHAUSTED,
+        Verdict::Broken => BROKEN,
         Verdict::Holding { live, clear } => holding(live, clear),
     }
-}
-
-// With the entry at a place below 17.
-fn with_entry(entries: [u8; 51], k: usize, e: Entry) -> [u8; 51] {
-    if 16 < k {
-        return entries;
-    }
-    let mut next = entries;
-    next[3 * k] = e.0;
-    next[3 * k + 1] = e.1;
-    next[3 * k + 2] = e.2;
-    next
 }
 
 // The first n instants.
@@ -54,77 +52,61 @@ pub fn beginning(run: Run, n: usize) -> Run {
     next
 }
 
-// With the entry of a beginning, if the run is so long.
-fn with_beginning(entries: [u8; 51], sheet: Sheet, run: Run, n: usize) -> [u8; 51] {
-    if run.count < n {
-        return entries;
-    }
-    with_entry(entries, n, entry_of(verdict_of(sheet, beginning(run, n))))
-}
-
+// The entries of the beginnings of a run, 0 past its end.
 pub fn entries_of(sheet: Sheet, run: Run) -> [u8; 51] {
-    let mut entries = [0u8; 51];
-    let mut n = 0;
-    while n < 17 {
-        let more = with_beginning(entries, sheet, run, n);
-        entries = more;
-        n += 1;
+    let mut entries = [0; 51];
+    for n in 0..17 {
+        if n <= run.count {
+            let entry = entry_of(verdict_of(sheet, beginning(run, n)));
+            entries[3 * n..3 * n + 3].copy_from_slice(&entry);
+        }
     }
     entries
 }
 
+// The number of a refusal, 0 of none.
+pub fn number_of(refusal: Option<Refusal>) -> u8 {
+    refusal.map_or(0, u8::from)
+}
+
 // A result as the calls for C pack it.
-pub fn pack(number: u8, e: Entry, count: usize) -> u64 {
-    let n = number as u64;
-    let answer = e.0 as u64;
-    let live = e.1 as u64;
-    let clear = e.2 as u64;
-    let taken = (count % 65536) as u64;
-    n + 256 * answer + 65536 * live + 16777216 * clear + 4294967296 * taken
+pub fn pack(number: u8, entry: Entry, taken: usize) -> u64 {
+    let [answer, live, clear] = entry;
+    let [low, high] = ((taken % 65536) as u16).to_le_bytes();
+    u64::from_le_bytes([number, answer, live, clear, low, high, 0, 0])
 }
 
 // The entry at a place below 17.
-fn entry_at(entries: [u8; 51], k: usize) -> Entry {
-    if 16 < k {
-        return Entry(0, 0, 0);
+fn entry_at(due: &Due, k: usize) -> Entry {
+    match due.entries.chunks_exact(3).nth(k) {
+        Some([answer, live, clear]) => [*answer, *live, *clear],
+        _ => NO_ANSWER,
     }
-    let answer = entries[3 * k];
-    let live = entries[3 * k + 1];
-    let clear = entries[3 * k + 2];
-    Entry(answer, live, clear)
 }
 
-pub fn result_due(due: Due) -> u64 {
-    if due.number == 0 {
-        let entries = due.entries;
-        let e = entry_at(entries, due.taken);
-        return pack(0, e, due.taken);
+// The result with the last answer, or the number of the refusal.
+pub fn result_due(due: &Due) -> u64 {
+    match due.refusal {
+        None => pack(0, entry_at(due, due.taken), due.taken),
+        Some(refusal) => pack(u8::from(refusal), NO_ANSWER, due.taken),
     }
-    pack(due.number, Entry(0, 0, 0), due.taken)
 }
 
-pub fn short_due(due: Due) -> u64 {
-    pack(number::SHORT_BUFFER, Entry(0, 0, 0), due.taken)
+// The result where the buffer is too short.
+pub fn short_due(due: &Due) -> u64 {
+    pack(u8::from(Refusal::ShortBuffer), NO_ANSWER, due.taken)
 }
 
-// No clock from the eighth on is owed a tick.
-fn owing_at(due: Due, clock: u8) -> usize {
-    let k = clock as usize;
-    if 7 < k {
-        return 0;
-    }
-    due.owing[k]
-}
-
-pub fn panel_due(due: Due, clock: u8) -> u64 {
-    let n = owing_at(due, clock) % 256;
-    pack(due.number, Entry(0, n as u8, 0), due.taken)
+// A panel's result; no clock from the eighth on is owed a tick.
+pub fn panel_due(due: &Due, clock: u8) -> u64 {
+    let owing = due.owing.get(usize::from(clock)).copied().unwrap_or(0);
+    let entry = [0, (owing % 256) as u8, 0];
+    pack(number_of(due.refusal), entry, due.taken)
 }
 
 // The bytes of the entries of the instants taken.
-pub fn entry_bytes(due: Due) -> usize
+pub fn entry_bytes(due: &Due) -> usize
     ensures { result ≤ 48 }
 {
-    let n = due.taken;
-    if n < 16 { 3 * n } else { 48 }
+    3 * due.taken.min(16)
 }

@@ -1,6 +1,6 @@
 // The made cases: a whole log, numbered instants among the others, a beginning of it, a log with a damaged record, one with a wrong number, and a damaged sheet.
 use crate::compare::{compare, held, with_number};
-use crate::due::{Due, beginning, entries_of};
+use crate::due::{Due, beginning, entries_of, number_of};
 use crate::faulty::{WAYS, faulty_sheet};
 use crate::tally;
 use cases::damage::{DAMAGES, Record, damaged, whole};
@@ -15,74 +15,70 @@ use filler::run::Run;
 use filler::whole_run::owing;
 use gateway::{lift_instant_number, lift_sheet_number};
 use records::instant::Instant;
+use records::refusal::Refusal;
 use records::sheet::Sheet;
 
 const NARROW_CASES: u64 = 3000;
 
 const WIDE_CASES: u64 = 1000;
 
-// A sheet and its bytes, a run, and the entries due of opening and of each instant.
+// A made case.
 #[derive(Clone, Copy)]
 struct Made {
+    // A sheet, and its bytes.
     sheet: Sheet,
     tape: Tape,
+    // A run.
     run: Run,
+    // The entries due of opening and of each instant.
     entries: [u8; 51],
 }
 
 // Each instant of a run with its number or plain, by a draw each.
 fn numbered_run(run: Run, d: [u64; 48]) -> Run {
     let mut next = run;
-    let mut i = 0;
-    while i < 16 {
-        let v = next.instants[i];
-        next.instants[i] = next_of(v, i, one_in(d, 8 + i, 2));
-        i += 1;
+    for (i, v) in next.instants.iter_mut().enumerate() {
+        *v = next_of(*v, i, one_in(d, 8 + i, 2));
     }
     next
 }
 
 // A log with the records of the instants from one place to before another.
 fn with_records(log: Tape, clocks: u8, run: Run, from: usize, to: usize) -> Tape {
-    let mut all = log;
-    let mut i = from;
-    while i < to {
-        let r = whole(instant_at(run, i), clocks);
-        all = with_record(all, r);
-        i += 1;
-    }
-    all
+    (from..to).fold(log, |all, i| {
+        with_record(all, whole(instant_at(run, i), clocks))
+    })
 }
 
-fn compared(sheet: Tape, log: Tape, due: Due, t: Tally) -> Tally {
-    let a = sheet.bytes;
-    let b = log.bytes;
-    compare(front(&a, sheet.len), front(&b, log.len), due, t)
+fn compared(sheet: Tape, log: Tape, due: &Due, t: Tally) -> Tally {
+    compare(
+        front(&sheet.bytes, sheet.len),
+        front(&log.bytes, log.len),
+        due,
+        t,
+    )
 }
 
 // A log of the first n instants.
 fn taken(c: Made, n: usize, t: Tally) -> Tally {
-    let sheet = c.sheet;
-    let run = c.run;
+    let log = with_records(no_bytes(), c.sheet.clocks, c.run, 0, n);
     let entries = c.entries;
-    let tape = c.tape;
-    let log = with_records(no_bytes(), sheet.clocks, run, 0, n);
-    let counts = owing(sheet, beginning(run, n));
+    let owing = owing(c.sheet, beginning(c.run, n));
     let due = Due {
-        number: 0,
+        refusal: None,
         taken: n,
         entries,
-        owing: counts,
-        is_counted: all_counted(sheet),
+        owing,
+        is_counted: all_counted(c.sheet),
     };
-    compared(tape, log, due, t)
+    compared(c.tape, log, &due, t)
 }
 
 // What is due where a record or the sheet is refused.
-fn refused(number: u8, n: usize, entries: [u8; 51]) -> Due {
-    let owing = [0usize; 8];
+fn refused(refusal: Option<Refusal>, n: usize, entries: [u8; 51]) -> Due {
+    let owing = [0; 8];
     Due {
-        number,
+        refusal,
         taken: n,
         entries,
         owing,
@@ -91,80 +87,83 @@ fn refused(number: u8, n: usize, entries: [u8; 51]) -> Due {
 }
 
 // A record with a byte too many is refused by its kind: the byte counts to the next.
-fn number_in_log(r: Record, how: u64) -> u8 {
+fn refusal_in_log(r: Record, how: u64) -> Option<Refusal> {
     if how == 2 {
-        return 13;
+        Some(Refusal::NotInstant)
+    } else {
+        r.refusal
     }
-    r.refusal
 }
 
-// A record that a number refuses after the first n instants; then the others, unless it is torn.
-fn refused_log(c: Made, n: usize, r: Record, number: u8, is_torn: bool, t: Tally) -> Tally {
-    let sheet = c.sheet;
-    let clocks = sheet.clocks;
-    let run = c.run;
+// A record that is refused after the first n instants; then the others, unless it is torn.
+fn refused_log(
+    c: Made,
+    n: usize,
+    r: Record,
+    refusal: Option<Refusal>,
+    is_torn: bool,
+    t: Tally,
+) -> Tally {
+    let clocks = c.sheet.clocks;
+    let to = if is_torn { n } else { c.run.count };
+    let log = with_record(with_records(no_bytes(), clocks, c.run, 0, n), r);
+    let longer = with_records(log, clocks, c.run, n, to);
     let entries = c.entries;
-    let tape = c.tape;
-    let to = if is_torn { n } else { run.count };
-    let log = with_record(with_records(no_bytes(), clocks, run, 0, n), r);
-    let longer = with_records(log, clocks, run, n, to);
-    compared(tape, longer, refused(number, n, entries), t)
+    compared(c.tape, longer, &refused(refusal, n, entries), t)
 }
 
-fn sheet_number(tape: Tape, wanted: u8, t: Tally) -> Tally {
-    let bytes = tape.bytes;
-    let n = lift_sheet_number(front(&bytes, tape.len));
-    held(n == wanted, with_number(n, t), tally::SHEET_NUMBER)
+fn sheet_number(tape: Tape, due: Option<Refusal>, t: Tally) -> Tally {
+    let n = lift_sheet_number(front(&tape.bytes, tape.len));
+    held(n == number_of(due), with_number(n, t), tally::SHEET_NUMBER)
 }
 
 // The sheet as it is, then damaged in one way, with a log of the first n instants.
 fn damaged_sheet(c: Made, n: usize, d: [u64; 48], t: Tally) -> Tally {
-    let sheet = c.sheet;
-    let clocks = sheet.clocks;
-    let run = c.run;
+    let t = sheet_number(c.tape, None, t);
+    // (a usize has no `From` of 64 bits, nor they of it; here and below)
+    let i = below(d, 3, c.sheet.count as u64) as usize;
+    let f = faulty_sheet(c.tape, c.sheet, below(d, 2, WAYS), i);
+    let due = Some(f.refusal);
+    let t = sheet_number(f.tape, due, t);
+    let log = with_records(no_bytes(), c.sheet.clocks, c.run, 0, n);
     let entries = c.entries;
-    let tape = c.tape;
-    let t = sheet_number(tape, 0, t);
-    let i = below(d, 3, sheet.count as u64) as usize;
-    let f = faulty_sheet(tape, sheet, below(d, 2, WAYS), i);
-    let bad = f.tape;
-    let t = sheet_number(bad, f.number, t);
-    let log = with_records(no_bytes(), clocks, run, 0, n);
-    compared(bad, log, refused(f.number, 0, entries), t)
+    compared(f.tape, log, &refused(due, 0, entries), t)
 }
 
-fn instant_number(r: Record, clocks: u8, wanted: u8, t: Tally) -> Tally {
-    let bytes = r.bytes;
-    let n = lift_instant_number(front(&bytes, r.len), clocks);
-    held(n == wanted, with_number(n, t), tally::INSTANT_NUMBER)
+fn instant_number(r: Record, clocks: u8, due: Option<Refusal>, t: Tally) -> Tally {
+    let n = lift_instant_number(front(&r.bytes, r.len), clocks);
+    held(
+        n == number_of(due),
+        with_number(n, t),
+        tally::INSTANT_NUMBER,
+    )
 }
 
 // An instant's record as it is, with whatever number, for clock counts that no sheet has, and damaged.
 fn instant_numbers(v: Instant, clocks: u8, how: u64, t: Tally) -> Tally {
     let r = whole(v, clocks);
-    let t = instant_number(r, clocks, 0, t);
+    let t = instant_number(r, clocks, None, t);
     let other = out_of_turn(v, clocks, wrong_number(0, how));
-    let t = instant_number(other, clocks, 0, t);
-    let t = instant_number(r, 0, 4, t);
-    let t = instant_number(r, 9, 4, t);
+    let t = instant_number(other, clocks, None, t);
+    let clock_count = Some(Refusal::ClockCount);
+    let t = instant_number(r, 0, clock_count, t);
+    let t = instant_number(r, 9, clock_count, t);
     let bad = damaged(v, clocks, how);
     instant_number(bad, clocks, bad.refusal, t)
 }
 
 // All that is compared of a case, with a place in it, ways of damage and a wrong number drawn.
 fn tried(c: Made, d: [u64; 48], t: Tally) -> Tally {
-    let sheet = c.sheet;
-    let clocks = sheet.clocks;
-    let run = c.run;
-    let all = run.count;
+    let clocks = c.sheet.clocks;
+    let all = c.run.count;
     let n = below(d, 0, all as u64) as usize;
     let how = below(d, 1, DAMAGES);
-    let v = instant_at(run, n);
+    let v = instant_at(c.run, n);
     let bad = damaged(v, clocks, how);
     let skipped = out_of_turn(v, clocks, wrong_number(n, below(d, 4, WRONG)));
     let t = taken(c, all, t);
     let t = taken(c, n, t);
-    let t = refused_log(c, n, bad, number_in_log(bad, how), how < 2, t);
+    let t = refused_log(c, n, bad, refusal_in_log(bad, how), how < 2, t);
     let t = refused_log(c, n, skipped, skipped.refusal, false, t);
     let t = damaged_sheet(c, n, d, t);
     instant_numbers(v, clocks, how, t)
@@ -172,14 +171,12 @@ fn tried(c: Made, d: [u64; 48], t: Tally) -> Tally {
 
 fn case(is_wide: bool, number: u64, from: u64, tally: Tally) -> Ended {
     let first = draw(from);
-    let d = first.numbers;
-    let plan = plan_of(is_wide, number, d);
+    let plan = plan_of(is_wide, number, first.numbers);
     let sheet = plan.sheet;
     let made = run_of(plan, first.last);
     let drawn = draw(made.last);
-    let e = drawn.numbers;
-    let plain = made.run;
-    let run = numbered_run(plain, e);
+    let d = drawn.numbers;
+    let run = numbered_run(made.run, d);
     let tape = sheet_tape(sheet);
     let entries = entries_of(sheet, run);
     let c = Made {
@@ -190,21 +187,19 @@ fn case(is_wide: bool, number: u64, from: u64, tally: Tally) -> Ended {
     };
     let place = if is_wide { tally::WIDE } else { tally::NARROW };
     let told = count_if(has_counted(sheet), count(tally, place), tally::COUNTED);
-    let told = tried(c, e, told);
+    let told = tried(c, d, told);
     Ended {
         last: drawn.last,
         tally: told,
     }
 }
 
-// So many cases, from the first number of the sequence.
+// So many cases, from the first number of the sequence. An array in a field is read into a variable before it is handed on: the proof of the function asks for it.
 fn cases_of(is_wide: bool, cases: u64, tally: Tally) -> Tally {
     let mut e = Ended { last: 1, tally };
-    let mut i = 0;
-    while i < cases {
+    for number in 0..cases {
         let told = e.tally;
-        e = case(is_wide, i, e.last, told);
-        i += 1;
+        e = case(is_wide, number, e.last, told);
     }
     let told = e.tally;
     told

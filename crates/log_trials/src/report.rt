@@ -1,11 +1,11 @@
 // The table of what was counted.
 use crate::tally;
-use cases::report::{answers, rows, say};
+use cases::report::{answers, rows};
 use cases::tally::Tally;
 use std::io;
 
 fn calls(rt: &impl Print, t: Tally) -> io::Result<()> {
-    say(rt, b"Calls compared with the judge of the whole run\n")?;
+    println!(rt; "Calls compared with the judge of the whole run")?;
     rows(
         rt,
         t,
@@ -24,9 +24,8 @@ fn calls(rt: &impl Print, t: Tally) -> io::Result<()> {
 
 // A row for each number; 11 and 16 are beyond these logs.
 fn numbers(rt: &impl Print, t: Tally) -> io::Result<()> {
-    say(
-        rt,
-        b"Refusals of lift_judge, lift_sheet_number and lift_instant_number, and of a buffer too short\n",
+    println!(rt;
+        "Refusals of lift_judge, lift_sheet_number and lift_instant_number, and of a buffer too short"
     )?;
     rows(
         rt,
@@ -37,9 +36,8 @@ fn numbers(rt: &impl Print, t: Tally) -> io::Result<()> {
 }
 
 pub fn table(rt: &impl Print, t: Tally) -> io::Result<()> {
-    say(
-        rt,
-        b"Cases, each with a whole log of plain and numbered instants, a beginning of it, a damaged log, one with a wrong number and a damaged sheet\n",
+    println!(rt;
+        "Cases, each with a whole log of plain and numbered instants, a beginning of it, a damaged log, one with a wrong number and a damaged sheet"
     )?;
     rows(
         rt,
@@ -48,12 +46,12 @@ pub fn table(rt: &impl Print, t: Tally) -> io::Result<()> {
         b"of at most four clocks\nof five to eight clocks\nwith a counted line\n",
     )?;
     calls(rt, t)?;
-    say(rt, b"Answers of lift_judge\n")?;
+    println!(rt; "Answers of lift_judge")?;
     answers(rt, t, tally::ANSWERS)?;
-    say(rt, b"Answers of lift_judge, all lines counted\n")?;
+    println!(rt; "Answers of lift_judge, all lines counted")?;
     answers(rt, t, tally::COUNTED_ANSWERS)?;
     numbers(rt, t)?;
-    say(rt, b"Differences\n")?;
+    println!(rt; "Differences")?;
     rows(
         rt,
         t,

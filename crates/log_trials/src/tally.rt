@@ -1,4 +1,4 @@
-// The places of what is counted, in the order of the report.
+// The places of what is counted, in the order of the report. Numbers and no enum: `cases` counts at an index, and the rows of a report begin at one.
 
 // Cases.
 pub const NARROW: usize = 0;

@@ -1,12 +1,11 @@
 -- What the inner functions over a log's records promise.
-use Rattle.std.specs.Prelude.{Bool, List, [], ◌++◌, ◌≡◌, ℕ, ◌*◌, ◌≤◌, pos, length}
+use Rattle.std.specs.Prelude.{Bool, List, [], ◌++◌, ◌≡◌, ℕ, ◌*◌, ◌≤◌, pos, length, Ok}
 use Rattle.records.specs.declared.sheet.Sheet.{Sheet}
 use Rattle.records.specs.Sheet.{SheetValue}
 use Rattle.records.specs.Store.{puts}
 use Rattle.tesl.specs.Lists.{flat_map}
 use Rattle.tesl.specs.Run.{Instant}
 use Rattle.tesl.specs.Machine.{machine, LogResult, concluded, calls_of, judge_log}
-use Rattle.judge.specs.declared.answer.Reply.TheVariants.{Answered}
 use Rattle.judge.specs.declared.start.Begun.{Begun}
 use Rattle.judge.specs.declared.monitor.Monitor.{Monitor}
 use Rattle.judge.specs.declared.monitor.CallResult.{CallResult}
@@ -36,9 +35,9 @@ pub record FollowsRecords (opened : CallResult) (log : List ℕ) (r : LogResult)
 -- by a monitor begun in rows, whatever the sheet; room to work in and a monitor as ready are left, and last tags of clocks from C on that were 0 still are
 pub record ObservedRecords (log : List ℕ) (g : Begun) (lines : List ℕ) (r : LastRows) (a b : List ℕ) (list : List Bool) (before after : List ℕ)
     : Type 0 where
-  pub room : Working b r.progress.from r.progress.count g.plan list
+  pub room : Working b r.progress.from r.progress.count list
   pub size : length after ≡ length before
-  pub follows : (s : Sheet) → Ready s g.progress g.plan lines a → FollowsRecords (given (Answered g.said) (rows_monitor s g.progress a)) log (judged_rows r) (rows_monitor s r.progress b) before after
+  pub follows : (s : Sheet) → Ready s g.progress g.plan lines a → FollowsRecords (given (Ok g.said) (rows_monitor s g.progress a)) log (judged_rows r) (rows_monitor s r.progress b) before after
   pub ready : (s : Sheet) → Ready s g.progress g.plan lines a → Ready s r.progress g.plan lines b
   pub tags : (s : Sheet) → Ready s g.progress g.plan lines a → BlankFrom s.clocks (pos 0) g.progress.tags → BlankFrom s.clocks (pos 0) r.progress.tags
 

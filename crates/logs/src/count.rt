@@ -2,7 +2,7 @@
 ghost use Rattle.logs.specs.Records.{Counted, CountedLog};
 
 use records::next::read_next;
-use records::record::{Decision, record_bytes};
+use records::record::record_bytes;
 use records::sheet::read_sheet;
 
 // The records before the first that is refused, 4,000 at most.
@@ -13,17 +13,11 @@ fn count_instants(log: &[u8], clocks: u8) -> usize
     let mut at = 0;
     while at < log.len() {
         let record = record_bytes(log, at);
-        let read = read_next(record, clocks, count);
-        let answer = read.answer;
-        match answer {
-            Decision::Refused(_) => {
-                return count;
-            }
-            Decision::Done => {
-                count += 1;
-                at += record.len();
-            }
+        if read_next(record, clocks, count).is_err() {
+            return count;
         }
+        count += 1;
+        at += record.len();
     }
     count
 }
@@ -32,14 +26,8 @@ fn count_instants(log: &[u8], clocks: u8) -> usize
 pub(crate) fn count_log(sheet: &[u8], log: &[u8]) -> usize
     ensures { CountedLog sheet.now log.now result }
 {
-    let read = read_sheet(sheet);
-    let answer = read.answer;
-    match answer {
-        Decision::Refused(_) => 0,
-        Decision::Done => {
-            let value = read.sheet;
-            let clocks = value.clocks;
-            count_instants(log, clocks)
-        }
+    match read_sheet(sheet) {
+        Err(_) => 0,
+        Ok(value) => count_instants(log, value.clocks),
     }
 }

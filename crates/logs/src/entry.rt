@@ -19,7 +19,7 @@ pub fn answer_code(a: Answer) -> u8
     match a {
         Answer::Exhausted => 1,
         Answer::Broken => 2,
-        Answer::Holding { live: _, clear: _ } => 3,
+        Answer::Holding { .. } => 3,
     }
 }
 
@@ -28,9 +28,8 @@ pub fn live_code(a: Answer) -> u8
     ensures { result ≡ byte_in (live_code (answer_of a)) }
 {
     match a {
-        Answer::Exhausted => 0,
-        Answer::Broken => 0,
-        Answer::Holding { live, clear: _ } => (live % BYTE_VALUES) as u8,
+        Answer::Exhausted | Answer::Broken => 0,
+        Answer::Holding { live, .. } => (live % BYTE_VALUES) as u8,
     }
 }
 
@@ -39,9 +38,8 @@ pub fn clear_code(a: Answer) -> u8
     ensures { result ≡ clear_code (answer_of a) }
 {
     match a {
-        Answer::Exhausted => 0,
-        Answer::Broken => 0,
-        Answer::Holding { live: _, clear } => { if clear { 1 } else { 0 } }
+        Answer::Exhausted | Answer::Broken => 0,
+        Answer::Holding { clear, .. } => u8::from(clear),
     }
 }
 

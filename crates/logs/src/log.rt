@@ -7,29 +7,31 @@ ghost use Rattle.logs.specs.Records.{ObservedRecords, ObservedLog};
 
 use crate::count::count_log;
 use crate::entry::{ENTRY_LENGTH, put_entry};
-use judge::answer::Reply;
+use judge::answer::Answer;
 use judge::monitor::{Monitor, blank_monitor};
 use judge::progress::{Progress, observe_rows};
 use judge::start::{Begun, begin};
 use judge::stored::read_back;
 use lines::plan::NUMBERS;
-use records::number;
-use records::record::{Decision, record_bytes};
-use records::sheet::read_sheet;
+use records::record::record_bytes;
+use records::refusal::Refusal;
+use records::sheet::{blank_sheet, read_sheet};
 use remainders::rows::SIZE;
 use step::list::LIST;
 
-// What a whole log came to: the last answer or the number of a refusal, and the count of instants taken before it.
+// What a whole log came to. (`Replied` in lent has the same fields and counts other instants; neither crate knows the other.)
 #[derive(Clone, Copy)]
 pub struct Judged {
-    pub reply: Reply,
+    // The last answer, or the first refusal.
+    pub reply: Result<Answer, Refusal>,
+    // The count of instants taken before it.
     pub instants: usize,
 }
 
 // The same, with the monitor after the instants taken.
 #[derive(Clone, Copy)]
 pub struct LastMonitor {
-    pub reply: Reply,
+    pub reply: Result<Answer, Refusal>,
     pub instants: usize,
     pub monitor: Monitor,
 }
@@ -37,7 +39,7 @@ pub struct LastMonitor {
 // The same, with the monitor in rows.
 #[derive(Clone, Copy)]
 struct LastRows {
-    reply: Reply,
+    reply: Result<Answer, Refusal>,
     instants: usize,
     progress: Progress,
 }
@@ -51,37 +53,29 @@ fn observe_records(
     list: &mut [bool; LIST],
     out: &mut [u8],
 ) -> LastRows
-    requires { Working rows.old begun.progress.from begun.progress.count begun.plan list.old }
+    requires { Working rows.old begun.progress.from begun.progress.count list.old }
     ensures { ObservedRecords log.now begun lines.now result rows.old rows.new list.new out.old out.new }
 {
-    let plan = begun.plan;
     let mut progress = begun.progress;
-    let opening = begun.said;
-    let mut reply = Reply::Answered(opening);
+    let mut reply = Ok(begun.said);
     let mut instants = 0;
     let mut end = 0;
     let mut at = 0;
     while at < log.len() {
         let record = record_bytes(log, at);
-        let told = observe_rows(progress, plan, lines, record, rows, list);
-        let said = told.reply;
-        let next = told.progress;
-        match said {
-            Reply::Refused(_) => {
-                return LastRows {
-                    reply: said,
-                    instants,
-                    progress: next,
-                };
-            }
-            Reply::Answered(a) => {
-                progress = next;
-                reply = said;
-                end = put_entry(out, end, a);
-                instants += 1;
-                at += record.len();
-            }
-        }
+        let told = observe_rows(progress, begun.plan, lines, record, rows, list);
+        progress = told.progress;
+        let Ok(answer) = told.reply else {
+            return LastRows {
+                reply: told.reply,
+                instants,
+                progress,
+            };
+        };
+        reply = told.reply;
+        end = put_entry(out, end, answer);
+        instants += 1;
+        at += record.len();
     }
     LastRows {
         reply,
@@ -94,29 +88,22 @@ fn observe_records(
 fn observe_log(sheet: &[u8], log: &[u8], out: &mut [u8]) -> LastMonitor
     ensures { ObservedLog sheet.now log.now result out.old out.new }
 {
-    let read = read_sheet(sheet);
-    let value = read.sheet;
-    let answer = read.answer;
-    match answer {
-        Decision::Refused(n) => LastMonitor {
-            reply: Reply::Refused(n),
+    match read_sheet(sheet) {
+        Err(refusal) => LastMonitor {
+            reply: Err(refusal),
             instants: 0,
-            monitor: blank_monitor(value),
+            monitor: blank_monitor(blank_sheet(0)),
         },
-        Decision::Done => {
+        Ok(value) => {
             let mut lines = [0u32; NUMBERS];
             let mut rows = [0u32; SIZE];
             let begun = begin(value, &mut lines, &mut rows);
             let mut list = [false; LIST];
             let last = observe_records(log, begun, &lines, &mut rows, &mut list, out);
-            let plan = begun.plan;
-            let progress = last.progress;
-            let monitor = read_back(value, progress, plan, &rows);
-            let reply = last.reply;
             LastMonitor {
-                reply,
+                reply: last.reply,
                 instants: last.instants,
-                monitor,
+                monitor: read_back(value, last.progress, begun.plan, &rows),
             }
         }
     }
@@ -128,9 +115,8 @@ pub fn judge_log(sheet: &[u8], log: &[u8]) -> Judged
 {
     let mut none = [0u8; 1];
     let last = observe_log(sheet, log, &mut none);
-    let reply = last.reply;
     Judged {
-        reply,
+        reply: last.reply,
         instants: last.instants,
     }
 }
@@ -150,14 +136,13 @@ pub fn watch_log(sheet: &[u8], log: &[u8], out: &mut [u8]) -> Judged
     let count = count_log(sheet, log);
     if out.len() < ENTRY_LENGTH * count {
         return Judged {
-            reply: Reply::Refused(number::SHORT_BUFFER),
+            reply: Err(Refusal::ShortBuffer),
             instants: count,
         };
     }
     let last = observe_log(sheet, log, out);
-    let reply = last.reply;
     Judged {
-        reply,
+        reply: last.reply,
         instants: last.instants,
     }
 }

@@ -1,4 +1,6 @@
 -- For a monitor that follows a run the panel counts the run's distinct remainders: those held are each of them once, a clock's debt can't tell apart what is the same, and two lists without repeats that are the same set are as long. Assumes nothing.
+use Rattle.std.specs.Prelude.{None, Some}
+use Rattle.std.specs.declared.option.Option as option
 use mathlib.Core.Bool.{Bool, true, false, cond, ◌||◌}
 use mathlib.Core.List.{List, [], ◌∷◌, map}
 use mathlib.Core.Option.{Option, none, some}
@@ -21,8 +23,6 @@ use Rattle.theory.proofs.Sets.{distinct_apart, length-same, filter-once}
 use Rattle.theory.proofs.Respect.{alike, owed-equality, count-equality, any-equal, remainder-equivalence}
 use Rattle.work.specs.View.{held_list}
 use Rattle.remainders.specs.declared.remainder.Remainder as arrays
-use Rattle.remainders.specs.declared.held.Status.{Status}
-use Rattle.remainders.specs.declared.held.Status.TheVariants.{Exhausted, Live}
 use Rattle.judge.specs.declared.monitor.Monitor.{Monitor}
 use Rattle.remainders.specs.View.{view_of, held_in, few_owed, sized_in}
 use Rattle.judge.specs.Answer.{said_by}
@@ -69,10 +69,10 @@ entries-count : (clock : ℕ) (v : SheetValue) (rs : List arrays.Remainder) → 
 entries-count clock v [] t = refl
 entries-count clock v (r ∷ rs) t = rw (T→≡ (few_owed r) (and_l (few_owed r) (all few_owed rs) t), entries-count clock v rs (and_r (few_owed r) (all few_owed rs) t))
 
-held-count : (clock : ℕ) (v : SheetValue) (c : Status) (rs : List arrays.Remainder) → T (sized_in c rs) → owing_count clock (live_entries c rs) ≡ count (owes_clock clock) (held_list (held_in v c rs))
+held-count : (clock : ℕ) (v : SheetValue) (c : option.Option ℕ) (rs : List arrays.Remainder) → T (sized_in c rs) → owing_count clock (live_entries c rs) ≡ count (owes_clock clock) (held_list (held_in v c rs))
 unfolding owing_count
-held-count clock v Exhausted rs t = refl
-held-count clock v (Live n) rs t = entries-count clock v (take n rs) (and_r (leb n 32) (all few_owed (take n rs)) t)
+held-count clock v None rs t = refl
+held-count clock v (Some n) rs t = entries-count clock v (take n rs) (and_r (leb n 32) (all few_owed (take n rs)) t)
 
 pub within_count : (clock : ℕ) (m : Monitor) → monitor_within m ≡ true → panel_count clock m ≡ taken (count (owes_clock clock) (held_list (held_by m)))
 unfolding panel_count

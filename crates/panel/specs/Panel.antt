@@ -1,18 +1,14 @@
 -- Which entries owe a clock a tick, how many of a list do, and what a monitor's panel shows.
-use Rattle.std.specs.Prelude.{Bool, not, ◌&&◌, ◌||◌, List, [], ◌∷◌, ℕ, eqb, take}
-use Rattle.records.specs.Outcome.{Outcome, taken, refused, ◌⇒◌, decide}
+use Rattle.std.specs.Prelude.{Bool, not, ◌&&◌, ◌||◌, List, [], ◌∷◌, ℕ, eqb, take, None, Option, Some}
+use Rattle.records.specs.Outcome.{Outcome, ◌⇒◌, decide}
 use Rattle.tesl.specs.Lists.{any, count}
 use Rattle.tesl.specs.Fits.{Obligation, Countdown}
 use Rattle.tesl.specs.Remainder.{Remainder}
 use Rattle.remainders.specs.declared.obligation.Obligation as code
 use Rattle.remainders.specs.declared.remainder.Remainder as arrays
-use Rattle.remainders.specs.declared.held.Status.{Status}
-use Rattle.remainders.specs.declared.held.Status.TheVariants.{Exhausted, Live}
 use Rattle.judge.specs.declared.monitor.Monitor.{Monitor}
 use Rattle.remainders.specs.View.{few_owed, remainder_of}
 use Rattle.judge.specs.Limits.{monitor_within}
-use Rattle.panel.specs.declared.Panel.{Panel}
-use Rattle.panel.specs.declared.Panel.TheVariants as shown
 
 -- one of its obligations, or of its countdowns, is a tick of the clock
 abbrev pub owes_clock : ℕ → Remainder → Bool
@@ -30,14 +26,10 @@ unfoldable pub owing_count : ℕ → List arrays.Remainder → ℕ
 owing_count clock list = count (entry_owes clock) list
 
 -- the entries held: none once exhausted; none where 0 are live, which is broken
-abbrev pub live_entries : Status → List arrays.Remainder → List arrays.Remainder
-live_entries Exhausted rs = []
-live_entries (Live n) rs = take n rs
+abbrev pub live_entries : Option ℕ → List arrays.Remainder → List arrays.Remainder
+live_entries None rs = []
+live_entries (Some n) rs = take n rs
 
 -- 11: monitor outside its limits
 unfoldable pub panel_count : ℕ → Monitor → Outcome ℕ
 panel_count clock m = decide ((not (monitor_within m) ⇒ 11) ∷ []) (owing_count clock (live_entries m.held.count m.held.remainders))
-
-abbrev pub panel_of : Panel → Outcome ℕ
-panel_of (shown.Count n) = taken n
-panel_of (shown.Refused n) = refused n

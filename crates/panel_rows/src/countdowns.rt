@@ -1,9 +1,7 @@
 // The panel's counts where remainders have countdowns.
 use crate::made::{after, counted, opened, with_sets};
 use crate::row::row;
-use crate::text::say;
 use judge::monitor::Monitor;
-use remainders::held::Status;
 use remainders::obligation::Obligation;
 use std::io;
 
@@ -12,19 +10,19 @@ const DUE_AT_0: u16 = 32768;
 
 // After each tick of 0, 1 ticks at the second later tick of 0.
 fn observed(rt: &impl Print) -> io::Result<()> {
-    say(rt, b"A delay of two ticks\n")?;
+    println!(rt; "A delay of two ticks")?;
     let mut m = opened(b"\x01\x00\x01\x00\x02\x04\x00\x18\x00\x00\x00\x01\x02");
-    row(rt, b"opened", m)?;
+    row(rt, "opened", m)?;
     m = after(m, b"\x06\x00\x20\x00\x01\x01\x00\x00\x00\x00");
-    row(rt, b"tick", m)?;
+    row(rt, "tick", m)?;
     m = after(m, b"\x06\x00\x20\x00\x02\x02\x00\x00\x00\x00");
-    row(rt, b"unseen", m)?;
+    row(rt, "unseen", m)?;
     m = after(m, b"\x06\x00\x20\x00\x01\x03\x00\x00\x00\x00");
-    row(rt, b"tick, which one of the two misses", m)?;
+    row(rt, "tick, which one of the two misses", m)?;
     m = after(m, b"\x06\x00\x20\x00\x01\x04\x00\x01\x00\x00");
-    row(rt, b"tick, clock 1 ticks", m)?;
+    row(rt, "tick, clock 1 ticks", m)?;
     m = after(m, b"\x06\x00\x20\x00\x01\x05\x00\x00\x00\x00");
-    row(rt, b"tick, broken", m)
+    row(rt, "tick, broken", m)
 }
 
 // Two clocks and no line, in its remainder so many obligations of a clock on the other, and so many countdowns of clock 1 on 0.
@@ -52,31 +50,28 @@ fn together(owed: usize, counting: usize) -> Monitor {
 }
 
 fn of_two_clocks(rt: &impl Print) -> io::Result<()> {
-    say(
-        rt,
-        b"Made to owe clock 0 by obligations and clock 1 by countdowns on clock 0\n",
-    )?;
-    row(rt, b"one countdown", apart(0, 1))?;
-    row(rt, b"eight countdowns", apart(0, 8))?;
-    row(rt, b"one and one", apart(1, 1))?;
-    row(rt, b"eight and eight", apart(8, 8))?;
+    println!(rt; "Made to owe clock 0 by obligations and clock 1 by countdowns on clock 0")?;
+    row(rt, "one countdown", apart(0, 1))?;
+    row(rt, "eight countdowns", apart(0, 8))?;
+    row(rt, "one and one", apart(1, 1))?;
+    row(rt, "eight and eight", apart(8, 8))?;
     row(
         rt,
-        b"eight and eight, made 32 live",
-        counted(apart(8, 8), Status::Live(32)),
+        "eight and eight, made 32 live",
+        counted(apart(8, 8), Some(32)),
     )?;
-    row(rt, b"one obligation and nine countdowns", apart(1, 9))?;
-    row(rt, b"nine obligations and one countdown", apart(9, 1))
+    row(rt, "one obligation and nine countdowns", apart(1, 9))?;
+    row(rt, "nine obligations and one countdown", apart(9, 1))
 }
 
 fn of_one_clock(rt: &impl Print) -> io::Result<()> {
-    say(rt, b"Made to owe clock 1 by both: an entry counts once\n")?;
-    row(rt, b"one and one", together(1, 1))?;
-    row(rt, b"eight and eight", together(8, 8))?;
+    println!(rt; "Made to owe clock 1 by both: an entry counts once")?;
+    row(rt, "one and one", together(1, 1))?;
+    row(rt, "eight and eight", together(8, 8))?;
     row(
         rt,
-        b"eight and eight, made 32 live",
-        counted(together(8, 8), Status::Live(32)),
+        "eight and eight, made 32 live",
+        counted(together(8, 8), Some(32)),
     )
 }
 
@@ -92,13 +87,13 @@ fn one_countdown(clock: u8, on: u8, wanted: u16) -> Monitor {
 }
 
 fn at_limits(rt: &impl Print) -> io::Result<()> {
-    say(rt, b"Made to owe by one countdown\n")?;
-    row(rt, b"1 tick wanted", one_countdown(1, 0, 1))?;
-    row(rt, b"255 ticks wanted", one_countdown(1, 0, 255))?;
-    row(rt, b"0 ticks wanted", one_countdown(1, 0, 0))?;
-    row(rt, b"256 ticks wanted", one_countdown(1, 0, 256))?;
-    row(rt, b"of clock 2", one_countdown(2, 0, 1))?;
-    row(rt, b"on clock 2", one_countdown(1, 2, 1))
+    println!(rt; "Made to owe by one countdown")?;
+    row(rt, "1 tick wanted", one_countdown(1, 0, 1))?;
+    row(rt, "255 ticks wanted", one_countdown(1, 0, 255))?;
+    row(rt, "0 ticks wanted", one_countdown(1, 0, 0))?;
+    row(rt, "256 ticks wanted", one_countdown(1, 0, 256))?;
+    row(rt, "of clock 2", one_countdown(2, 0, 1))?;
+    row(rt, "on clock 2", one_countdown(1, 2, 1))
 }
 
 pub fn all(rt: &impl Print) -> io::Result<()> {

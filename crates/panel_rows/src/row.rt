@@ -1,35 +1,26 @@
 // A row: a monitor, and what the panel shows of it for several clocks.
-use crate::text::{byte, number, say};
 use judge::monitor::Monitor;
-use panel::{Panel, panel_count};
+use panel::panel_count;
+use std::fmt::Display;
 use std::io;
 
 fn shown(rt: &impl Print, m: Monitor, clock: u8) -> io::Result<()> {
-    say(rt, b" clock ")?;
-    byte(rt, clock)?;
-    say(rt, b": ")?;
-    let shown = panel_count(m, clock);
-    match shown {
-        Panel::Count(n) => number(rt, n)?,
-        Panel::Refused(n) => {
-            say(rt, b"refused ")?;
-            byte(rt, n)?;
+    match panel_count(m, clock) {
+        Ok(n) => print!(rt; " clock {clock}: {n}"),
+        Err(refusal) => {
+            let number = u8::from(refusal);
+            print!(rt; " clock {clock}: refused {number}")
         }
     }
-    Ok(())
 }
 
 // The last two clocks are on none of the sheets.
-pub fn row(rt: &impl Print, name: &[u8], m: Monitor) -> io::Result<()> {
-    say(rt, b"  ")?;
-    say(rt, name)?;
-    say(rt, b";")?;
+pub fn row(rt: &impl Print, name: impl Display + Drop, m: Monitor) -> io::Result<()> {
+    print!(rt; "  {name};")?;
     shown(rt, m, 0)?;
-    say(rt, b",")?;
-    shown(rt, m, 1)?;
-    say(rt, b",")?;
-    shown(rt, m, 2)?;
-    say(rt, b",")?;
-    shown(rt, m, 255)?;
-    say(rt, b"\n")
+    for clock in [1, 2, 255] {
+        print!(rt; ",")?;
+        shown(rt, m, clock)?;
+    }
+    println!(rt)
 }

@@ -1,5 +1,5 @@
-// The files that a program's arguments name.
-ghost use Rattle.std.specs.Prelude.{◌≡◌, ◌≤◌, take, length};
+// The files that a program's arguments name. What is read is a buffer's front; how long it is stays in the caller's hand, who lends the buffer.
+ghost use Rattle.std.specs.Prelude.{◌≤◌, length};
 
 use records::number;
 use std::fs;
@@ -17,14 +17,6 @@ pub(crate) const LOG_ROOM: usize = number::MAX_INSTANTS * number::MAX_INSTANT + 
 
 // No path of the system is longer.
 const LONGEST_NAME: usize = 4096;
-
-// The bytes that were read.
-pub(crate) fn front(buffer: &[u8], n: usize) -> &[u8]
-    requires { n ≤ length buffer.now }
-    ensures { result.now ≡ take n buffer.now }
-{
-    &buffer[..n]
-}
 
 // Reads until the buffer is full, the file ends or a read fails, and says how many bytes that are.
 fn read_full(file: &mut impl Read, buffer: &mut [u8]) -> usize

@@ -2,7 +2,7 @@
 ghost use Rattle.std.specs.Prelude.{◌≤◌, take, length};
 ghost use Rattle.programs.specs.Files.{SortedFilePrinted};
 
-use crate::file::{SHEET_ROOM, front, read_file};
+use crate::file::{SHEET_ROOM, read_file};
 use std::io;
 use std::rt::{Env, Files};
 use text::sort::{SORT_ROOM, sort_text};
@@ -12,7 +12,7 @@ fn sort_file(sheet: &[u8; SHEET_ROOM], m: usize, out: &mut [u8; SORT_ROOM]) -> u
     requires { m ≤ length sheet.now }
     ensures { SortedFilePrinted SHEET_ROOM (take m sheet.now) out.old result out.new }
 {
-    sort_text(front(sheet, m), out)
+    sort_text(&sheet[..m], out)
 }
 
 // The program, by the number of the argument that names the sheet file.

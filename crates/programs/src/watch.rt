@@ -3,7 +3,7 @@ ghost use Rattle.std.specs.Prelude.{◌≤◌, take, length};
 ghost use Rattle.text.specs.Output.{watch_text};
 ghost use Rattle.programs.specs.Files.{FilesPrinted};
 
-use crate::file::{LOG_ROOM, SHEET_ROOM, front, read_file};
+use crate::file::{LOG_ROOM, SHEET_ROOM, read_file};
 use std::io;
 use std::rt::{Env, Files};
 use text::watch::{WATCH_ROOM, watch_text};
@@ -20,10 +20,10 @@ fn watch_files(
     requires log_read { n ≤ length log.now }
     ensures { FilesPrinted watch_text SHEET_ROOM LOG_ROOM (take m sheet.now) (take n log.now) out.old result out.new }
 {
-    watch_text(front(sheet, m), front(log, n), out)
+    watch_text(&sheet[..m], &log[..n], out)
 }
 
-// The program, by the numbers of the arguments that name the sheet file and the log file.
+// The program, by the numbers of the arguments that name the sheet file and the log file. Not one function with columns's: it would have to require of its parameter what watch_files requires and ensures, which is longer.
 pub fn run(rt: &(impl Env + Files + Print), sheet_name: usize, log_name: usize) -> io::Result<()> {
     let mut sheet = [0u8; SHEET_ROOM];
     let mut log = [0u8; LOG_ROOM];

@@ -8,7 +8,7 @@ use native.Mathlib.Nat.{add-zero, zero-add}
 use native.Mathlib.Numerals.{add-one}
 use lib.ListN.{length, get_or, take, drop, set, length-append, length-map, get_or-append, get_or-map}
 use lib.Seq.{take-length, set-append_seam, append_snoc}
-use Rattle.records.specs.Outcome.{Outcome, taken, refused, Check, decide}
+use Rattle.records.specs.Outcome.{Outcome, taken, refused, kept_as, Check, decide}
 use Rattle.records.specs.Lists.{listed_from, listed, filled}
 use Rattle.records.specs.Types.{All}
 
@@ -35,6 +35,16 @@ taken-same e = cc
 
 pub refused-same : {A : Type 0} {m n : ℕ} → ◌≡◌ {A = Outcome A} (refused m) (refused n) → m ≡ n
 refused-same e = cc
+
+-- an outcome kept as another tells what it was
+module _ {A B : Type 0} (f : A → B) where
+  pub kept-refused : (o : Outcome A) {n : ℕ} → refused n ≡ kept_as f o → o ≡ refused n
+  kept-refused (taken v) e = refused-taken e
+  kept-refused (refused m) e = cc
+
+  pub kept-taken : (o : Outcome A) {w : B} → taken w ≡ kept_as f o → (v : A) × (o ≡ taken v) × (w ≡ f v)
+  kept-taken (taken v) e = (v, refl, cc)
+  kept-taken (refused n) e = refused-taken (sym e)
 
 module _ {A : Type 0} where
   pub taken-passed : (cs : List Check) {v w : A} → decide cs v ≡ taken w → Passed cs × (v ≡ w)

@@ -1,12 +1,13 @@
 -- Laws of `puts`: stores one after the other join, keep the buffer's length, and from place 0 on fill its front. Assumes nothing.
 use mathlib.Core.Path.{◌≡◌, refl, ap, ◌∙◌, sym}
-use mathlib.Core.List.{List, [], ◌∷◌, ◌++◌}
+use mathlib.Core.List.{List, [], ◌∷◌, ◌++◌, append_assoc}
 use Prim.Native.Nat.{ℕ, suc, ◌+◌, ◌-◌, ◌≤◌, ◌<◌}
 use native.Mathlib.Omega.{arith}
 use native.Mathlib.Nat.{add-zero, zero-add}
 use native.Mathlib.Numerals.{add-one}
 use lib.ListN.{length, get_or, take, drop, set, length-set}
-use lib.Seq.{sets, sets-eq, drop-cons}
+use lib.Seq.{sets, sets-eq, drop-cons, drop-drop}
+use borrow.Rule.Slice.PartMut.{put_mid}
 use Rattle.records.specs.Store.{puts}
 
 pub puts-append : (l : List ℕ) (i : ℕ) (xs ys : List ℕ) → puts l i (xs ++ ys) ≡ puts (puts l i xs) (i + length xs) ys
@@ -26,6 +27,10 @@ puts-sets l i (x ∷ xs) = rw add-one (puts-sets (set l i x) (suc i) xs)
 -- stored from the front on, the bytes are the front, and the rest stays
 pub puts-front : (l xs : List ℕ) → length xs ≤ length l → puts l 0 xs ≡ xs ++ drop (length xs) l
 puts-front l xs h = puts-sets l 0 xs ∙ sets-eq xs l 0 (omega arith) ∙ rw zero-add
+
+-- copied into a part of the buffer, bytes are stored there
+pub puts-part : (l : List ℕ) (i k : ℕ) (xs ys : List ℕ) → ys ≡ xs → length xs ≡ k → i + k ≤ length l → put_mid i k l ys ≡ puts l i xs
+puts-part l i k xs ys e f h = rw (e, drop-drop, ← f) (sym (puts-sets l i xs ∙ sets-eq xs l i (omega arith) ∙ append_assoc (take i l) xs _))
 
 -- the elements from i up to n, the first of them and the rest
 pub part-cons : {A : Type 0} (d : A) (l : List A) (n i : ℕ) → i < n → n ≤ length l → take (n - i) (drop i l) ≡ get_or l i d ∷ take (n - (i + 1)) (drop (i + 1) l)

@@ -1,43 +1,33 @@
 -- What contracts cite beside the definitions above: the same outcomes in the functions' own types.
-use Rattle.std.specs.Prelude.{ℕ, ◌+◌, ◌≤◌, ◌<◌, ◌≡◌, Bool, true, false, cond, List, [], ◌∷◌, ◌++◌, map, set, ℤ}
+use Rattle.std.specs.Prelude.{ℕ, ◌+◌, ◌≤◌, ◌<◌, ◌≡◌, Bool, true, false, cond, List, [], ◌∷◌, ◌++◌, map, set, ltb, ℤ, Result, Ok}
 use Rattle.records.specs.declared.form.Form.{Form}
-use Rattle.records.specs.declared.form.FormShape.{FormShape}
 use Rattle.records.specs.declared.instant.Tick.{Tick}
 use Rattle.records.specs.declared.instant.Instant.{Instant}
 use Rattle.records.specs.declared.order.Order.{Order}
 use Rattle.records.specs.declared.sheet.Sheet.{Sheet}
 use Rattle.records.specs.declared.line.Line.{Line}
-use Rattle.records.specs.declared.line.Shape.{Shape}
-use Rattle.records.specs.declared.line.LineRead.{LineRead}
-use Rattle.records.specs.declared.line.LineRead.TheVariants as line
-use Rattle.records.specs.declared.record.Decision.{Decision}
-use Rattle.records.specs.declared.record.Decision.TheVariants.{Done, Refused}
-use Rattle.records.specs.Outcome.{Outcome, taken, refused, ◌⇒◌, decide}
+use Rattle.records.specs.declared.refusal.Refusal.{Refusal}
+use Rattle.records.specs.Outcome.{Outcome, outcome_of, kept_as, ◌⇒◌, decide}
 use Rattle.records.specs.Record.{Piece, whole}
 use Rattle.records.specs.Lists.{listed}
-use Rattle.records.specs.Line.{is_line, is_sporadic, length_of, value_line_checks, kind_of, body_of}
+use Rattle.records.specs.Line.{is_sporadic, value_line_checks, kind_of, body_of}
 use Rattle.records.specs.Order.{above, key_of, above_last}
-use Rattle.records.specs.Sheet.{SheetValue, line_in, slot_of, line_at, sheet_value, sheet_of, order_checks, lines_checks, value_lines_checks, sheet_value_checks}
-use Rattle.records.specs.Instant.{InstantValue, raw_cells, tick_above, cell_of, is_instant_kind, number_length, instant_checks, value_in, tick_slot}
+use Rattle.records.specs.Sheet.{SheetValue, line_in, line_at, sheet_value, sheet_of, order_checks, lines_checks, value_lines_checks, sheet_value_checks}
+use Rattle.records.specs.Instant.{InstantValue, tick_of, raw_cells, tick_above, cell_of, instant_checks, value_in}
 use Rattle.records.specs.Sort.{Sorted}
 use Rattle.records.specs.Types.{All, IsLineValue, IsSheet}
-
--- what the table of kinds says
-abbrev pub shape_of : ℕ → Shape
-shape_of kind = record { line = is_line kind; length = length_of kind }
 
 -- how many sporadic lines a line of a kind is
 abbrev pub sporadic_of : ℕ → ℕ
 sporadic_of kind = cond (is_sporadic kind) 1 0
 
--- each case of an inner answer
-abbrev pub line_read : Outcome Line → LineRead
-line_read (taken l) = line.Read l
-line_read (refused n) = line.Refused n
+-- whether, and not what
+abbrev pub answered : {A : Type 0} → Outcome A → Outcome (Unit {0})
+answered o = kept_as (λ v. tt) o
 
-abbrev pub answered : {A : Type 0} → Outcome A → Decision
-answered (taken v) = Done
-answered (refused n) = Refused n
+-- the tick of a byte, or 15
+abbrev pub TickRead : ℕ → Result Tick Refusal → Type 0
+TickRead byte r = outcome_of r ≡ decide ((ltb 2 byte ⇒ 15) ∷ []) (tick_of byte)
 
 -- the sheet of c clocks whose lines are these records, or the first refusal among them
 unfoldable pub sheet_from : Order → ℕ → ℕ → List Piece → Outcome SheetValue
@@ -48,25 +38,21 @@ unfoldable pub lines_fault : Order → SheetValue → Outcome SheetValue
 lines_fault order v = decide (value_lines_checks order v.clocks [] v.lines) v
 
 -- what checking a sheet answers, its lines standing in an order
-pub record Checked (order : Order) (s : Sheet) (r : Decision) : Type 0 where
+pub record Checked (order : Order) (s : Sheet) (r : Result (Unit {0}) Refusal) : Type 0 where
   -- the first refusal that applies, or none
-  pub answer : r ≡ answered (decide (sheet_value_checks order (sheet_value s)) (sheet_value s))
+  pub answer : outcome_of r ≡ answered (decide (sheet_value_checks order (sheet_value s)) (sheet_value s))
   -- the types of the code bound the value's numbers
-  pub value : r ≡ Done → IsSheet (sheet_value s)
+  pub value : r ≡ Ok tt → IsSheet (sheet_value s)
 
 -- the same of a line behind the first i lines of its sheet, `spent` sporadic ones among them
-pub record LineChecked (order : Order) (s : Sheet) (i spent : ℕ) (l : Line) (r : Decision) : Type 0 where
-  pub answer : r ≡ answered (decide (value_line_checks s.clocks spent (kind_of l) (body_of l) ++ order_checks order (map key_of (listed (line_at s) i)) (key_of l)) l)
+pub record LineChecked (order : Order) (s : Sheet) (i spent : ℕ) (l : Line) (r : Result (Unit {0}) Refusal) : Type 0 where
+  pub answer : outcome_of r ≡ answered (decide (value_line_checks s.clocks spent (kind_of l) (body_of l) ++ order_checks order (map key_of (listed (line_at s) i)) (key_of l)) l)
   pub value : IsLineValue l
 
 -- the same of its lines alone
-pub record LinesChecked (order : Order) (s : Sheet) (r : Decision) : Type 0 where
-  pub answer : r ≡ answered (lines_fault order (sheet_value s))
-  pub values : r ≡ Done → All IsLineValue (sheet_value s).lines
-
--- what the kinds of instants say
-abbrev pub form_shape_of : ℕ → FormShape
-form_shape_of kind = record { instant = is_instant_kind kind; before = number_length kind }
+pub record LinesChecked (order : Order) (s : Sheet) (r : Result (Unit {0}) Refusal) : Type 0 where
+  pub answer : outcome_of r ≡ answered (lines_fault order (sheet_value s))
+  pub values : r ≡ Ok tt → All IsLineValue (sheet_value s).lines
 
 -- the instant of a form with the clocks of these bytes, or 15
 unfoldable pub cells_read : Form → List ℕ → Outcome InstantValue
@@ -78,10 +64,10 @@ body_read c kind body = decide (instant_checks c (whole kind body)) (value_in (w
 
 -- a struct with one place more
 abbrev pub with_line : Sheet → Line → Sheet
-with_line s l = record { clocks = s.clocks; count = s.count + 1; lines = set s.lines s.count (slot_of l) }
+with_line s l = record { clocks = s.clocks; count = s.count + 1; lines = set s.lines s.count l }
 
 abbrev pub with_cell : Instant → ℕ → Tick → ℤ → Instant
-with_cell v i t tag = record { form = v.form; ticks = set v.ticks i (tick_slot t); tags = set v.tags i tag }
+with_cell v i t tag = record { form = v.form; ticks = set v.ticks i t; tags = set v.tags i tag }
 
 -- what sorting asks of a sheet: at most 16 lines, their numbers within their types
 pub record Sortable (s : Sheet) : Type 0 where

@@ -4,11 +4,8 @@ use Rattle.records.specs.declared.form.Form.{Form}
 use Rattle.records.specs.declared.form.Form.TheVariants.{Plain, Numbered}
 use Rattle.records.specs.declared.instant.Tick.{Tick}
 use Rattle.records.specs.declared.instant.Tick.TheVariants.{Idle, Ticks, Unseen}
-use Rattle.records.specs.declared.instant.TickSlot.{TickSlot}
 use Rattle.records.specs.declared.instant.Instant.{Instant}
-use Rattle.records.specs.declared.instant.InstantRead.{InstantRead}
-use Rattle.records.specs.declared.record.Decision.TheVariants as answer
-use Rattle.records.specs.Outcome.{Outcome, taken, refused, Check, ◌⇒◌, decide}
+use Rattle.records.specs.Outcome.{Outcome, kept_as, Check, ◌⇒◌, decide}
 use Rattle.records.specs.Lists.{listed, filled, joined}
 use Rattle.records.specs.Word.{word_of, word_at, word_bytes, tag_of, raw_of}
 use Rattle.records.specs.Record.{Piece, whole, torn, pieces, record_bytes}
@@ -105,11 +102,8 @@ read_instant c b = decide ((not (clock_count c) ⇒ 4) ∷ one_instant_checks c 
 
 -- ---- the struct
 
-abbrev pub tick_slot : Tick → TickSlot
-tick_slot t = record { tick = t }
-
-abbrev pub tick_at : List TickSlot → ℕ → Tick
-tick_at ticks i = (get_or ticks i (tick_slot Idle)).tick
+abbrev pub tick_at : List Tick → ℕ → Tick
+tick_at ticks i = get_or ticks i Idle
 
 abbrev pub cell_tag : List ℤ → ℕ → ℤ
 cell_tag tags i = get_or tags i (pos 0)
@@ -129,14 +123,13 @@ SameInstant c v w = instant_value c v ≡ instant_value c w
 abbrev pub instant_of : InstantValue → Instant
 instant_of v = record {
   form = v.form;
-  ticks = filled 8 (tick_slot Idle) (map (λ (c : Cell). tick_slot c.tick) v.cells);
+  ticks = filled 8 Idle (map (λ (c : Cell). c.tick) v.cells);
   tags = filled 8 (pos 0) (map (λ (c : Cell). c.tag) v.cells);
 }
 
--- each case of the answer: the value beside Done, or the paper's number, with a plain instant beside it, every clock idle at tag 0
-abbrev pub instant_read : Outcome InstantValue → InstantRead
-instant_read (taken v) = record { answer = answer.Done; instant = instant_of v }
-instant_read (refused n) = record { answer = answer.Refused n; instant = instant_of blank_instant }
+-- what was read, as the struct
+abbrev pub instant_read : Outcome InstantValue → Outcome Instant
+instant_read o = kept_as instant_of o
 
 -- ---- writing
 

@@ -1,5 +1,6 @@
 -- What document 01 says of records; that `pieces` finds them as `Records` says, and finds nothing else, is proved in
 -- proofs/record/Records.antt. Read in this order:
+pub mod Refusal
 pub mod Outcome
 pub mod Lists
 pub mod Word

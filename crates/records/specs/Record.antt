@@ -1,7 +1,6 @@
 -- A record is: length of the body (2 bytes), kind (2 bytes), body.
-use Rattle.std.specs.Prelude.{ℕ, zero, suc, ◌+◌, ◌-◌, ◌<◌, ◌≤◌, ◌≡◌, Bool, cond, ◌||◌, ◌⊎◌, List, [], ◌∷◌, ◌++◌, length, take, drop, ltb}
+use Rattle.std.specs.Prelude.{ℕ, zero, suc, ◌+◌, ◌-◌, ◌<◌, ◌≤◌, ◌≡◌, Bool, cond, ◌||◌, ◌⊎◌, List, [], ◌∷◌, ◌++◌, length, take, drop, ltb, Option, Some, None}
 use Rattle.records.specs.declared.record.Record.{Record}
-use Rattle.records.specs.declared.record.Record.TheVariants.{Whole, Torn}
 use Rattle.records.specs.Word.{at, word_at, word_bytes}
 
 -- a record of a byte string
@@ -65,19 +64,19 @@ pub record PiecesAre (b : List ℕ) : Type 0 where
 
 -- ---- the record at a place
 
--- each case of the answer: the kind and the length of the body, or torn
-abbrev pub record_of : Piece → Record
-record_of (whole kind body) = Whole kind (length body)
-record_of torn = Torn
+-- each case of the answer: the kind and the length of the body, or none where it is torn
+abbrev pub record_of : Piece → Option Record
+record_of (whole kind body) = Some (record { kind = kind; len = length body })
+record_of torn = None
 
 -- the record at place i of a longer byte string, for every place
-unfoldable pub record_at : List ℕ → ℕ → Record
+unfoldable pub record_at : List ℕ → ℕ → Option Record
 record_at b i = record_of (front (drop i b))
 
 -- the bytes of the record at the front of some bytes: its 4 and its body; of a torn one all that remain
-abbrev pub span_of : List ℕ → Record → List ℕ
-span_of b (Whole kind n) = take (4 + n) b
-span_of b Torn = b
+abbrev pub span_of : List ℕ → Option Record → List ℕ
+span_of b (Some r) = take (4 + r.len) b
+span_of b None = b
 
 -- the bytes of the record at place i, for every place; at the end and past it none remain
 unfoldable pub record_span : List ℕ → ℕ → List ℕ

@@ -1,13 +1,10 @@
 -- A sheet: the clocks record, then 0 to 16 lines up to the end of the bytes. What reading and writing one answer.
 use Rattle.std.specs.Prelude.{ℕ, ◌≡◌, Bool, true, not, ◌&&◌, List, [], ◌∷◌, ◌++◌, map, length, get_or, leb, ltb, eqb}
 use Rattle.records.specs.declared.line.Line.{Line}
-use Rattle.records.specs.declared.line.Slot.{Slot}
 use Rattle.records.specs.declared.order.Order.{Order}
 use Rattle.records.specs.declared.order.Order.TheVariants.{Rising, Any}
 use Rattle.records.specs.declared.sheet.Sheet.{Sheet}
-use Rattle.records.specs.declared.sheet.SheetRead.{SheetRead}
-use Rattle.records.specs.declared.record.Decision.TheVariants as answer
-use Rattle.records.specs.Outcome.{Outcome, taken, refused, Check, ◌⇒◌, decide, in_turn}
+use Rattle.records.specs.Outcome.{Outcome, kept_as, Check, ◌⇒◌, decide, in_turn}
 use Rattle.records.specs.Lists.{listed, filled, joined}
 use Rattle.records.specs.Word.{at}
 use Rattle.records.specs.Record.{Piece, whole, torn, pieces, record_bytes}
@@ -113,11 +110,8 @@ BaseTable = (b : List ℕ) → read_base b ≡ decide (base_checks (pieces b)) (
 
 -- ---- the struct
 
-abbrev pub slot_of : Line → Slot
-slot_of l = record { line = l }
-
 abbrev pub line_at : Sheet → ℕ → Line
-line_at s i = (get_or s.lines i (slot_of blank_line)).line
+line_at s i = get_or s.lines i blank_line
 
 -- the value of a struct: its first `count` lines; unused line places are no part of it
 abbrev pub sheet_value : Sheet → SheetValue
@@ -129,12 +123,11 @@ SameSheet s t = sheet_value s ≡ sheet_value t
 
 -- the struct of a value, its unused line places filled with the blank line
 abbrev pub sheet_of : SheetValue → Sheet
-sheet_of v = record { clocks = v.clocks; count = length v.lines; lines = filled 16 (slot_of blank_line) (map slot_of v.lines) }
+sheet_of v = record { clocks = v.clocks; count = length v.lines; lines = filled 16 blank_line v.lines }
 
--- each case of the answer: the value beside Done, or the paper's number, with a sheet of no clock and no line beside it
-abbrev pub sheet_read : Outcome SheetValue → SheetRead
-sheet_read (taken v) = record { answer = answer.Done; sheet = sheet_of v }
-sheet_read (refused n) = record { answer = answer.Refused n; sheet = sheet_of (record { clocks = 0; lines = [] }) }
+-- what was read, as the struct
+abbrev pub sheet_read : Outcome SheetValue → Outcome Sheet
+sheet_read o = kept_as sheet_of o
 
 -- ---- writing
 

@@ -1,11 +1,10 @@
 -- The one form of a sheet: what sorting it is, not how it is done.
-use Rattle.std.specs.Prelude.{ℕ, ◌≡◌, true, ◌⊎◌, List, [], ◌∷◌, length, ltb}
+use Rattle.std.specs.Prelude.{ℕ, ◌≡◌, true, ◌⊎◌, List, [], ◌∷◌, length, ltb, Result}
 use Rattle.records.specs.declared.line.Line.{Line}
 use Rattle.records.specs.declared.order.Order.TheVariants.{Any}
-use Rattle.records.specs.declared.record.Written.{Written}
+use Rattle.records.specs.declared.refusal.Refusal.{Refusal}
 use Rattle.records.specs.declared.sheet.Sheet.{Sheet}
-use Rattle.records.specs.declared.sheet.SheetRead.{SheetRead}
-use Rattle.records.specs.Outcome.{taken, refused, ◌⇒◌, decide}
+use Rattle.records.specs.Outcome.{taken, refused, outcome_of, ◌⇒◌, decide}
 use Rattle.records.specs.Order.{above, key_of}
 use Rattle.records.specs.Sheet.{SheetValue, read_sheet, read_unordered, sheet_value, sheet_read, sheet_value_checks, sheet_bytes, write_sheet}
 use Rattle.records.specs.Store.{Wrote, wrote, leaves}
@@ -37,11 +36,11 @@ pub record Sorted (v w : SheetValue) : Type 0 where
   pub lines : SameLines v.lines w.lines
 
 -- what sorting a sheet value answers: the number by which it is outside its limits, its lines in any order, or its sorted form
-pub record SortsValue (s : Sheet) (r : SheetRead) : Type 0 where
-  pub refuses : (n : ℕ) → decide (sheet_value_checks Any (sheet_value s)) (sheet_value s) ≡ refused n → r ≡ sheet_read (refused n)
+pub record SortsValue (s : Sheet) (r : Result Sheet Refusal) : Type 0 where
+  pub refuses : (n : ℕ) → decide (sheet_value_checks Any (sheet_value s)) (sheet_value s) ≡ refused n → outcome_of r ≡ refused n
   pub sorts :
       (v : SheetValue) → decide (sheet_value_checks Any (sheet_value s)) (sheet_value s) ≡ taken v
-      → (w : SheetValue) × Sorted v w × (r ≡ sheet_read (taken w))
+      → (w : SheetValue) × Sorted v w × (outcome_of r ≡ sheet_read (taken w))
 
 -- bytes written at a buffer's front; 10: it is shorter than they are
 abbrev pub fitted : List ℕ → List ℕ → Wrote
@@ -49,7 +48,7 @@ fitted buffer bytes = leaves buffer (decide ((ltb (length buffer) (length bytes)
 
 -- what sorting a sheet's bytes answers and leaves for every buffer:
 -- the number by which they are refused, the lines in any order, or the bytes of the sorted form
-pub record SortsBytes (b before : List ℕ) (r : Written) (after : List ℕ) : Type 0 where
+pub record SortsBytes (b before : List ℕ) (r : Result ℕ Refusal) (after : List ℕ) : Type 0 where
   pub refuses : (n : ℕ) → read_unordered b ≡ refused n → wrote r after ≡ leaves before (refused n)
   pub sorts : (v : SheetValue) → read_unordered b ≡ taken v → (w : SheetValue) × Sorted v w × (wrote r after ≡ fitted before (sheet_bytes w))
 
@@ -71,4 +70,4 @@ pub record SortedForm (b : List ℕ) (v w : SheetValue) : Type 0 where
 abbrev pub OneFile : Type 0
 OneFile =
     (b c before : List ℕ) (v w : SheetValue) → read_unordered b ≡ taken v → read_unordered c ≡ taken w → v.clocks ≡ w.clocks → SameLines v.lines w.lines
-    → (r q : Written) (after left : List ℕ) → SortsBytes b before r after → SortsBytes c before q left → wrote r after ≡ wrote q left
+    → (r q : Result ℕ Refusal) (after left : List ℕ) → SortsBytes b before r after → SortsBytes c before q left → wrote r after ≡ wrote q left

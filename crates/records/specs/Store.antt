@@ -1,22 +1,21 @@
 -- What a buffer holds after writing.
-use Rattle.std.specs.Prelude.{ℕ, ◌+◌, List, [], ◌∷◌, ◌++◌, length, drop, set}
-use Rattle.records.specs.declared.record.Written.{Written}
-use Rattle.records.specs.declared.record.Written.TheVariants as written
-use Rattle.records.specs.Outcome.{Outcome, taken, refused}
+use Rattle.std.specs.Prelude.{ℕ, ◌+◌, List, [], ◌∷◌, ◌++◌, length, drop, set, Result}
+use Rattle.records.specs.declared.refusal.Refusal.{Refusal}
+use Rattle.records.specs.Outcome.{Outcome, taken, refused, outcome_of}
 
--- a writer's answer, and the whole buffer afterwards
+-- a writer's answer, how many bytes it wrote or the paper's number, and the whole buffer afterwards
 pub record Wrote : Type 0 where
-  pub answer : Written
+  pub answer : Outcome ℕ
   pub buffer : List ℕ
 
-abbrev pub wrote : Written → List ℕ → Wrote
-wrote answer buffer = record { answer = answer; buffer = buffer }
+abbrev pub wrote : Result ℕ Refusal → List ℕ → Wrote
+wrote result buffer = record { answer = outcome_of result; buffer = buffer }
 
 -- each case of the answer: how many bytes, which fill the front of the buffer, later ones staying;
 -- or the paper's number, and no byte changed
 abbrev pub leaves : List ℕ → Outcome (List ℕ) → Wrote
-leaves buffer (taken bytes) = wrote (written.Bytes (length bytes)) (bytes ++ drop (length bytes) buffer)
-leaves buffer (refused n) = wrote (written.Refused n) buffer
+leaves buffer (taken bytes) = record { answer = taken (length bytes); buffer = bytes ++ drop (length bytes) buffer }
+leaves buffer (refused n) = record { answer = refused n; buffer = buffer }
 
 -- bytes stored one after the other from place i on: what the inner functions that write say
 abbrev pub puts : List ℕ → ℕ → List ℕ → List ℕ

@@ -1,13 +1,13 @@
 // The form of an instant's record: plain, or numbered with its number.
 ghost use Rattle.std.specs.Prelude.{◌≡◌, ◌+◌, ◌≤◌, length};
 ghost use Rattle.records.specs.Store.{puts};
-ghost use Rattle.records.specs.Instant.{number_length, form_of, form_kind, number_bytes};
-ghost use Rattle.records.specs.Inner.{form_shape_of};
+ghost use Rattle.records.specs.Instant.{is_instant_kind, number_length, form_of, form_kind, number_bytes};
 
 use crate::number;
 use crate::word::{put_word, word_at};
 
-#[derive(Clone, Copy)]
+// Each case is a kind of record, and further kinds are further cases, so it is no Option of a number.
+#[derive(Clone, Copy, Debug, PartialEq, Eq)]
 pub enum Form {
     // Kind 32: the clocks alone.
     Plain,
@@ -15,29 +15,20 @@ pub enum Form {
     Numbered(u16),
 }
 
-// What a kind says of a record: whether it is an instant, and how many bytes of its body precede the clocks.
-#[derive(Clone, Copy)]
-pub(crate) struct FormShape {
-    pub(crate) instant: bool,
-    pub(crate) before: usize,
+// Whether a kind is that of an instant.
+pub(crate) fn is_instant_kind(kind: u16) -> bool
+    ensures { result ≡ is_instant_kind kind }
+{
+    matches!(kind, number::INSTANT | number::NUMBERED)
 }
 
-pub(crate) fn form_shape(kind: u16) -> FormShape
-    ensures { result ≡ form_shape_of kind }
+// How many bytes of a body precede the clocks, by its kind.
+pub(crate) fn number_length(kind: u16) -> usize
+    ensures { result ≡ number_length kind }
 {
     match kind {
-        number::INSTANT => FormShape {
-            instant: true,
-            before: 0,
-        },
-        number::NUMBERED => FormShape {
-            instant: true,
-            before: number::NUMBER_LENGTH,
-        },
-        _ => FormShape {
-            instant: false,
-            before: 0,
-        },
+        number::NUMBERED => number::NUMBER_LENGTH,
+        _ => 0,
     }
 }
 
@@ -78,8 +69,6 @@ pub(crate) fn put_number(buffer: &mut [u8], at: usize, form: Form)
 {
     match form {
         Form::Plain => {}
-        Form::Numbered(n) => {
-            put_word(buffer, at, n);
-        }
+        Form::Numbered(n) => put_word(buffer, at, n),
     }
 }

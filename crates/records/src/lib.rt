@@ -8,6 +8,7 @@ pub mod next;
 pub mod number;
 pub mod order;
 pub mod record;
+pub mod refusal;
 pub mod sheet;
 pub mod sort;
 pub mod word;

@@ -1,18 +1,19 @@
 // The lines of a sheet: one of nine cases, each told by its kind, with its own length and fields.
 ghost use Rattle.std.specs.Prelude.{◌≡◌, true, ◌&&◌, ◌+◌, ◌≤◌, length, take, leb};
-ghost use Rattle.records.specs.Outcome.{decide};
+ghost use Rattle.records.specs.Outcome.{decide, outcome_of};
 ghost use Rattle.records.specs.Lists.{filled};
 ghost use Rattle.records.specs.Record.{whole};
 ghost use Rattle.records.specs.Line.{is_line, is_sporadic, length_of, clocks_of, all_below, no_count, line_checks, value_line_checks, line_of, kind_of, body_of, line_bytes};
 ghost use Rattle.records.specs.Store.{puts};
 ghost use Rattle.records.specs.Types.{IsLineValue};
-ghost use Rattle.records.specs.Inner.{shape_of, sporadic_of, line_read, answered};
+ghost use Rattle.records.specs.Inner.{sporadic_of};
 
 use crate::number;
-use crate::record::{Decision, put_head};
-use crate::word::{high_byte, low_byte, raw_of, tag_of, word_at};
+use crate::record::put_head;
+use crate::refusal::Refusal;
+use crate::word::{raw_of, tag_of, word_at};
 
-#[derive(Clone, Copy)]
+#[derive(Clone, Copy, Debug, PartialEq, Eq)]
 pub enum Line {
     // A sporadic t on B.
     Sporadic { a: u8, b: u8, t: i16 },
@@ -29,63 +30,34 @@ pub enum Line {
     Counted { a: u8, b: u8, d: u8, n: u8 },
 }
 
-// A line place of a sheet.
-#[derive(Clone, Copy)]
-pub struct Slot {
-    pub line: Line,
+fn is_line(kind: u16) -> bool
+    ensures { result ≡ is_line kind }
+{
+    matches!(kind, number::SPORADIC..=number::LAST_LINE)
 }
 
-// What a kind says of a record: whether it is a line, and the length of its body.
-#[derive(Clone, Copy)]
-pub(crate) struct Shape {
-    pub(crate) line: bool,
-    pub(crate) length: usize,
-}
-
-#[derive(Clone, Copy)]
-pub(crate) enum LineRead {
-    Read(Line),
-    Refused(u8),
-}
-
-pub(crate) fn line_shape(kind: u16) -> Shape
-    ensures { result ≡ shape_of kind }
+// The length of a body by its kind; 0 of a kind that is no line.
+#[tactic(auto, using(std::proofs::lemmas::Bool::Decides::nat_tests), unfolding(crate::specs::Line::length_of))]
+fn length_of(kind: u16) -> usize
+    ensures { result ≡ length_of kind }
 {
     match kind {
-        number::SPORADIC => Shape {
-            line: true,
-            length: number::SPORADIC_BODY,
-        },
-        number::RELATION => Shape {
-            line: true,
-            length: number::RELATION_BODY,
-        },
-        number::DELAYED => Shape {
-            line: true,
-            length: number::DELAYED_BODY,
-        },
-        number::COUNTED => Shape {
-            line: true,
-            length: number::COUNTED_BODY,
-        },
-        number::IMPLIES..=number::EXCLUDES | number::WEAKLY..=number::KILLS => Shape {
-            line: true,
-            length: number::PAIR_BODY,
-        },
-        _ => Shape {
-            line: false,
-            length: 0,
-        },
+        number::SPORADIC => number::SPORADIC_BODY,
+        number::RELATION => number::RELATION_BODY,
+        number::DELAYED => number::DELAYED_BODY,
+        number::COUNTED => number::COUNTED_BODY,
+        number::IMPLIES..=number::EXCLUDES | number::WEAKLY..=number::KILLS => number::PAIR_BODY,
+        _ => 0,
     }
 }
 
 // How many clocks stand at the front of a line's body.
+#[tactic(auto, using(std::proofs::lemmas::Bool::Decides::nat_tests), unfolding(crate::specs::Line::clocks_of))]
 fn front_clocks(kind: u16) -> usize
     ensures { result ≡ clocks_of kind }
 {
     match kind {
-        number::DELAYED => 3,
-        number::COUNTED => 3,
+        number::DELAYED | number::COUNTED => 3,
         number::SPORADIC..=number::KILLS => 2,
         _ => 0,
     }
@@ -96,47 +68,34 @@ fn clocks_below(body: &[u8], n: usize, clocks: u8) -> bool
     requires { n ≤ length body.now }
     ensures { result ≡ all_below clocks (take n body.now) }
 {
-    let mut i = 0;
-    while i < n {
-        if clocks <= body[i] {
-            return false;
-        }
-        i += 1;
-    }
-    true
+    body[..n].iter().all(|clock| *clock < clocks)
 }
 
 // Whether a line of a kind counts to 0, from a body at least as long as the kind's.
+#[tactic(auto, using(std::proofs::lemmas::Bool::Decides::nat_tests), unfolding(crate::specs::Line::length_of))]
 fn is_uncounted(kind: u16, body: &[u8]) -> bool
     requires { length_of kind ≤ length body.now }
     ensures { result ≡ no_count kind body.now }
 {
-    if kind == number::COUNTED {
-        body[3] == 0
-    } else {
-        false
-    }
+    kind == number::COUNTED && body[3] == 0
 }
 
 // How many sporadic lines a line of a kind is.
 pub(crate) fn sporadic_of(kind: u16) -> usize
     ensures { result ≡ sporadic_of kind }
 {
-    if kind == number::SPORADIC { 1 } else { 0 }
+    usize::from(kind == number::SPORADIC)
 }
 
 // Whether a line of a kind is one sporadic line too many.
 fn is_ninth(kind: u16, spent: usize) -> bool
     ensures { result ≡ (is_sporadic kind && leb 8 spent) }
 {
-    if kind == number::SPORADIC {
-        number::MAX_SPORADIC <= spent
-    } else {
-        false
-    }
+    kind == number::SPORADIC && number::MAX_SPORADIC <= spent
 }
 
 // The line of a kind, from a body of its length.
+#[tactic(auto, using(std::proofs::lemmas::Bool::Decides::nat_tests), unfolding(crate::specs::Line::length_of, crate::specs::Line::line_of))]
 fn line_of(kind: u16, body: &[u8]) -> Line
     requires { (is_line kind ≡ true) × (length body.now ≡ length_of kind) }
     ensures { result ≡ line_of kind body.now }
@@ -177,6 +136,7 @@ fn line_of(kind: u16, body: &[u8]) -> Line
 
 // A line record of a sheet whose last kind of line is given,
 // `lines` lines and `spent` sporadic ones among them standing before it: 8, 5, 6, 7, 18, 9, or the line.
+#[tactic(auto, using(std::proofs::lemmas::Bool::Decides::nat_tests, crate::proofs::line::Table::tables))]
 pub(crate) fn read_line(
     kind: u16,
     body: &[u8],
@@ -184,63 +144,43 @@ pub(crate) fn read_line(
     clocks: u8,
     lines: usize,
     spent: usize,
-) -> LineRead
-    ensures { result ≡ line_read (decide (line_checks last clocks lines spent (whole kind body.now)) (line_of kind body.now)) }
+) -> Result<Line, Refusal>
+    ensures { outcome_of result ≡ decide (line_checks last clocks lines spent (whole kind body.now)) (line_of kind body.now) }
 {
     if number::MAX_LINES <= lines {
-        return LineRead::Refused(number::SEVENTEENTH_LINE);
+        return Err(Refusal::SeventeenthLine);
     }
-    let shape = line_shape(kind);
-    let known = shape.line;
-    if !known {
-        return LineRead::Refused(number::LINE_KIND);
+    if !is_line(kind) || last < kind {
+        return Err(Refusal::LineKind);
     }
-    if last < kind {
-        return LineRead::Refused(number::LINE_KIND);
-    }
-    if body.len() != shape.length {
-        return LineRead::Refused(number::LINE_LENGTH);
+    if body.len() != length_of(kind) {
+        return Err(Refusal::LineLength);
     }
     if !clocks_below(body, front_clocks(kind), clocks) {
-        return LineRead::Refused(number::CLOCK_NUMBER);
+        return Err(Refusal::ClockNumber);
     }
     if is_uncounted(kind, body) {
-        return LineRead::Refused(number::NO_COUNT);
+        return Err(Refusal::NoCount);
     }
     if is_ninth(kind, spent) {
-        return LineRead::Refused(number::NINTH_SPORADIC);
+        return Err(Refusal::NinthSporadic);
     }
-    LineRead::Read(line_of(kind, body))
+    Ok(line_of(kind, body))
 }
 
 pub(crate) fn kind_of(l: Line) -> u16
     ensures { result ≡ kind_of l }
 {
     match l {
-        Line::Sporadic { a: _, b: _, t: _ } => number::SPORADIC,
-        Line::Relation {
-            a: _,
-            b: _,
-            p: _,
-            q: _,
-        } => number::RELATION,
-        Line::Implies { a: _, b: _ } => number::IMPLIES,
-        Line::Excludes { a: _, b: _ } => number::EXCLUDES,
-        Line::Delayed {
-            a: _,
-            b: _,
-            d: _,
-            by: _,
-        } => number::DELAYED,
-        Line::Weakly { a: _, b: _ } => number::WEAKLY,
-        Line::Strictly { a: _, b: _ } => number::STRICTLY,
-        Line::Kills { a: _, b: _ } => number::KILLS,
-        Line::Counted {
-            a: _,
-            b: _,
-            d: _,
-            n: _,
-        } => number::COUNTED,
+        Line::Sporadic { .. } => number::SPORADIC,
+        Line::Relation { .. } => number::RELATION,
+        Line::Implies { .. } => number::IMPLIES,
+        Line::Excludes { .. } => number::EXCLUDES,
+        Line::Delayed { .. } => number::DELAYED,
+        Line::Weakly { .. } => number::WEAKLY,
+        Line::Strictly { .. } => number::STRICTLY,
+        Line::Kills { .. } => number::KILLS,
+        Line::Counted { .. } => number::COUNTED,
     }
 }
 
@@ -250,48 +190,52 @@ pub(crate) fn body_of(l: Line) -> [u8; 6]
 {
     match l {
         Line::Sporadic { a, b, t } => {
-            let w = raw_of(t);
-            [a, b, low_byte(w), high_byte(w), 0, 0]
+            let [low, high] = raw_of(t).to_le_bytes();
+            [a, b, low, high, 0, 0]
         }
         Line::Relation { a, b, p, q } => {
-            let v = raw_of(p);
-            let w = raw_of(q);
-            [a, b, low_byte(v), high_byte(v), low_byte(w), high_byte(w)]
+            let [p_low, p_high] = raw_of(p).to_le_bytes();
+            let [q_low, q_high] = raw_of(q).to_le_bytes();
+            [a, b, p_low, p_high, q_low, q_high]
         }
-        Line::Implies { a, b } => [a, b, 0, 0, 0, 0],
-        Line::Excludes { a, b } => [a, b, 0, 0, 0, 0],
-        Line::Delayed { a, b, d, by } => [a, b, d, low_byte(by), high_byte(by), 0],
-        Line::Weakly { a, b } => [a, b, 0, 0, 0, 0],
-        Line::Strictly { a, b } => [a, b, 0, 0, 0, 0],
-        Line::Kills { a, b } => [a, b, 0, 0, 0, 0],
+        Line::Implies { a, b }
+        | Line::Excludes { a, b }
+        | Line::Weakly { a, b }
+        | Line::Strictly { a, b }
+        | Line::Kills { a, b } => [a, b, 0, 0, 0, 0],
+        Line::Delayed { a, b, d, by } => {
+            let [low, high] = by.to_le_bytes();
+            [a, b, d, low, high, 0]
+        }
         Line::Counted { a, b, d, n } => [a, b, d, n, 0, 0],
     }
 }
 
 // A line of a value to write, `spent` sporadic lines standing before it: 7, 18, 9.
-pub(crate) fn check_line(l: Line, clocks: u8, spent: usize) -> Decision
-    ensures { (result ≡ answered (decide (value_line_checks clocks spent (kind_of l) (body_of l)) l)) × IsLineValue l }
+#[tactic(auto, using(std::proofs::lemmas::Bool::Decides::nat_tests, crate::proofs::line::Table::tables, crate::proofs::line::Laws::six_bytes))]
+pub(crate) fn check_line(l: Line, clocks: u8, spent: usize) -> Result<(), Refusal>
+    ensures { (outcome_of result ≡ decide (value_line_checks clocks spent (kind_of l) (body_of l)) tt) × IsLineValue l }
 {
     let kind = kind_of(l);
     let body = body_of(l);
     if !clocks_below(&body, front_clocks(kind), clocks) {
-        return Decision::Refused(number::CLOCK_NUMBER);
+        return Err(Refusal::ClockNumber);
     }
     if is_uncounted(kind, &body) {
-        return Decision::Refused(number::NO_COUNT);
+        return Err(Refusal::NoCount);
     }
     if is_ninth(kind, spent) {
-        return Decision::Refused(number::NINTH_SPORADIC);
+        return Err(Refusal::NinthSporadic);
     }
-    Decision::Done
+    Ok(())
 }
 
 // How many bytes a line's record takes.
+#[tactic(auto, using(crate::proofs::line::Table::tables))]
 pub(crate) fn line_size(l: Line) -> usize
     ensures { result ≡ length (line_bytes l) }
 {
-    let shape = line_shape(kind_of(l));
-    number::HEAD_LENGTH + shape.length
+    number::HEAD_LENGTH + length_of(kind_of(l))
 }
 
 // The first n bytes of a body, where they have room.
@@ -299,21 +243,17 @@ fn put_body(buffer: &mut [u8], at: usize, body: [u8; 6], n: usize)
     requires { (n ≤ 6) × (at + n ≤ length buffer.old) }
     ensures { buffer.new ≡ puts buffer.old at (take n body) }
 {
-    let mut i = 0;
-    while i < n {
-        buffer[at + i] = body[i];
-        i += 1;
-    }
+    buffer[at..at + n].copy_from_slice(&body[..n]);
 }
 
 // A line's record, where it has room.
+#[tactic(auto, using(crate::proofs::line::Table::tables))]
 pub(crate) fn put_line(buffer: &mut [u8], at: usize, l: Line)
     requires { at + length (line_bytes l) ≤ length buffer.old }
     ensures { buffer.new ≡ puts buffer.old at (line_bytes l) }
 {
     let kind = kind_of(l);
-    let shape = line_shape(kind);
-    let n = shape.length;
+    let n = length_of(kind);
     put_head(buffer, at, n as u16, kind);
     put_body(buffer, at + number::HEAD_LENGTH, body_of(l), n);
 }

@@ -1,43 +1,4 @@
-// The paper's numbers, each named once.
-
-// Refusals.
-pub const TORN_SHEET: u8 = 1;
-
-pub const NOT_CLOCKS: u8 = 2;
-
-pub const CLOCKS_LENGTH: u8 = 3;
-
-pub const CLOCK_COUNT: u8 = 4;
-
-pub const LINE_KIND: u8 = 5;
-
-pub const LINE_LENGTH: u8 = 6;
-
-pub const CLOCK_NUMBER: u8 = 7;
-
-pub const SEVENTEENTH_LINE: u8 = 8;
-
-pub const NINTH_SPORADIC: u8 = 9;
-
-pub const SHORT_BUFFER: u8 = 10;
-
-pub const MONITOR_LIMITS: u8 = 11;
-
-pub const NOT_ONE_RECORD: u8 = 12;
-
-pub const NOT_INSTANT: u8 = 13;
-
-pub const INSTANT_LENGTH: u8 = 14;
-
-pub const TICK_BYTE: u8 = 15;
-
-pub const INSTANTS_HELD: u8 = 16;
-
-pub const NOT_ABOVE: u8 = 17;
-
-pub const NO_COUNT: u8 = 18;
-
-pub const NOT_NEXT: u8 = 19;
+// The paper's numbers, each named once; those of refusals are in refusal.rt.
 
 // Kinds of records.
 pub const CLOCKS: u16 = 1;
@@ -108,5 +69,5 @@ pub const MAX_OWED: usize = 8;
 // The longest sheet: the clocks record and 16 of the longest lines.
 pub const MAX_SHEET: usize = HEAD_LENGTH + CLOCKS_BODY + MAX_LINES * (HEAD_LENGTH + MAX_BODY);
 
-// The longest instant: eight clocks, with a number.
+// The longest instant: eight clocks, with a number. (A constant calls no `from`.)
 pub const MAX_INSTANT: usize = HEAD_LENGTH + NUMBER_LENGTH + MAX_CLOCKS as usize * CELL_LENGTH;

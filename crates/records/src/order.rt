@@ -3,7 +3,6 @@ ghost use Rattle.std.specs.Prelude.{◌≡◌};
 ghost use Rattle.records.specs.Order.{above, key_of};
 
 use crate::line::{Line, body_of, kind_of};
-use crate::number;
 
 // How the lines of a sheet stand.
 #[derive(Clone, Copy)]
@@ -14,31 +13,9 @@ pub enum Order {
     Any,
 }
 
-// Whether a body is above another of its length.
-fn body_above(a: [u8; 6], b: [u8; 6]) -> bool
-    ensures { result ≡ above a b }
-{
-    let mut i = 0;
-    while i < number::MAX_BODY {
-        if b[i] < a[i] {
-            return true;
-        }
-        if a[i] < b[i] {
-            return false;
-        }
-        i += 1;
-    }
-    false
-}
-
-// Whether a line is above another.
+// Whether a line is above another; bodies of one kind have one length, and zeros behind it.
 pub(crate) fn is_above(l: Line, other: Line) -> bool
     ensures { result ≡ above (key_of l) (key_of other) }
 {
-    let kind = kind_of(l);
-    let other_kind = kind_of(other);
-    if kind == other_kind {
-        return body_above(body_of(l), body_of(other));
-    }
-    other_kind < kind
+    (kind_of(l), body_of(l)) > (kind_of(other), body_of(other))
 }

@@ -5,54 +5,38 @@ ghost use Rattle.records.specs.Record.{record_at, record_span};
 ghost use Rattle.records.specs.Store.{puts};
 
 use crate::number;
-use crate::word::{put_word, wide, word_at};
+use crate::word::{put_word, word_at};
 
-// The record at a place of a byte string.
-#[derive(Clone, Copy)]
-pub enum Record {
-    // Its kind, and the length of its body, which is all there.
-    Whole { kind: u16, len: usize },
-    // Fewer than 4 bytes remain, or fewer than its length after the 4.
-    Torn,
+// A whole record at a place of a byte string.
+#[derive(Clone, Copy, Debug, PartialEq, Eq)]
+pub struct Record {
+    pub kind: u16,
+    // The length of its body, which is all there.
+    pub len: usize,
 }
 
-// What reading answers, beside the value: that it was taken, or the number of the refusal.
-#[derive(Clone, Copy)]
-pub enum Decision {
-    Done,
-    Refused(u8),
-}
-
-// What writing answers: how many bytes it wrote at the buffer's front, or the number of the refusal.
-#[derive(Clone, Copy)]
-pub enum Written {
-    Bytes(usize),
-    Refused(u8),
-}
-
-// The record at the front of some bytes.
-fn first_record(b: &[u8]) -> Record
+// The record at the front of some bytes; none where it is torn: fewer than 4 bytes remain, or fewer than its length after the 4.
+fn first_record(b: &[u8]) -> Option<Record>
     ensures { result ≡ record_at b.now 0 }
 {
     if b.len() < number::HEAD_LENGTH {
-        return Record::Torn;
+        return None;
     }
-    let len = wide(word_at(b, 0));
+    let len = usize::from(word_at(b, 0));
     if b.len() - number::HEAD_LENGTH < len {
-        return Record::Torn;
+        return None;
     }
-    let kind = word_at(b, 2);
-    Record::Whole { kind, len }
+    Some(Record {
+        kind: word_at(b, 2),
+        len,
+    })
 }
 
-// The record at a place of a byte string, for every place.
-pub fn record_at(bytes: &[u8], at: usize) -> Record
+// The record at a place of a byte string, for every place; none where it is torn.
+pub fn record_at(bytes: &[u8], at: usize) -> Option<Record>
     ensures { result ≡ record_at bytes.now at }
 {
-    if bytes.len() < at {
-        return Record::Torn;
-    }
-    first_record(&bytes[at..])
+    first_record(bytes.get(at..)?)
 }
 
 // The bytes of the record at a place of a byte string, for every place: length, kind and body;
@@ -61,11 +45,11 @@ pub fn record_bytes(bytes: &[u8], at: usize) -> &[u8]
     ensures { result.now ≡ record_span bytes.now at }
 {
     if bytes.len() < at {
-        return &bytes[bytes.len()..];
+        return &[];
     }
     match record_at(bytes, at) {
-        Record::Torn => &bytes[at..],
-        Record::Whole { kind, len } => &bytes[at..at + number::HEAD_LENGTH + len],
+        None => &bytes[at..],
+        Some(record) => &bytes[at..at + number::HEAD_LENGTH + record.len],
     }
 }
 

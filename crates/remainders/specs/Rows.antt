@@ -7,6 +7,8 @@ use Rattle.tesl.specs.Fits.{Obligation, Countdown}
 use Rattle.tesl.specs.Remainder.{Remainder}
 use Rattle.tesl.specs.Lists.{flat_map}
 use Rattle.work.specs.View.{used_part}
+use Rattle.remainders.specs.declared.rows.Part.{Part}
+use Rattle.remainders.specs.declared.rows.Part.TheVariants.{Obligations, Countdowns}
 use Rattle.theory.specs.Adding.{added_to, all_added_to}
 use Rattle.work.specs.Carried.{either}
 use Rattle.remainders.specs.declared.obligation.Obligation as code
@@ -27,6 +29,10 @@ all_words = 4608
 -- the sets of a row, and the words of the part that one takes; part 0 is the set of obligations, part 1 that of countdowns
 abbrev pub parts : ℕ
 parts = 2
+
+abbrev pub part_number : Part → ℕ
+part_number Obligations = 0
+part_number Countdowns = 1
 
 abbrev pub part_words : ℕ
 part_words = 9
@@ -167,7 +173,6 @@ pub record ClearedWords (k end : ℕ) (a b : List ℕ) : Type 0 where
 pub record Row (rows : List ℕ) (i part : ℕ) : Type 0 where
   pub size : length rows ≡ all_words
   pub row : i < height
-  pub inside : part < parts
   pub few : row_count rows i part ≤ 8
 
 -- row i, and another
@@ -183,14 +188,12 @@ PartStays i part a b = Stays i (part_words * part) (part_words * part + part_wor
 
 -- no other part of row x has more in it
 pub record LargerSet (rows : List ℕ) (x part : ℕ) : Type 0 where
-  pub inside : part < parts
   pub least : row_count rows x (1 - part) ≤ row_count rows x part
 
 -- a part of rows i and x, of at most eight each
 pub record Comparing (rows : List ℕ) (i x part : ℕ) : Type 0 where
   pub one : i < height
   pub other : x < height
-  pub inside : part < parts
   pub few-one : row_count rows i part ≤ 8
   pub few-other : row_count rows x part ≤ 8
 

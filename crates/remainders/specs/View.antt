@@ -1,5 +1,6 @@
 -- The code's structs as tesl's values.
-use Rattle.std.specs.Prelude.{Bool, true, false, ◌&&◌, List, map, ℕ, leb, eqb, replicate, take}
+use Rattle.std.specs.Prelude.{Bool, true, false, ◌&&◌, List, map, ℕ, leb, eqb, replicate, take, None, Some}
+use Rattle.std.specs.declared.option.Option as option
 use Rattle.std.proofs.Math.Option.{Option, none, some}
 use Rattle.records.specs.Sheet.{SheetValue}
 use Rattle.tesl.specs.Lists.{all}
@@ -8,8 +9,6 @@ use Rattle.tesl.specs.Remainder.{Remainder}
 use Rattle.work.specs.View.{used_part, held_list}
 use Rattle.remainders.specs.declared.obligation.Obligation as code
 use Rattle.remainders.specs.declared.remainder.Remainder as arrays
-use Rattle.remainders.specs.declared.held.Status.{Status}
-use Rattle.remainders.specs.declared.held.Status.TheVariants.{Exhausted, Live}
 use Rattle.remainders.specs.declared.held.Held.{Held}
 use Rattle.remainders.specs.Word.{due_of}
 
@@ -64,14 +63,14 @@ view_of v r = used_part v (remainder_of r)
 -- ---- what is worked on
 
 -- how many are held; none once exhausted, nor when broken
-abbrev pub live_count : Status → ℕ
-live_count Exhausted = 0
-live_count (Live n) = n
+abbrev pub live_count : option.Option ℕ → ℕ
+live_count None = 0
+live_count (Some n) = n
 
 -- those held; `none` once exhausted, when none is held
-abbrev pub held_in : SheetValue → Status → List arrays.Remainder → Option (List Remainder)
-held_in v Exhausted rs = none
-held_in v (Live n) rs = some (map (view_of v) (take n rs))
+abbrev pub held_in : SheetValue → option.Option ℕ → List arrays.Remainder → Option (List Remainder)
+held_in v None rs = none
+held_in v (Some n) rs = some (map (view_of v) (take n rs))
 
 abbrev pub held_of : SheetValue → Held → Option (List Remainder)
 held_of v h = held_in v h.count h.remainders
@@ -85,9 +84,9 @@ live_of v h = held_list (held_of v h)
 abbrev pub few_owed : arrays.Remainder → Bool
 few_owed r = leb r.owed 8 && leb r.counting 8
 
-abbrev pub sized_in : Status → List arrays.Remainder → Bool
-sized_in Exhausted rs = true
-sized_in (Live n) rs = leb n 32 && all few_owed (take n rs)
+abbrev pub sized_in : option.Option ℕ → List arrays.Remainder → Bool
+sized_in None rs = true
+sized_in (Some n) rs = leb n 32 && all few_owed (take n rs)
 
 abbrev pub sized : Held → Bool
 sized h = sized_in h.count h.remainders

@@ -3,23 +3,17 @@ ghost use Rattle.std.specs.Prelude.{◌≡◌, true, set};
 ghost use Rattle.tesl.specs.Run.{tag_in};
 ghost use Rattle.work.specs.Questions.{tick_in};
 
-fn place(k: u8) -> usize
-    ensures { result ≡ k }
-{
-    k as usize
-}
-
 pub fn ticks_at(ticks: [bool; 8], k: u8) -> bool
     ensures { result ≡ tick_in ticks k }
 {
-    let i = place(k);
-    if i < 8 { ticks[i] } else { false }
+    let i = usize::from(k);
+    i < 8 && ticks[i]
 }
 
 pub fn clock_tag(tags: [i16; 8], k: u8) -> i16
     ensures { result ≡ tag_in tags k }
 {
-    let i = place(k);
+    let i = usize::from(k);
     if i < 8 { tags[i] } else { 0 }
 }
 
@@ -27,18 +21,16 @@ pub fn clock_tag(tags: [i16; 8], k: u8) -> i16
 pub fn wide(x: i16) -> i64
     ensures { result ≡ x }
 {
-    x as i64
+    i64::from(x)
 }
 
 // The stopped clocks, with one more.
-pub fn stop(stopped: [bool; 8], k: u8) -> [bool; 8]
+pub fn stop(mut stopped: [bool; 8], k: u8) -> [bool; 8]
     ensures { result ≡ set stopped k true }
 {
-    let i = place(k);
-    let mut after = stopped;
+    let i = usize::from(k);
     if i < 8 {
-        after[i] = true;
-        return after;
+        stopped[i] = true;
     }
     stopped
 }

@@ -1,4 +1,4 @@
-// Rows compared: whether the row after those found is one of them.
+// Rows compared: whether the row after those found is one of them. Numbers of lines and clocks come from a plan, whose type bounds them.
 ghost use Rattle.std.specs.Prelude.{◌≡◌, false, not, ◌||◌, ℕ, ◌+◌, ◌≤◌, ◌<◌, eqb, get_or};
 ghost use Rattle.std.specs.Bool.{beq};
 ghost use Rattle.records.specs.Sheet.{SheetValue};
@@ -8,26 +8,19 @@ ghost use Rattle.work.specs.View.{used_part};
 ghost use Rattle.work.specs.Work.{same_counted};
 ghost use Rattle.work.specs.Parts.{Leading};
 ghost use Rattle.remainders.specs.View.{same_stored};
-ghost use Rattle.remainders.specs.Rows.{height, row_set, row_lead, row_stop, row_of, rows_of, FewOwed, LargerSet, Comparing};
+ghost use Rattle.remainders.specs.Rows.{height, part_number, row_set, row_lead, row_stop, row_of, rows_of, FewOwed, LargerSet, Comparing};
 
-use crate::rows::{
-    COUNTDOWNS, LEADS, OBLIGATIONS, SIZE, STOPPED, obligation_at, row_count, row_owes, word_at,
-};
+use crate::rows::{LEADS, Part, SIZE, STOPPED, obligation_at, row_count, row_owes, word_at};
 use crate::word::flag_in;
 
-// Rows i and x lead alike; only the leads of precedes lines are in use.
-fn same_leads(rows: &[u32; SIZE], i: usize, x: usize, leaders: usize, precede: [bool; 16]) -> bool
+// Rows i and x lead alike; only the leads of precedes lines are in use. (Which are is lent: by value it would be copied for each row.)
+fn same_leads(rows: &[u32; SIZE], i: usize, x: usize, leaders: usize, precede: &[bool; 16]) -> bool
     requires { (i < height) × ((x < height) × (leaders ≤ 16)) }
-    ensures { result ≡ below leaders (λ (k : ℕ). not (get_or precede k false) || eqb (row_lead rows.now x k) (row_lead rows.now i k)) }
+    ensures { result ≡ below leaders (λ (k : ℕ). not (get_or precede.now k false) || eqb (row_lead rows.now x k) (row_lead rows.now i k)) }
 {
-    let mut k = leaders;
-    while 0 < k {
-        k -= 1;
-        if precede[k] {
-            let lead = word_at(rows, x, LEADS + k);
-            if lead != word_at(rows, i, LEADS + k) {
-                return false;
-            }
+    for k in 0..leaders {
+        if precede[k] && word_at(rows, x, LEADS + k) != word_at(rows, i, LEADS + k) {
+            return false;
         }
     }
     true
@@ -38,45 +31,42 @@ fn same_stopped(rows: &[u32; SIZE], i: usize, x: usize, clocks: usize) -> bool
     requires { (i < height) × ((x < height) × (clocks ≤ 8)) }
     ensures { result ≡ below clocks (λ (k : ℕ). beq (row_stop rows.now x k) (row_stop rows.now i k)) }
 {
-    let mut k = 0;
-    while k < clocks {
+    for k in 0..clocks {
         let is_stopped = flag_in(word_at(rows, x, STOPPED + k));
         if is_stopped != flag_in(word_at(rows, i, STOPPED + k)) {
             return false;
         }
-        k += 1;
     }
     true
 }
 
 // The same is in a part of rows i and x, where each has it once.
-fn same_set(rows: &[u32; SIZE], i: usize, x: usize, part: usize) -> bool
-    requires { Comparing rows.now i x part }
-    ensures { result ≡ same_by_count same_stored (row_set rows.now x part) (row_set rows.now i part) }
+fn same_set(rows: &[u32; SIZE], i: usize, x: usize, part: Part) -> bool
+    requires { Comparing rows.now i x (part_number part) }
+    ensures { result ≡ same_by_count same_stored (row_set rows.now x (part_number part)) (row_set rows.now i (part_number part)) }
 {
     let n = row_count(rows, i, part);
     if row_count(rows, x, part) != n {
         return false;
     }
-    let mut j = 0;
-    while j < n {
+    for j in 0..n {
         if !row_owes(rows, x, part, obligation_at(rows, i, part, j)) {
             return false;
         }
-        j += 1;
     }
     true
 }
 
 // The part of row x that has more in it.
-fn larger_set(rows: &[u32; SIZE], x: usize) -> usize
+fn larger_set(rows: &[u32; SIZE], x: usize) -> Part
     requires { x < height }
-    ensures { LargerSet rows.now x result }
+    ensures { LargerSet rows.now x (part_number result) }
 {
-    if row_count(rows, x, OBLIGATIONS) < row_count(rows, x, COUNTDOWNS) {
-        return COUNTDOWNS;
+    if row_count(rows, x, Part::Obligations) < row_count(rows, x, Part::Countdowns) {
+        Part::Countdowns
+    } else {
+        Part::Obligations
     }
-    OBLIGATIONS
 }
 
 // Row first + n is one of the n rows from `first` on; the comparison stops at the first equal one. The larger set's count tells most rows apart, so it is asked first; what is in the sets comes last, and not at all where both are empty.
@@ -97,37 +87,39 @@ pub fn is_duplicate(
     let x = first + n;
     let larger = larger_set(rows, x);
     let count = row_count(rows, x, larger);
-    let smaller = COUNTDOWNS - larger;
+    let smaller = larger.other();
     let fewer = row_count(rows, x, smaller);
-    let owed = row_count(rows, x, OBLIGATIONS);
-    let mut k = 0;
-    'held: while k < n {
+    let owed = row_count(rows, x, Part::Obligations);
+    'held: for k in 0..n {
         let i = first + k;
-        k += 1;
         if row_count(rows, i, larger) != count {
             continue;
         }
-        if !same_leads(rows, i, x, leaders, precede) {
+        if !same_leads(rows, i, x, leaders, &precede) {
             continue;
         }
         if !same_stopped(rows, i, x, clocks) {
             continue;
         }
-        if row_count(rows, i, smaller) != fewer {
+        let as_many = row_count(rows, i, smaller) == fewer;
+        if !as_many {
             continue;
         }
         if count == 0 {
             return true;
         }
-        if !same_set(rows, i, x, COUNTDOWNS) {
+        if !same_set(rows, i, x, Part::Countdowns) {
             continue;
         }
-        let mut j = 0;
-        while j < owed {
-            if !row_owes(rows, x, OBLIGATIONS, obligation_at(rows, i, OBLIGATIONS, j)) {
+        for j in 0..owed {
+            if !row_owes(
+                rows,
+                x,
+                Part::Obligations,
+                obligation_at(rows, i, Part::Obligations, j),
+            ) {
                 continue 'held;
             }
-            j += 1;
         }
         return true;
     }

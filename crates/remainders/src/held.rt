@@ -5,32 +5,23 @@ ghost use Rattle.remainders.specs.View.{live_count};
 use crate::remainder::Remainder;
 use records::sheet::Sheet;
 
-// Exhausted, when none is held; or how many are: none when broken.
-#[derive(Clone, Copy)]
-pub enum Status {
-    Exhausted,
-    Live(usize),
-}
-
+// There is no heap, so it is an array and a count.
 #[derive(Clone, Copy)]
 pub struct Held {
-    pub count: Status,
+    // How many are held: 0 when broken, and none once exhausted.
+    pub count: Option<usize>,
     pub remainders: [Remainder; 32],
 }
 
 pub fn clocks_of(s: Sheet) -> usize
     ensures { result ≡ s.clocks }
 {
-    let c = s.clocks;
-    c as usize
+    usize::from(s.clocks)
 }
 
-// How many are held; none once exhausted, nor when broken.
-pub fn live_in(count: Status) -> usize
+// How many are held; 0 once exhausted, and when broken.
+pub fn live_in(count: Option<usize>) -> usize
     ensures { result ≡ live_count count }
 {
-    match count {
-        Status::Exhausted => 0,
-        Status::Live(n) => n,
-    }
+    count.unwrap_or(0)
 }

@@ -2,8 +2,9 @@
 ghost use Rattle.std.specs.Prelude.{◌≡◌};
 ghost use Rattle.remainders.specs.View.{blank_remainder};
 
-use crate::obligation::Obligation;
+use crate::obligation::{BLANK, Obligation};
 
+// There is no heap, so each set is an array and a count; the other arrays are by line and by clock.
 #[derive(Clone, Copy)]
 pub struct Remainder {
     // How many obligations, and these; their numbers are dues.
@@ -21,21 +22,12 @@ pub struct Remainder {
 pub fn blank_remainder() -> Remainder
     ensures { result ≡ blank_remainder }
 {
-    let none = Obligation {
-        clock: 0,
-        on: 0,
-        number: 0,
-    };
-    let obligations = [none; 8];
-    let countdowns = [none; 8];
-    let leads = [0u16; 16];
-    let stopped = [false; 8];
     Remainder {
         owed: 0,
-        obligations,
+        obligations: [BLANK; 8],
         counting: 0,
-        countdowns,
-        leads,
-        stopped,
+        countdowns: [BLANK; 8],
+        leads: [0; 16],
+        stopped: [false; 8],
     }
 }

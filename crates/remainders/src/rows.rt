@@ -1,10 +1,11 @@
 // A monitor in a lent array of words: six rows are its head; then its remainders, a row each, both those held and those found.
-ghost use Rattle.std.specs.Prelude.{◌≡◌, ◌+◌, ◌*◌, ◌<◌, ◌≤◌, length, set};
+// A row is told by its number, here and in the crates above, and each function asks that it is one of the rows: it is reached by sums (`from + i`), and with a type of its own each sum would be shown to be a row at the same place, and each promise would speak of the number in it.
+ghost use Rattle.std.specs.Prelude.{◌≡◌, ◌+◌, ◌-◌, ◌*◌, ◌<◌, ◌≤◌, length, set};
 ghost use Rattle.tesl.specs.Lists.{any};
 ghost use Rattle.remainders.specs.View.{same_stored};
-ghost use Rattle.remainders.specs.Rows.{height, width, all_words, parts, word, row_count, row_obligation, row_set, ClearedWords, PutObligation, ObligationsAt};
+ghost use Rattle.remainders.specs.Rows.{height, width, all_words, part_words, part_number, word, row_count, row_obligation, row_set, ClearedWords, PutObligation, ObligationsAt};
 
-use crate::obligation::{Obligation, same_obligation};
+use crate::obligation::{BLANK, Obligation};
 use crate::word::{byte_in, count_in, next_byte_in, packed_word, upper_in};
 
 // All words, and those of a row.
@@ -21,13 +22,7 @@ pub const SIDE: usize = 33;
 // The first rows of the two sides, 6 and 39, together.
 pub const SIDES: usize = 45;
 
-// The sets of a row, and which is which; a set takes a part of so many words.
-pub const PARTS: usize = 2;
-
-pub const OBLIGATIONS: usize = 0;
-
-pub const COUNTDOWNS: usize = 1;
-
+// The words of the part that a set takes.
 pub const PART_WORDS: usize = 9;
 
 // In a part, behind its count: where its places begin, a word each.
@@ -37,6 +32,35 @@ pub const FIRST_PLACE: usize = 1;
 pub const LEADS: usize = 18;
 
 pub const STOPPED: usize = 34;
+
+// The parts of a row, one to each of its sets, one behind the other.
+#[derive(Clone, Copy, Debug, PartialEq, Eq)]
+pub enum Part {
+    Obligations,
+    Countdowns,
+}
+
+impl Part {
+    // Where its words begin in a row.
+    pub fn start(self) -> usize
+        ensures { result ≡ part_words * part_number self }
+    {
+        match self {
+            Part::Obligations => 0,
+            Part::Countdowns => PART_WORDS,
+        }
+    }
+
+    // The other part.
+    pub fn other(self) -> Part
+        ensures { part_number result ≡ 1 - part_number self }
+    {
+        match self {
+            Part::Obligations => Part::Countdowns,
+            Part::Countdowns => Part::Obligations,
+        }
+    }
+}
 
 // Word p of row i.
 pub fn word_at(rows: &[u32; SIZE], i: usize, p: usize) -> u32
@@ -58,81 +82,66 @@ pub fn clear_words(rows: &mut [u32; SIZE], k: usize, end: usize)
     requires { end ≤ all_words }
     ensures { ClearedWords k end rows.old rows.new }
 {
-    let mut q = k;
-    while q < end {
+    for q in k..end {
         rows[q] = 0;
-        q += 1;
     }
 }
 
 // How many there are in a part of row i.
-pub fn row_count(rows: &[u32; SIZE], i: usize, part: usize) -> usize
-    requires { (i < height) × (part < parts) }
-    ensures { result ≡ row_count rows.now i part }
+pub fn row_count(rows: &[u32; SIZE], i: usize, part: Part) -> usize
+    requires { i < height }
+    ensures { result ≡ row_count rows.now i (part_number part) }
 {
-    count_in(word_at(rows, i, PART_WORDS * part))
+    count_in(word_at(rows, i, part.start()))
 }
 
 // Place j of a part of row i.
-pub fn obligation_at(rows: &[u32; SIZE], i: usize, part: usize, j: usize) -> Obligation
-    requires { (i < height) × ((part < parts) × (j < 8)) }
-    ensures { result ≡ row_obligation rows.now i part j }
+pub fn obligation_at(rows: &[u32; SIZE], i: usize, part: Part, j: usize) -> Obligation
+    requires { (i < height) × (j < 8) }
+    ensures { result ≡ row_obligation rows.now i (part_number part) j }
 {
-    let w = word_at(rows, i, PART_WORDS * part + FIRST_PLACE + j);
-    let clock = byte_in(w);
-    let on = next_byte_in(w);
-    let number = upper_in(w);
-    Obligation { clock, on, number }
+    let w = word_at(rows, i, part.start() + FIRST_PLACE + j);
+    Obligation {
+        clock: byte_in(w),
+        on: next_byte_in(w),
+        number: upper_in(w),
+    }
 }
 
 // Stores an obligation in place j of a part of row i.
-pub fn put_obligation(rows: &mut [u32; SIZE], i: usize, part: usize, j: usize, o: Obligation)
-    requires { (length rows.old ≡ all_words) × ((i < height) × ((part < parts) × (j < 8))) }
-    ensures { PutObligation i part j o rows.old rows.new }
+pub fn put_obligation(rows: &mut [u32; SIZE], i: usize, part: Part, j: usize, o: Obligation)
+    requires { (length rows.old ≡ all_words) × ((i < height) × (j < 8)) }
+    ensures { PutObligation i (part_number part) j o rows.old rows.new }
 {
-    let clock = o.clock;
-    let on = o.on;
-    let number = o.number;
     put_word(
         rows,
         i,
-        PART_WORDS * part + FIRST_PLACE + j,
-        packed_word(clock, on, number),
+        part.start() + FIRST_PLACE + j,
+        packed_word(o.clock, o.on, o.number),
     );
 }
 
 // The first n of a part of row i, at the front of eight places; blank ones past them.
-pub fn obligations_at(rows: &[u32; SIZE], i: usize, part: usize, n: usize) -> [Obligation; 8]
-    requires { (i < height) × ((part < parts) × (n ≤ 8)) }
-    ensures { ObligationsAt i part n result rows.now }
+pub fn obligations_at(rows: &[u32; SIZE], i: usize, part: Part, n: usize) -> [Obligation; 8]
+    requires { (i < height) × (n ≤ 8) }
+    ensures { ObligationsAt i (part_number part) n result rows.now }
 {
-    let none = Obligation {
-        clock: 0,
-        on: 0,
-        number: 0,
-    };
-    let mut all = [none; 8];
-    let mut j = 0;
-    while j < n {
-        let o = obligation_at(rows, i, part, j);
-        all[j] = o;
-        j += 1;
+    let mut all = [BLANK; 8];
+    for j in 0..n {
+        all[j] = obligation_at(rows, i, part, j);
     }
     all
 }
 
 // A part of row i has o.
-pub fn row_owes(rows: &[u32; SIZE], i: usize, part: usize, o: Obligation) -> bool
-    requires { (i < height) × ((part < parts) × (row_count rows.now i part ≤ 8)) }
-    ensures { result ≡ any (same_stored o) (row_set rows.now i part) }
+pub fn row_owes(rows: &[u32; SIZE], i: usize, part: Part, o: Obligation) -> bool
+    requires { (i < height) × (row_count rows.now i (part_number part) ≤ 8) }
+    ensures { result ≡ any (same_stored o) (row_set rows.now i (part_number part)) }
 {
-    let n = row_count(rows, i, part);
-    let mut j = 0;
-    while j < n {
-        if same_obligation(o, obligation_at(rows, i, part, j)) {
+    for j in 0..row_count(rows, i, part) {
+        if o == obligation_at(rows, i, part, j) {
             return true;
         }
-        j += 1;
     }
     false
 }

@@ -1,4 +1,4 @@
-// Words of 32 bits: what is stored in one and read back. Every word reads as something.
+// Words of 32 bits: what is stored in one and read back. Every word reads as something. A cast with `as` stands where there is no `From`, and loses nothing, or only what is to be cut off.
 ghost use Rattle.std.specs.Prelude.{◌≡◌, ◌≤◌};
 ghost use Rattle.remainders.specs.Word.{byte_in, next_byte_in, number_in, upper_in, flag_of, flag_word};
 
@@ -44,7 +44,7 @@ pub(crate) fn upper_in(w: u32) -> u16
 pub(crate) fn packed_word(x: u8, y: u8, upper: u16) -> u32
     ensures { (byte_in result ≡ x) × ((next_byte_in result ≡ y) × (upper_in result ≡ upper)) }
 {
-    (x as u32) + BYTE * (y as u32) + HALF * (upper as u32)
+    u32::from(x) + BYTE * u32::from(y) + HALF * u32::from(upper)
 }
 
 pub fn number_in(w: u32) -> u16
@@ -56,7 +56,7 @@ pub fn number_in(w: u32) -> u16
 pub fn lead_word(x: u16) -> u32
     ensures { result ≡ x }
 {
-    x as u32
+    u32::from(x)
 }
 
 pub fn flag_in(w: u32) -> bool
@@ -68,5 +68,5 @@ pub fn flag_in(w: u32) -> bool
 pub fn flag_word(b: bool) -> u32
     ensures { result ≡ flag_word b }
 {
-    if b { 1 } else { 0 }
+    u32::from(b)
 }

@@ -17,7 +17,7 @@ use Rattle.step.specs.declared.advance.Next.TheVariants.{Fails, Over, Onto}
 use Rattle.step.specs.declared.filling.Filling.{Filling}
 use Rattle.lines.specs.declared.plan.Plan.{Plan}
 use Rattle.remainders.specs.View.{countdown_of, first_of}
-use Rattle.lines.specs.Plan.{PlanFits, Planned}
+use Rattle.lines.specs.Plan.{Planned}
 use Rattle.remainders.specs.Rows.{width, row_of, FewInRow, FlagsKept, Between, Stays}
 
 -- the instant, and what its delay lines and its counted lines begin
@@ -55,10 +55,9 @@ next_of v Over rows to = over
 next_of v Onto rows to = onto (used_part v (row_of rows to))
 
 -- row i, and another to build in
-pub record Advancing (rows : List ℕ) (i to : ℕ) (p : Plan) (f : Filling) : Type 0 where
+pub record Advancing (rows : List ℕ) (i to : ℕ) (f : Filling) : Type 0 where
   pub between : Between rows i to
   pub few : FewInRow rows i
-  pub plan : PlanFits p
   pub ordered : f.owed ≤ f.count
   pub begun : f.count ≤ 16
 

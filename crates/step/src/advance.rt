@@ -1,11 +1,11 @@
-// What a filled instant makes of a row: the row that it becomes, built in place in another row of the same array.
+// What a filled instant makes of a row: the row that it becomes, built in place in another row of the same array. What is asked of the two rows stands in `Between`, of one that is added to in `Row`; numbers of lines and clocks come from a plan, whose type bounds them.
 ghost use Rattle.std.specs.Prelude.{◌≡◌, ℕ, ◌+◌, ◌-◌, ◌<◌, ◌≤◌, leb, get_or, drop, take};
 ghost use Rattle.records.specs.Lists.{listed};
 ghost use Rattle.tesl.specs.Lists.{below};
 ghost use Rattle.theory.specs.Step.{overlap};
 ghost use Rattle.work.specs.View.{filled_of};
 ghost use Rattle.remainders.specs.Word.{half_values};
-ghost use Rattle.remainders.specs.Rows.{height, parts, row_count, row_lead, row_stop, Row, Between, AddedRow, BegunRow, LeadsOn, StoppedOn};
+ghost use Rattle.remainders.specs.Rows.{height, row_count, row_lead, row_stop, Row, Between, AddedRow, BegunRow, LeadsOn, StoppedOn, part_number};
 ghost use Rattle.step.specs.Left.{LeftRow};
 ghost use Rattle.step.specs.Filling.{Advancing, AdvancedRow};
 
@@ -14,13 +14,13 @@ use crate::left::{Left, left_of};
 use lines::plan::Plan;
 use remainders::obligation::Obligation;
 use remainders::rows::{
-    COUNTDOWNS, LEADS, OBLIGATIONS, PART_WORDS, SIZE, STOPPED, obligation_at, put_obligation,
-    put_word, row_count, row_owes, word_at,
+    LEADS, Part, SIZE, STOPPED, obligation_at, put_obligation, put_word, row_count, row_owes,
+    word_at,
 };
 use remainders::word::{count_word, flag_in, flag_word};
 
 // What becomes of a row: it doesn't fit, it would have more than eight in a set, or it goes on.
-#[derive(Clone, Copy)]
+#[derive(Clone, Copy, Debug, PartialEq, Eq)]
 pub enum Next {
     Fails,
     Over,
@@ -32,22 +32,12 @@ fn is_barred(rows: &[u32; SIZE], i: usize, clocks: usize, ticks: [bool; 8]) -> b
     requires { (i < height) × (clocks ≤ 8) }
     ensures { result ≡ overlap ticks (listed (row_stop rows.now i) clocks) }
 {
-    let mut k = 0;
-    while k < clocks {
-        if ticks[k] {
-            if flag_in(word_at(rows, i, STOPPED + k)) {
-                return true;
-            }
+    for k in 0..clocks {
+        if ticks[k] && flag_in(word_at(rows, i, STOPPED + k)) {
+            return true;
         }
-        k += 1;
     }
     false
-}
-
-fn is_enough(lead: u32, need: u16) -> bool
-    ensures { result ≡ leb need lead }
-{
-    (need as u32) <= lead
 }
 
 // Each lead of row i is what is needed, or more.
@@ -55,10 +45,8 @@ fn leads_hold(rows: &[u32; SIZE], i: usize, leaders: usize, needs: [u16; 16]) ->
     requires { (i < height) × (leaders ≤ 16) }
     ensures { result ≡ below leaders (λ (k : ℕ). leb (get_or needs k 0) (row_lead rows.now i k)) }
 {
-    let mut k = leaders;
-    while 0 < k {
-        k -= 1;
-        if !is_enough(word_at(rows, i, LEADS + k), needs[k]) {
+    for k in (0..leaders).rev() {
+        if word_at(rows, i, LEADS + k) < u32::from(needs[k]) {
             return false;
         }
     }
@@ -70,40 +58,32 @@ fn put_left(
     rows: &mut [u32; SIZE],
     i: usize,
     to: usize,
-    part: usize,
+    part: Part,
     ticks: [bool; 8],
     tags: [i16; 8],
 ) -> bool
-    requires { Between rows.old i to × ((part < parts) × (row_count rows.old i part ≤ 8)) }
-    ensures { LeftRow (filled_of ticks tags) part i to result rows.old rows.new }
+    requires { Between rows.old i to × (row_count rows.old i (part_number part) ≤ 8) }
+    ensures { LeftRow (filled_of ticks tags) (part_number part) i to result rows.old rows.new }
 {
-    let n = row_count(rows, i, part);
     let mut count = 0;
-    let mut j = 0;
-    while j < n {
-        let o = obligation_at(rows, i, part, j);
-        j += 1;
-        match left_of(part, o, ticks, tags) {
-            Left::Done => {
-                continue;
-            }
-            Left::Unfit => {
-                return false;
-            }
+    for j in 0..row_count(rows, i, part) {
+        match left_of(part, obligation_at(rows, i, part, j), ticks, tags) {
+            Left::Done => continue,
+            Left::Unfit => return false,
             Left::Still(left) => {
                 put_obligation(rows, to, part, count, left);
                 count += 1;
             }
         }
     }
-    put_word(rows, to, PART_WORDS * part, count_word(count));
+    put_word(rows, to, part.start(), count_word(count));
     true
 }
 
 // A part of row i with one more, which counts once. False: a ninth has no room.
-pub fn add_row(rows: &mut [u32; SIZE], i: usize, part: usize, o: Obligation) -> bool
-    requires { Row rows.old i part }
-    ensures { AddedRow i part o result rows.old rows.new }
+pub fn add_row(rows: &mut [u32; SIZE], i: usize, part: Part, o: Obligation) -> bool
+    requires { Row rows.old i (part_number part) }
+    ensures { AddedRow i (part_number part) o result rows.old rows.new }
 {
     if row_owes(rows, i, part, o) {
         return true;
@@ -113,7 +93,7 @@ pub fn add_row(rows: &mut [u32; SIZE], i: usize, part: usize, o: Obligation) -> 
         return false;
     }
     put_obligation(rows, i, part, n, o);
-    put_word(rows, i, PART_WORDS * part, count_word(n + 1));
+    put_word(rows, i, part.start(), count_word(n + 1));
     true
 }
 
@@ -121,21 +101,18 @@ pub fn add_row(rows: &mut [u32; SIZE], i: usize, part: usize, o: Obligation) -> 
 fn begin_row(
     rows: &mut [u32; SIZE],
     i: usize,
-    part: usize,
+    part: Part,
     first: usize,
     n: usize,
     begun: [Obligation; 16],
 ) -> bool
-    requires { Row rows.old i part × (n ≤ 16) }
-    ensures { BegunRow i part (drop first (take n begun)) result rows.old rows.new }
+    requires { Row rows.old i (part_number part) × (n ≤ 16) }
+    ensures { BegunRow i (part_number part) (drop first (take n begun)) result rows.old rows.new }
 {
-    let mut j = first;
-    while j < n {
-        let o = begun[j];
-        if !add_row(rows, i, part, o) {
+    for j in first..n {
+        if !add_row(rows, i, part, begun[j]) {
             return false;
         }
-        j += 1;
     }
     true
 }
@@ -144,34 +121,25 @@ fn begin_row(
 fn begin_part(
     rows: &mut [u32; SIZE],
     i: usize,
-    part: usize,
+    part: Part,
     first: usize,
     n: usize,
     f: Filling,
 ) -> bool
-    requires { Row rows.old i part × (n ≤ 16) }
-    ensures { BegunRow i part (drop first (take n f.begun)) result rows.old rows.new }
+    requires { Row rows.old i (part_number part) × (n ≤ 16) }
+    ensures { BegunRow i (part_number part) (drop first (take n f.begun)) result rows.old rows.new }
 {
-    if n <= first {
-        return true;
-    }
-    let begun = f.begun;
-    begin_row(rows, i, part, first, n, begun)
+    n <= first || begin_row(rows, i, part, first, n, f.begun)
 }
-
-// The largest lead.
-const MOST_LEAD: u32 = 65535;
 
 // A lead that would fall below 0 stays 0, and so does one that is no lead.
 fn moved(lead: u32, gain: u16, loss: u16) -> u32
     ensures { lead < half_values → result ≡ lead + gain - loss }
 {
-    if MOST_LEAD < lead {
-        return 0;
+    match u16::try_from(lead) {
+        Ok(lead) => (u32::from(lead) + u32::from(gain)).saturating_sub(u32::from(loss)),
+        Err(_) => 0,
     }
-    let up = lead + (gain as u32);
-    let down = loss as u32;
-    if down <= up { up - down } else { 0 }
 }
 
 // Stores in row `to` the leads of row i after an instant.
@@ -186,11 +154,9 @@ fn leads_on(
     requires { Between rows.old i to × (leaders ≤ 16) }
     ensures { LeadsOn leaders gains losses i to rows.old rows.new }
 {
-    let mut k = 0;
-    while k < leaders {
+    for k in 0..leaders {
         let lead = word_at(rows, i, LEADS + k);
         put_word(rows, to, LEADS + k, moved(lead, gains[k], losses[k]));
-        k += 1;
     }
 }
 
@@ -199,12 +165,9 @@ fn lead_part(rows: &mut [u32; SIZE], i: usize, to: usize, leaders: usize, f: Fil
     requires { Between rows.old i to × (leaders ≤ 16) }
     ensures { LeadsOn leaders f.gains f.losses i to rows.old rows.new }
 {
-    if leaders == 0 {
-        return;
+    if 0 < leaders {
+        leads_on(rows, i, to, leaders, f.gains, f.losses);
     }
-    let gains = f.gains;
-    let losses = f.losses;
-    leads_on(rows, i, to, leaders, gains, losses);
 }
 
 // Stores in row `to` the stopped clocks of row i, with more.
@@ -212,14 +175,9 @@ fn stopped_on(rows: &mut [u32; SIZE], i: usize, to: usize, stops: [bool; 8])
     requires { Between rows.old i to }
     ensures { StoppedOn stops i to rows.old rows.new }
 {
-    let mut k = 0;
-    while k < 8 {
-        let mut flag = stops[k];
-        if flag_in(word_at(rows, i, STOPPED + k)) {
-            flag = true;
-        }
+    for k in 0..8 {
+        let flag = flag_in(word_at(rows, i, STOPPED + k)) || stops[k];
         put_word(rows, to, STOPPED + k, flag_word(flag));
-        k += 1;
     }
 }
 
@@ -231,36 +189,25 @@ pub(crate) fn advance_row(
     plan: Plan,
     f: Filling,
 ) -> Next
-    requires { Advancing rows.old i to plan f }
+    requires { Advancing rows.old i to f }
     ensures { AdvancedRow plan f i to result rows.old rows.new }
 {
-    let leaders = plan.leaders;
-    let needs = f.needs;
-    if !leads_hold(rows, i, leaders, needs) {
+    if !leads_hold(rows, i, plan.leaders, f.needs) || is_barred(rows, i, plan.clocks, f.ticks) {
         return Next::Fails;
     }
-    let clocks = plan.clocks;
-    let ticks = f.ticks;
-    if is_barred(rows, i, clocks, ticks) {
+    if !put_left(rows, i, to, Part::Obligations, f.ticks, f.tags) {
         return Next::Fails;
     }
-    let tags = f.tags;
-    if !put_left(rows, i, to, OBLIGATIONS, ticks, tags) {
+    if !put_left(rows, i, to, Part::Countdowns, f.ticks, f.tags) {
         return Next::Fails;
     }
-    if !put_left(rows, i, to, COUNTDOWNS, ticks, tags) {
-        return Next::Fails;
-    }
-    let owed = f.owed;
-    if !begin_part(rows, to, OBLIGATIONS, 0, owed, f) {
+    if !begin_part(rows, to, Part::Obligations, 0, f.owed, f) {
         return Next::Over;
     }
-    let count = f.count;
-    if !begin_part(rows, to, COUNTDOWNS, owed, count, f) {
+    if !begin_part(rows, to, Part::Countdowns, f.owed, f.count, f) {
         return Next::Over;
     }
-    lead_part(rows, i, to, leaders, f);
-    let stops = f.stops;
-    stopped_on(rows, i, to, stops);
+    lead_part(rows, i, to, plan.leaders, f);
+    stopped_on(rows, i, to, f.stops);
     Next::Onto
 }

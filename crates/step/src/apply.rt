@@ -5,7 +5,6 @@ use crate::advance::{Next, advance_row};
 use crate::filling::Filling;
 use lines::plan::Plan;
 use remainders::compare::is_duplicate;
-use remainders::held::Status;
 use remainders::rows::SIZE;
 
 // Those found from row `to` on, with what each of n rows from row `from` on becomes by a filling that the rules allow; there is room for so many.
@@ -18,35 +17,25 @@ pub(crate) fn apply_filling(
     room: usize,
     plan: Plan,
     f: Filling,
-) -> Status
-    requires { Applying rows.old from to n found room plan f }
+) -> Option<usize>
+    requires { Applying rows.old from to n found room f }
     ensures { Applied plan f from to n found room result rows.old rows.new }
 {
-    let clocks = plan.clocks;
-    let leaders = plan.leaders;
-    let precede = plan.precede;
     let mut live = found;
-    let mut k = 0;
-    while k < n {
-        let i = from + k;
-        k += 1;
-        match advance_row(rows, i, to + live, plan, f) {
-            Next::Fails => {
-                continue;
-            }
-            Next::Over => {
-                return Status::Exhausted;
-            }
+    for k in 0..n {
+        match advance_row(rows, from + k, to + live, plan, f) {
+            Next::Fails => continue,
+            Next::Over => return None,
             Next::Onto => {
-                if is_duplicate(rows, to, live, clocks, leaders, precede) {
+                if is_duplicate(rows, to, live, plan.clocks, plan.leaders, plan.precede) {
                     continue;
                 }
                 if room <= live {
-                    return Status::Exhausted;
+                    return None;
                 }
                 live += 1;
             }
         }
     }
-    Status::Live(live)
+    Some(live)
 }

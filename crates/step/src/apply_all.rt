@@ -6,7 +6,6 @@ use crate::apply::apply_filling;
 use crate::filling::gather;
 use crate::list::{LIST, flags_at};
 use lines::plan::{NUMBERS, Plan};
-use remainders::held::Status;
 use remainders::rows::{SIDES, SIZE};
 
 // What is the same for every filling of an instant.
@@ -28,27 +27,14 @@ pub(crate) fn apply_all(
     conditions: Conditions,
     m: usize,
     list: &[bool; LIST],
-) -> Status
-    requires { ApplyingAll rows.old from n conditions.room plan m }
+) -> Option<usize>
+    requires { ApplyingAll rows.old from n conditions.room m }
     ensures { AppliedAll lines.now plan conditions (fillings_in list.now m) from n result rows.old rows.new }
 {
-    let tags = conditions.tags;
-    let room = conditions.room;
-    let to = SIDES - from;
     let mut live = 0;
-    let mut i = 0;
-    while i < m {
-        let ticks = flags_at(list, i);
-        i += 1;
-        let f = gather(lines, plan, ticks, tags);
-        match apply_filling(rows, from, to, n, live, room, plan, f) {
-            Status::Exhausted => {
-                return Status::Exhausted;
-            }
-            Status::Live(more) => {
-                live = more;
-            }
-        }
+    for i in 0..m {
+        let f = gather(lines, plan, flags_at(list, i), conditions.tags);
+        live = apply_filling(rows, from, SIDES - from, n, live, conditions.room, plan, f)?;
     }
-    Status::Live(live)
+    Some(live)
 }

@@ -1,6 +1,5 @@
 // The fillings of an instant, and what the rows held become by them.
 ghost use Rattle.std.specs.Prelude.{◌≡◌, true, ◌&&◌, ◌≤◌, ◌<◌, set};
-ghost use Rattle.records.specs.Instant.{tick_at};
 ghost use Rattle.tesl.specs.Lists.{all};
 ghost use Rattle.tesl.specs.Fits.{none_falls};
 ghost use Rattle.tesl.specs.Answer.{most_live};
@@ -17,11 +16,10 @@ use lines::plan::{NUMBERS, Plan};
 use lines::relevant::flag_rows;
 use lines::rules::{all_hold, is_forbidden};
 use lines::tags::{all_tags_hold, none_falls};
-use records::instant::{Instant, Tick, TickSlot};
-use remainders::held::Status;
+use records::instant::{Instant, Tick};
 use remainders::rows::SIZE;
 
-// What an instant meets.
+// What an instant meets. A flag beside the tags, not an Option: what `work_rows` ensures and `judge` name the two.
 #[derive(Clone, Copy)]
 pub struct Before {
     // No instant went before it.
@@ -32,29 +30,22 @@ pub struct Before {
     pub room: usize,
 }
 
-// How many clocks are filled, and how many rules are asked: small, so that a call is handed them in a word.
+// How far the recursion goes: small, so that a call is handed it in a word.
 #[derive(Clone, Copy)]
 struct Extent {
+    // How many clocks are filled.
     clocks: u8,
+    // How many rules are asked.
     rules: u8,
 }
 
-fn seen_at(seen: [TickSlot; 8], k: usize) -> Tick
-    requires { k < 8 }
-    ensures { result ≡ tick_at seen k }
-{
-    let slot = seen[k];
-    let t = slot.tick;
-    t
-}
-
-fn with_tick(ticks: [bool; 8], k: usize) -> [bool; 8]
+// The same ticks, with clock k's.
+fn with_tick(mut ticks: [bool; 8], k: usize) -> [bool; 8]
     requires { k < 8 }
     ensures { result ≡ set ticks k true }
 {
-    let mut next = ticks;
-    next[k] = true;
-    next
+    ticks[k] = true;
+    ticks
 }
 
 // Lists the fillings of the clocks from k on that the rules allow, after the first n: settles clock k, then those from k + 1; an unseen tick branches into idle and, where its clock has a flag, tick.
@@ -63,7 +54,7 @@ fn fill(
     extent: Extent,
     flags: [bool; 8],
     k: usize,
-    seen: [TickSlot; 8],
+    seen: [Tick; 8],
     ticks: [bool; 8],
     list: &mut [bool; LIST],
     n: usize,
@@ -71,16 +62,15 @@ fn fill(
     requires { Listing list.old extent flags k seen ticks n }
     ensures { Listed (allowed (plan_lines lines.now rules_from extent.rules)) (fillings_left flags seen extent.clocks k ticks) n result list.old list.new }
 {
-    let clocks = extent.clocks as usize;
-    let rules = extent.rules as usize;
-    if k == clocks {
+    let rules = usize::from(extent.rules);
+    if k == usize::from(extent.clocks) {
         if all_hold(lines, rules, ticks) {
             put_flags(list, n, ticks);
             return n + 1;
         }
         return n;
     }
-    match seen_at(seen, k) {
+    match seen[k] {
         Tick::Idle => fill(lines, extent, flags, k + 1, seen, ticks, list, n),
         Tick::Ticks => {
             let set = with_tick(ticks, k);
@@ -102,65 +92,42 @@ fn fill(
 }
 
 // The tags of an instant: none falls below its tag at the instant before, and each of n relations holds.
-fn tags_fit(
-    clocks: usize,
-    lines: &[u32; NUMBERS],
-    n: usize,
-    first: bool,
-    was: [i16; 8],
-    tags: [i16; 8],
-) -> bool
+fn tags_fit(clocks: usize, lines: &[u32; NUMBERS], n: usize, before: Before, tags: [i16; 8]) -> bool
     requires { (clocks ≤ 8) × (n ≤ 16) }
-    ensures { result ≡ (none_falls clocks (tags_before first was) tags && all (tags_hold tags) (plan_lines lines.now relations_from n)) }
+    ensures { result ≡ (none_falls clocks (tags_before before.first before.tags) tags && all (tags_hold tags) (plan_lines lines.now relations_from n)) }
 {
-    if first {
-        return all_tags_hold(lines, n, tags);
-    }
-    if none_falls(clocks, was, tags) {
-        all_tags_hold(lines, n, tags)
-    } else {
-        false
-    }
+    (before.first || none_falls(clocks, before.tags, tags)) && all_tags_hold(lines, n, tags)
 }
 
 // What those held from row `from` on become by an instant, on the other side; the list of fillings is room to work in. Nothing is worked once exhausted or broken.
 pub fn work_rows(
     rows: &mut [u32; SIZE],
     from: usize,
-    count: Status,
+    count: Option<usize>,
     plan: Plan,
     lines: &[u32; NUMBERS],
     before: Before,
     instant: Instant,
     list: &mut [bool; LIST],
-) -> Status
-    requires { Working rows.old from count plan list.old × (before.room ≤ most_live) }
+) -> Option<usize>
+    requires { Working rows.old from count list.old × (before.room ≤ most_live) }
     ensures { Worked lines.now plan before instant from count result rows.old rows.new list.new }
 {
-    match count {
-        Status::Exhausted => Status::Exhausted,
-        Status::Live(n) => {
-            if n == 0 {
-                return Status::Live(0);
-            }
-            let tags = instant.tags;
-            let was = before.tags;
-            if !tags_fit(plan.clocks, lines, plan.relations, before.first, was, tags) {
-                return Status::Live(0);
-            }
-            let clocks = plan.clocks as u8;
-            let rules = plan.rules as u8;
-            let extent = Extent { clocks, rules };
-            let seen = instant.ticks;
-            let named = plan.named;
-            let flags = flag_rows(rows, from, n, named);
-            let ticks = [false; 8];
-            let m = fill(lines, extent, flags, 0, seen, ticks, list, 0);
-            let conditions = Conditions {
-                tags,
-                room: before.room,
-            };
-            apply_all(rows, from, n, plan, lines, conditions, m, list)
-        }
+    let n = count?;
+    let tags = instant.tags;
+    if n == 0 || !tags_fit(plan.clocks, lines, plan.relations, before, tags) {
+        return Some(0);
     }
+    // Both fit a byte: a plan has at most 8 clocks and 16 rules.
+    let extent = Extent {
+        clocks: plan.clocks as u8,
+        rules: plan.rules as u8,
+    };
+    let flags = flag_rows(rows, from, n, plan.named);
+    let m = fill(lines, extent, flags, 0, instant.ticks, [false; 8], list, 0);
+    let conditions = Conditions {
+        tags,
+        room: before.room,
+    };
+    apply_all(rows, from, n, plan, lines, conditions, m, list)
 }

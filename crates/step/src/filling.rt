@@ -1,24 +1,32 @@
 // What depends on a filling alone, gathered once for all rows.
-ghost use Rattle.lines.specs.Plan.{PlanFits};
 ghost use Rattle.step.specs.Filling.{Gathered};
 
-use lines::delays::begin_delays;
-use lines::leads::lead_changes;
+use lines::delays::{NewObligations, begin_delays};
+use lines::leads::{LeadChanges, lead_changes};
 use lines::plan::{NUMBERS, Plan};
 use lines::rules::all_stops;
 use remainders::obligation::{MOST_DUE, Obligation};
 
-// The instant; the clocks that lines stop; what precedes lines need, gain and lose; what delay lines begin, the first `owed`, and behind it, up to `count`, what counted lines do.
+// A filled instant, and what the lines make of it. Each array is asked by itself, by clock, by line or in the order in which things begin.
 #[derive(Clone, Copy)]
 pub struct Filling {
+    // The clocks that tick.
     pub ticks: [bool; 8],
+    // The instant's tags.
     pub tags: [i16; 8],
+    // The clocks that lines stop.
     pub stops: [bool; 8],
+    // What each precedes line needs of its lead.
     pub needs: [u16; 16],
+    // What its lead gains.
     pub gains: [u16; 16],
+    // What its lead loses.
     pub losses: [u16; 16],
+    // How many delay lines begin.
     pub owed: usize,
+    // How many begin in all.
     pub count: usize,
+    // Those that delay lines begin, and behind them those that counted lines do.
     pub begun: [Obligation; 16],
 }
 
@@ -29,22 +37,22 @@ pub(crate) fn gather(
     ticks: [bool; 8],
     tags: [i16; 8],
 ) -> Filling
-    requires { PlanFits plan }
     ensures { Gathered lines.now plan ticks tags result }
 {
-    let leaders = plan.leaders;
-    let rules = plan.rules;
-    let delays = plan.delays;
-    let counted = plan.counted;
-    let stops = all_stops(lines, rules, ticks);
-    let changes = lead_changes(lines, leaders, ticks);
-    let begins = begin_delays(lines, delays, counted, ticks, tags, MOST_DUE);
-    let needs = changes.needs;
-    let gains = changes.gains;
-    let losses = changes.losses;
-    let owed = begins.owed;
-    let count = begins.count;
-    let begun = begins.begun;
+    let stops = all_stops(lines, plan.rules, ticks);
+    let LeadChanges {
+        needs,
+        gains,
+        losses,
+    } = lead_changes(lines, plan.leaders, ticks);
+    let NewObligations { owed, count, begun } = begin_delays(
+        lines,
+        plan.delays,
+        plan.counted,
+        ticks,
+        tags,
+        MOST_DUE,
+    );
     Filling {
         ticks,
         tags,

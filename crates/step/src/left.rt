@@ -1,12 +1,12 @@
 // What a filled instant leaves of an obligation or of a countdown.
-ghost use Rattle.std.specs.Prelude.{◌≡◌, cond};
+ghost use Rattle.std.specs.Prelude.{◌≡◌};
 ghost use Rattle.work.specs.View.{filled_of};
-ghost use Rattle.step.specs.declared.left.Left.TheVariants.{Done, Unfit};
+ghost use Rattle.remainders.specs.Rows.{part_number};
 ghost use Rattle.step.specs.Left.{left_owed, left_counting, left_in};
 
 use remainders::clock::ticks_at;
 use remainders::obligation::{Obligation, is_late, is_met};
-use remainders::rows::OBLIGATIONS;
+use remainders::rows::Part;
 
 #[derive(Clone, Copy)]
 pub(crate) enum Left {
@@ -31,41 +31,28 @@ fn left_owed(o: Obligation, ticks: [bool; 8], tags: [i16; 8]) -> Left
     Left::Still(o)
 }
 
-// Of a countdown whose last tick comes.
-fn last_counted(ticks: bool) -> Left
-    ensures { result ≡ cond ticks Done Unfit }
-{
-    if ticks { Left::Done } else { Left::Unfit }
-}
-
 // Of a countdown: each tick of its on-clock is one fewer wanted, and the last asks for its clock's. None that wants no tick is left.
 fn left_counting(o: Obligation, ticks: [bool; 8]) -> Left
     ensures { result ≡ left_counting ticks o }
 {
-    let wanted = o.number;
-    if wanted == 0 {
-        return Left::Done;
+    match o.number {
+        0 => Left::Done,
+        _ if !ticks_at(ticks, o.on) => Left::Still(o),
+        1 if ticks_at(ticks, o.clock) => Left::Done,
+        1 => Left::Unfit,
+        wanted => Left::Still(Obligation {
+            number: wanted - 1,
+            ..o
+        }),
     }
-    if !ticks_at(ticks, o.on) {
-        return Left::Still(o);
-    }
-    if wanted == 1 {
-        return last_counted(ticks_at(ticks, o.clock));
-    }
-    Left::Still(Obligation {
-        clock: o.clock,
-        on: o.on,
-        number: wanted - 1,
-    })
 }
 
 // Of one in the set of a part.
-pub(crate) fn left_of(part: usize, o: Obligation, ticks: [bool; 8], tags: [i16; 8]) -> Left
-    ensures { result ≡ left_in part (filled_of ticks tags) o }
+pub(crate) fn left_of(part: Part, o: Obligation, ticks: [bool; 8], tags: [i16; 8]) -> Left
+    ensures { result ≡ left_in (part_number part) (filled_of ticks tags) o }
 {
-    if part == OBLIGATIONS {
-        left_owed(o, ticks, tags)
-    } else {
-        left_counting(o, ticks)
+    match part {
+        Part::Obligations => left_owed(o, ticks, tags),
+        Part::Countdowns => left_counting(o, ticks),
     }
 }

@@ -10,12 +10,7 @@ pub(crate) fn flags_at(list: &[bool; LIST], i: usize) -> [bool; 8]
     ensures { result ≡ flags_in list.now i }
 {
     let mut all = [false; 8];
-    let mut k = 0;
-    while k < 8 {
-        let flag = list[8 * i + k];
-        all[k] = flag;
-        k += 1;
-    }
+    all.copy_from_slice(&list[8 * i..8 * i + 8]);
     all
 }
 
@@ -24,10 +19,5 @@ pub(crate) fn put_flags(list: &mut [bool; LIST], n: usize, ticks: [bool; 8])
     requires { (length list.old ≡ list_size) × (n < most_fillings) }
     ensures { (length list.new ≡ list_size) × (fillings_in list.new (n + 1) ≡ fillings_in list.old n ++ (ticks ∷ [])) }
 {
-    let mut k = 0;
-    while k < 8 {
-        let flag = ticks[k];
-        list[8 * n + k] = flag;
-        k += 1;
-    }
+    list[8 * n..8 * n + 8].copy_from_slice(&ticks);
 }

@@ -3,9 +3,7 @@ ghost use Rattle.std.specs.Prelude.{◌≡◌, ◌∷◌, [], ◌≤◌, ◌<◌
 ghost use Rattle.text.specs.Text.{digit, decimal, cents, hundredths};
 ghost use Rattle.text.specs.Built.{Room, Adds};
 
-use records::word::raw_of;
-
-// A line of text: its first `len` bytes. Those behind them are no part of it.
+// A line of text: its first `len` bytes. Those behind them are no part of it. There is no heap, so it is an array and a length.
 #[derive(Clone, Copy)]
 pub struct Text {
     pub len: usize,
@@ -15,19 +13,19 @@ pub struct Text {
 pub(crate) fn blank() -> Text
     ensures { result.len ≡ 0 }
 {
-    let bytes = [0; 64];
-    Text { len: 0, bytes }
+    Text {
+        len: 0,
+        bytes: [0; 64],
+    }
 }
 
-fn push(t: Text, byte: u8) -> Text
+fn push(mut t: Text, byte: u8) -> Text
     requires { Room t (byte ∷ []) }
     ensures { Adds t (byte ∷ []) result }
 {
-    let at = t.len;
-    let mut next = t;
-    next.bytes[at] = byte;
-    next.len = at + 1;
-    next
+    t.bytes[t.len] = byte;
+    t.len += 1;
+    t
 }
 
 // Bytes one after the other.
@@ -36,23 +34,21 @@ pub(crate) fn push_word(t: Text, word: &[u8]) -> Text
     ensures { Adds t word.now result }
 {
     let mut next = t;
-    let mut i = 0;
-    while i < word.len() {
-        next = push(next, word[i]);
-        i += 1;
+    for byte in word {
+        next = push(next, *byte);
     }
     next
 }
 
-// The ASCII code of a number below 10.
+// The ASCII code of a number below 10, so nothing is lost by the cast.
 fn digit_of(d: usize) -> u8
     requires { d < 10 }
     ensures { result ≡ digit d }
 {
-    48 + (d as u8)
+    b'0' + d as u8
 }
 
-// The digits before the last one, and the last.
+// The digits before the last one, and the last; by hand, as the contract names each byte and a text has no heap.
 fn push_digits(t: Text, n: usize) -> Text
     requires { Room t (decimal n) }
     ensures { Adds t (decimal n) result }
@@ -88,10 +84,10 @@ pub(crate) fn push_hundredths(t: Text, tag: i16) -> Text
     requires { t.len ≤ 40 }
     ensures { (length (hundredths tag) ≤ 24) × Adds t (hundredths tag) result }
 {
-    let raw = raw_of(tag) as usize;
+    let count = usize::from(tag.unsigned_abs());
     if tag < 0 {
         let minus = push_word(t, b"-");
-        return push_cents(minus, 65536 - raw);
+        return push_cents(minus, count);
     }
-    push_cents(t, raw)
+    push_cents(t, count)
 }

@@ -1,6 +1,5 @@
 // All that *columns* prints: a line per tag, with its raw word and the count in hundredths of a degree.
-ghost use Rattle.std.specs.Prelude.{◌≡◌, ◌<◌};
-ghost use Rattle.records.specs.Instant.{cell_tag};
+ghost use Rattle.std.specs.Prelude.{◌≡◌};
 ghost use Rattle.text.specs.Output.{printed, printed_as, columns_text};
 ghost use Rattle.text.specs.Built.{TagsReady, PutTags, instants_text, InstantsReady};
 
@@ -8,34 +7,24 @@ use crate::line::{column_line, refusal_line};
 use crate::put::put_line;
 use records::next::read_next;
 use records::number;
-use records::record::{Decision, record_bytes};
+use records::record::record_bytes;
 use records::sheet::read_sheet;
 
 // '32768 -327.68' and its newline.
 const LONGEST_LINE: usize = 14;
 
-// The longest text: a line for each tag of 4,000 instants of eight clocks, and a refusal.
+// The longest text: a line for each tag of 4,000 instants of eight clocks, and a refusal. (A constant calls no `from`.)
 pub const COLUMNS_ROOM: usize = number::MAX_INSTANTS * number::MAX_CLOCKS as usize * LONGEST_LINE
     + crate::line::LONGEST_REFUSAL;
-
-fn tag_at(tags: [i16; 8], i: usize) -> i16
-    requires { i < 8 }
-    ensures { result ≡ cell_tag tags i }
-{
-    tags[i]
-}
 
 // The lines of an instant's tags, clocks from 0, behind the first `at` bytes; tells where they end.
 fn put_tags(out: &mut [u8], at: usize, tags: [i16; 8], clocks: u8) -> usize
     requires { TagsReady out.old at tags clocks }
     ensures { PutTags out.old at tags clocks result out.new }
 {
-    let n = clocks as usize;
     let mut end = at;
-    let mut i = 0;
-    while i < n {
-        end = put_line(out, end, column_line(tag_at(tags, i)));
-        i += 1;
+    for tag in &tags[..usize::from(clocks)] {
+        end = put_line(out, end, column_line(*tag));
     }
     end
 }
@@ -45,21 +34,17 @@ fn put_instants(clocks: u8, log: &[u8], out: &mut [u8]) -> usize
     requires { InstantsReady clocks log.now out.old }
     ensures { printed_as result out.new ≡ printed (instants_text clocks log.now) out.old }
 {
-    let mut taken = 0;
+    let mut taken: usize = 0;
     let mut end = 0;
     let mut at = 0;
     while at < log.len() {
         let record = record_bytes(log, at);
-        let read = read_next(record, clocks, taken);
-        let answer = read.answer;
-        match answer {
-            Decision::Refused(n) => {
-                return put_line(out, end, refusal_line(n));
+        match read_next(record, clocks, taken) {
+            Err(refusal) => {
+                return put_line(out, end, refusal_line(u8::from(refusal)));
             }
-            Decision::Done => {
-                let instant = read.instant;
-                let tags = instant.tags;
-                end = put_tags(out, end, tags, clocks);
+            Ok(instant) => {
+                end = put_tags(out, end, instant.tags, clocks);
                 taken += 1;
                 at += record.len();
             }
@@ -72,14 +57,8 @@ fn put_instants(clocks: u8, log: &[u8], out: &mut [u8]) -> usize
 pub fn columns_text(sheet: &[u8], log: &[u8], out: &mut [u8; COLUMNS_ROOM]) -> usize
     ensures { printed_as result out.new ≡ printed (columns_text sheet.now log.now) out.old }
 {
-    let read = read_sheet(sheet);
-    let answer = read.answer;
-    match answer {
-        Decision::Refused(n) => put_line(out, 0, refusal_line(n)),
-        Decision::Done => {
-            let value = read.sheet;
-            let clocks = value.clocks;
-            put_instants(clocks, log, out)
-        }
+    match read_sheet(sheet) {
+        Err(refusal) => put_line(out, 0, refusal_line(u8::from(refusal))),
+        Ok(value) => put_instants(value.clocks, log, out),
     }
 }

@@ -22,9 +22,10 @@ pub fn answer_line(number: usize, answer: Answer) -> Text
             let holding = push_word(first, b" holding ");
             let counted = push_decimal(holding, live);
             if clear {
-                return push_word(counted, b" clear\n");
+                push_word(counted, b" clear\n")
+            } else {
+                push_word(counted, b" owed\n")
             }
-            push_word(counted, b" owed\n")
         }
     }
 }
@@ -34,7 +35,7 @@ pub fn refusal_line(n: u8) -> Text
     ensures { (result.len ≤ 64) × (text_of result ≡ refusal_line n) }
 {
     let refused = push_word(blank(), b"refused ");
-    let number = push_decimal(refused, n as usize);
+    let number = push_decimal(refused, usize::from(n));
     push_word(number, b"\n")
 }
 
@@ -42,7 +43,7 @@ pub fn refusal_line(n: u8) -> Text
 pub fn column_line(tag: i16) -> Text
     ensures { (result.len ≤ 64) × (text_of result ≡ column_line tag) }
 {
-    let raw = push_decimal(blank(), raw_of(tag) as usize);
+    let raw = push_decimal(blank(), usize::from(raw_of(tag)));
     let space = push_word(raw, b" ");
     let count = push_hundredths(space, tag);
     push_word(count, b"\n")

@@ -8,12 +8,7 @@ pub(crate) fn put_line(out: &mut [u8], at: usize, t: Text) -> usize
     requires { LineRoom out.old at t }
     ensures { PutLine out.old at t result out.new }
 {
-    let n = t.len;
-    let bytes = t.bytes;
-    let mut i = 0;
-    while i < n {
-        out[at + i] = bytes[i];
-        i += 1;
-    }
-    at + n
+    let end = at + t.len;
+    out[at..end].copy_from_slice(&t.bytes[..t.len]);
+    end
 }

@@ -4,7 +4,6 @@ ghost use Rattle.text.specs.Output.{SortPrinted};
 use crate::line::refusal_line;
 use crate::put::put_line;
 use records::number;
-use records::record::Written;
 use records::sort::sort_sheet;
 
 // The longest text is the longest sheet.
@@ -15,7 +14,7 @@ pub fn sort_text(sheet: &[u8], out: &mut [u8; SORT_ROOM]) -> usize
     ensures { SortPrinted sheet.now out.old result out.new }
 {
     match sort_sheet(sheet, out) {
-        Written::Refused(n) => put_line(out, 0, refusal_line(n)),
-        Written::Bytes(n) => n,
+        Err(refusal) => put_line(out, 0, refusal_line(u8::from(refusal))),
+        Ok(size) => size,
     }
 }

@@ -5,7 +5,6 @@ ghost use Rattle.text.specs.Built.{replies_text, RepliesReady};
 
 use crate::line::{answer_line, refusal_line};
 use crate::put::put_line;
-use judge::answer::Reply;
 use judge::monitor::{Monitor, observe, open};
 use records::number;
 use records::record::record_bytes;
@@ -27,12 +26,11 @@ fn put_replies(opened: Monitor, log: &[u8], out: &mut [u8]) -> usize
     while at < log.len() {
         let record = record_bytes(log, at);
         let given = observe(monitor, record);
-        let reply = given.reply;
-        match reply {
-            Reply::Refused(n) => {
-                return put_line(out, end, refusal_line(n));
+        match given.reply {
+            Err(refusal) => {
+                return put_line(out, end, refusal_line(u8::from(refusal)));
             }
-            Reply::Answered(answer) => {
+            Ok(answer) => {
                 monitor = given.monitor;
                 end = put_line(out, end, answer_line(monitor.instants, answer));
                 at += record.len();
@@ -47,12 +45,8 @@ pub fn watch_text(sheet: &[u8], log: &[u8], out: &mut [u8; WATCH_ROOM]) -> usize
     ensures { printed_as result out.new ≡ printed (watch_text sheet.now log.now) out.old }
 {
     let given = open(sheet);
-    let reply = given.reply;
-    match reply {
-        Reply::Refused(n) => put_line(out, 0, refusal_line(n)),
-        Reply::Answered(_) => {
-            let monitor = given.monitor;
-            put_replies(monitor, log, out)
-        }
+    match given.reply {
+        Err(refusal) => put_line(out, 0, refusal_line(u8::from(refusal))),
+        Ok(_) => put_replies(given.monitor, log, out),
     }
 }

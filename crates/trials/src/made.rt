@@ -18,62 +18,33 @@ use records::sheet::{Sheet, line_at};
 // The place of a line's kind in the tally.
 fn kind_place(l: Line) -> usize {
     match l {
-        Line::Sporadic { a: _, b: _, t: _ } => tally::SPORADIC,
-        Line::Relation {
-            a: _,
-            b: _,
-            p: _,
-            q: _,
-        } => tally::RELATION,
-        Line::Implies { a: _, b: _ } => tally::IMPLIES,
-        Line::Excludes { a: _, b: _ } => tally::EXCLUDES,
-        Line::Delayed {
-            a: _,
-            b: _,
-            d: _,
-            by: _,
-        } => tally::DELAYED,
-        Line::Weakly { a: _, b: _ } => tally::WEAKLY,
-        Line::Strictly { a: _, b: _ } => tally::STRICTLY,
-        Line::Kills { a: _, b: _ } => tally::KILLS,
-        Line::Counted {
-            a: _,
-            b: _,
-            d: _,
-            n: _,
-        } => tally::COUNTED,
+        Line::Sporadic { .. } => tally::SPORADIC,
+        Line::Relation { .. } => tally::RELATION,
+        Line::Implies { .. } => tally::IMPLIES,
+        Line::Excludes { .. } => tally::EXCLUDES,
+        Line::Delayed { .. } => tally::DELAYED,
+        Line::Weakly { .. } => tally::WEAKLY,
+        Line::Strictly { .. } => tally::STRICTLY,
+        Line::Kills { .. } => tally::KILLS,
+        Line::Counted { .. } => tally::COUNTED,
     }
 }
 
 // The lines of a sheet by their kind.
 fn with_kinds(tally: Tally, s: Sheet) -> Tally {
-    let n = s.count;
-    let mut t = tally;
-    let mut i = 0;
-    while i < n {
-        let more = count(t, kind_place(line_at(s, i)));
-        t = more;
-        i += 1;
-    }
-    t
+    (0..s.count).fold(tally, |t, i| count(t, kind_place(line_at(s, i))))
 }
 
 // A call with a damaged instant, whose number may be wrong too: the damage comes first.
 fn with_damage(t: Trial, v: Instant, how: u64, is_wrong: bool) -> Trial {
-    let sheet = t.sheet;
-    let clocks = sheet.clocks;
-    if is_wrong {
-        return refused(t, damaged(with_number(v, 0), clocks, how));
-    }
-    refused(t, damaged(v, clocks, how))
+    let v = if is_wrong { with_number(v, 0) } else { v };
+    refused(t, damaged(v, t.sheet.clocks, how))
 }
 
 // A call with an instant whose number is not the next.
 fn with_wrong(t: Trial, v: Instant, how: u64) -> Trial {
-    let sheet = t.sheet;
-    let run = t.run;
-    let n = wrong_number(run.count, how);
-    refused(t, out_of_turn(v, sheet.clocks, n))
+    let n = wrong_number(t.run.count, how);
+    refused(t, out_of_turn(v, t.sheet.clocks, n))
 }
 
 // None, one or two calls with a damaged instant, or one with a wrong number.
@@ -98,23 +69,18 @@ fn with_sheet(tally: Tally, s: Sheet) -> Tally {
 
 // Of one case in eight, where it has a line, the sheet with its lines out of order.
 fn with_disorder(sheet: Sheet, d: [u64; 48], tally: Tally) -> Tally {
-    let lines = sheet.count;
-    if lines == 0 {
+    if sheet.count == 0 || !one_in(d, 45, 8) {
         return tally;
     }
-    if one_in(d, 45, 8) {
-        let i = below(d, 47, lines as u64) as usize;
-        return not_opened(out_of_order(sheet, one_in(d, 46, 2), i), tally);
-    }
-    tally
+    // (a usize has no `From` of 64 bits, nor they of it; here and below)
+    let i = below(d, 47, sheet.count as u64) as usize;
+    not_opened(out_of_order(sheet, one_in(d, 46, 2), i), tally)
 }
 
 // An instant by its form, its unseen ticks, and the delays that it may begin.
 fn with_instant(t: Trial, v: Instant) -> Trial {
-    let sheet = t.sheet;
-    let told = t.tally;
-    let told = count_if(is_numbered(v), told, tally::NUMBERED);
-    let told = with_dues(told, sheet, v);
+    let told = count_if(is_numbered(v), t.tally, tally::NUMBERED);
+    let told = with_dues(told, t.sheet, v);
     let told = count_if(is_on_unseen(t, v), told, tally::ON_UNSEEN);
     let told = count_if(0 < unseen_from(v, 4), told, tally::HIGH_UNSEEN);
     let told = count_if(unseen_from(v, 0) == 8, told, tally::ALL_UNSEEN);
@@ -125,20 +91,8 @@ fn with_instant(t: Trial, v: Instant) -> Trial {
 
 // One instant more, plain or numbered, and refused calls before it.
 fn step(t: Trial, v: Instant, d: [u64; 48]) -> Trial {
-    let run = t.run;
-    let v = next_of(v, run.count, one_in(d, 24, 2));
+    let v = next_of(v, t.run.count, one_in(d, 24, 2));
     taken(with_refusals(with_instant(t, v), v, d), v)
-}
-
-fn ended(t: Trial, last: u64) -> Ended {
-    let tally = t.tally;
-    Ended { last, tally }
-}
-
-// Whether the last answer was holding.
-fn is_holding(t: Trial) -> bool {
-    let a = t.answer;
-    0 < live_of(a)
 }
 
 // Opens a sheet; a line of it is drawn, to be repeated where it is opened in another order.
@@ -148,28 +102,33 @@ fn begin(sheet: Sheet, d: [u64; 48], tally: Tally) -> Trial {
 }
 
 // Runs a case from a number of the sequence; after an answer that isn't holding comes one instant more.
-pub fn case(is_wide: bool, number: u64, from: u64, tally: Tally) -> Ended {
+fn case(is_wide: bool, number: u64, from: u64, tally: Tally) -> Ended {
     let drawn = draw(from);
     let d = drawn.numbers;
     let plan = plan_of(is_wide, number, d);
-    let sheet = plan.sheet;
-    let n = instants_of(plan);
-    let mut t = begin(sheet, d, with_disorder(sheet, d, tally));
+    let mut t = begin(plan.sheet, d, with_disorder(plan.sheet, d, tally));
     let mut c = course::begin(plan);
     let mut last = drawn.last;
-    let mut i = 0;
-    while i < n {
-        i += 1;
-        let held = is_holding(t);
+    for _ in 0..instants_of(plan) {
+        let held = 0 < live_of(t.answer);
         let more = draw(last);
-        let e = more.numbers;
-        c = course::next(plan, c, e);
-        let v = c.instant;
-        t = step(t, v, e);
+        c = course::next(plan, c, more.numbers);
+        t = step(t, c.instant, more.numbers);
         last = more.last;
         if !held {
-            return ended(t, last);
+            break;
         }
     }
-    ended(t, last)
+    let tally = t.tally;
+    Ended { last, tally }
+}
+
+// A case of at most four clocks.
+pub fn narrow_case(number: u64, from: u64, tally: Tally) -> Ended {
+    case(false, number, from, tally)
+}
+
+// A case of five to eight clocks.
+pub fn wide_case(number: u64, from: u64, tally: Tally) -> Ended {
+    case(true, number, from, tally)
 }

@@ -21,39 +21,23 @@ const WIDE_CASES: u64 = 4800;
 
 const DRIVER_CASES: u64 = 4000;
 
-// Cases of at most four clocks, of five to eight, and drivers.
-#[derive(Clone, Copy)]
-enum Sort {
-    Narrow,
-    Wide,
-    Driver,
-}
-
-fn case(sort: Sort, number: u64, from: u64, tally: Tally) -> Ended {
-    match sort {
-        Sort::Narrow => made::case(false, number, from, tally),
-        Sort::Wide => made::case(true, number, from, tally),
-        Sort::Driver => driver::case(number, from, tally),
-    }
-}
-
-// So many cases, from the first number of the sequence.
-fn all(sort: Sort, cases: u64, tally: Tally) -> Tally {
+// So many cases of a sort, from the first number of the sequence. An array in a field is read into a variable before it is handed on: the proof of the function asks for it.
+fn all<F: Fn(u64, u64, Tally) -> Ended>(cases: u64, tally: Tally, case: F) -> Tally
+    requires { F.IsAlwaysCallable case }
+{
     let mut e = Ended { last: 1, tally };
-    let mut i = 0;
-    while i < cases {
+    for number in 0..cases {
         let told = e.tally;
-        e = case(sort, i, e.last, told);
-        i += 1;
+        e = case(number, e.last, told);
     }
     let told = e.tally;
     told
 }
 
 fn main(rt: HostRuntime) -> io::Result<()> {
-    let none = [0u64; TALLY_PLACES];
+    let none = [0; TALLY_PLACES];
     let lifted = lift::all(&rt, none)?;
-    report::table(&rt, all(Sort::Narrow, NARROW_CASES, lifted))?;
-    report::wide_table(&rt, all(Sort::Wide, WIDE_CASES, none))?;
-    report::driver_table(&rt, all(Sort::Driver, DRIVER_CASES, none))
+    report::table(&rt, all(NARROW_CASES, lifted, made::narrow_case))?;
+    report::wide_table(&rt, all(WIDE_CASES, none, made::wide_case))?;
+    report::driver_table(&rt, all(DRIVER_CASES, none, driver::case))
 }

@@ -1,7 +1,6 @@
 // The tables of what was counted.
 use crate::tally;
-use cases::report;
-use cases::report::{rows, say};
+use cases::report::{self, rows};
 use cases::tally::Tally;
 use std::io;
 
@@ -111,27 +110,27 @@ fn differences(rt: &impl Print, t: Tally) -> io::Result<()> {
 }
 
 pub fn table(rt: &impl Print, t: Tally) -> io::Result<()> {
-    say(rt, b"Lines of the made sheets\n")?;
+    println!(rt; "Lines of the made sheets")?;
     kinds(rt, t)?;
-    say(rt, b"Answers to opening and observing\n")?;
+    println!(rt; "Answers to opening and observing")?;
     answers(rt, t)?;
     refusals(rt, t)?;
-    say(rt, b"Instants of the made cases\n")?;
+    println!(rt; "Instants of the made cases")?;
     instants(rt, t)?;
-    say(rt, b"Limits met\n")?;
+    println!(rt; "Limits met")?;
     lives(rt, t)?;
     ends(rt, t)?;
-    say(rt, b"The same sheet in another order\n")?;
+    println!(rt; "The same sheet in another order")?;
     others(rt, t)?;
     unlike_sorted(rt, t)?;
-    say(rt, b"Cases and differences\n")?;
+    println!(rt; "Cases and differences")?;
     cases(rt, t)?;
     differences(rt, t)
 }
 
 // Of more than four clocks, exhausted after live 1 has either reason: it is left out.
 pub fn wide_table(rt: &impl Print, t: Tally) -> io::Result<()> {
-    say(rt, b"Wide sheets, five to eight clocks\n")?;
+    println!(rt; "Wide sheets, five to eight clocks")?;
     cases(rt, t)?;
     rows(
         rt,
@@ -153,9 +152,8 @@ pub fn wide_table(rt: &impl Print, t: Tally) -> io::Result<()> {
 
 // Records of one list, sent by a driver.
 pub fn driver_table(rt: &impl Print, t: Tally) -> io::Result<()> {
-    say(
-        rt,
-        b"Drivers that send numbered records of one list, and drop, repeat, reorder and resend them\n",
+    println!(rt;
+        "Drivers that send numbered records of one list, and drop, repeat, reorder and resend them"
     )?;
     cases(rt, t)?;
     rows(

@@ -1,4 +1,4 @@
-// The places of what is counted, in the order of the reports.
+// The places of what is counted, in the order of the reports. Numbers and no enum: `cases` counts at an index, and the rows of a report begin at one.
 
 // The kinds of lines.
 pub const SPORADIC: usize = 0;

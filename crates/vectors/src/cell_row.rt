@@ -1,87 +1,94 @@
-// A row of cells: sheets of lines of one kind, and of each 'taken' or the number of the refusal.
-use crate::fields::number_of;
-use crate::tape::{Tape, front, tape_of, with};
-use crate::text::{byte, end, say};
+// Rows of cells: sheets of lines of one kind, and of each 'taken' or the number of the refusal.
+use crate::fields::byte_of;
+use crate::tape::Tape;
 use crate::values::body_length;
-use crate::words;
-use records::record::Decision;
 use records::sheet::read_sheet;
+use std::cmp::Ordering;
 use std::io;
+
+// The clocks record of a sheet.
+fn clocks(n: u8) -> Tape {
+    let mut t = Tape::empty();
+    t.put(&[1, 0, 1, 0, n]);
+    t
+}
 
 // A byte of a body, of the three told: before a place, there, and behind it.
 fn body_byte(three: [u8; 3], i: usize, at: usize) -> u8 {
-    if i < at {
-        return three[0];
+    match i.cmp(&at) {
+        Ordering::Less => three[0],
+        Ordering::Equal => three[1],
+        Ordering::Greater => three[2],
     }
-    if i == at {
-        return three[1];
-    }
-    three[2]
 }
 
-// A tape with a line of a kind after it.
-fn with_line(t: Tape, kind: u8, len: usize, at: usize, three: [u8; 3]) -> Tape {
-    let mut longer = with(t, &[(len % 256) as u8, 0, kind, 0]);
-    let mut i = 0;
-    while i < len {
-        longer = with(longer, &[body_byte(three, i, at)]);
-        i += 1;
+// Puts a line of a kind behind a tape.
+fn put_line(t: &mut Tape, kind: u8, len: u8, at: usize, three: [u8; 3]) {
+    t.put(&[len, 0, kind, 0]);
+    for i in 0..usize::from(len) {
+        t.put(&[body_byte(three, i, at)]);
     }
-    longer
 }
 
-// The sheet of a cell: a line of a length, its body all 0; a line with 2 at a place of its body, for two clocks; or two lines for three clocks, 1 then 2 at a place and behind it 2 then 1, and these exchanged.
-fn sheet(what: u8, kind: u8, at: usize) -> Tape {
-    let len = body_length(kind);
-    match what {
-        words::LENGTH => with_line(tape_of(b"01 00 01 00 01"), kind, at, at, [0, 0, 0]),
-        words::CLOCK => with_line(tape_of(b"01 00 01 00 02"), kind, len, at, [0, 2, 0]),
-        words::TWICE => {
-            let t = with_line(tape_of(b"01 00 01 00 03"), kind, len, at, [1, 1, 2]);
-            with_line(t, kind, len, at, [1, 2, 1])
+// A line of a length, its body all 0.
+fn of_length(kind: u8, len: u8) -> Tape {
+    let mut t = clocks(1);
+    put_line(&mut t, kind, len, 0, [0; 3]);
+    t
+}
+
+// A line with 2 at a place of its body, for two clocks.
+fn with_clock(kind: u8, at: u8) -> Tape {
+    let mut t = clocks(2);
+    put_line(&mut t, kind, body_length(kind), usize::from(at), [0, 2, 0]);
+    t
+}
+
+// Two lines for three clocks.
+fn two_lines(kind: u8, at: u8, first: [u8; 3], second: [u8; 3]) -> Tape {
+    let mut t = clocks(3);
+    put_line(&mut t, kind, body_length(kind), usize::from(at), first);
+    put_line(&mut t, kind, body_length(kind), usize::from(at), second);
+    t
+}
+
+// A cell for the sheet of each of so many lengths, or of each place of the body.
+fn cells<F: Fn(u8) -> Tape>(rt: &impl Print, count: u8, sheet: F) -> io::Result<()>
+    requires { F.IsAlwaysCallable sheet }
+{
+    print!(rt; ":")?;
+    for at in 0..count {
+        match read_sheet(sheet(at).told()) {
+            Err(refusal) => print!(rt; " {}", u8::from(refusal))?,
+            Ok(_) => print!(rt; " taken")?,
         }
-        _ => {
-            let t = with_line(tape_of(b"01 00 01 00 03"), kind, len, at, [1, 2, 1]);
-            with_line(t, kind, len, at, [1, 1, 2])
-        }
-    }
-}
-
-// 'taken' or the number of the refusal, a space before it.
-fn cell(rt: &impl Print, t: Tape) -> io::Result<()> {
-    say(rt, b" ")?;
-    let bytes = t.bytes;
-    let r = read_sheet(front(&bytes, t.len));
-    let answer = r.answer;
-    match answer {
-        Decision::Refused(n) => byte(rt, n),
-        Decision::Done => say(rt, b"taken"),
-    }
-}
-
-// A cell for each place of the body, or for each of so many lengths.
-fn cells(rt: &impl Print, what: u8, kind: u8, count: usize) -> io::Result<()> {
-    say(rt, b":")?;
-    let mut at = 0;
-    while at < count {
-        cell(rt, sheet(what, kind, at))?;
-        at += 1;
     }
     Ok(())
 }
 
-pub fn cell_row(rt: &impl Print, what: u8, name: &[u8], fields: &[u8]) -> io::Result<()> {
-    let kind = (number_of(fields) % 256) as u8;
-    say(rt, b"  ")?;
-    say(rt, name)?;
-    match what {
-        words::LENGTH => cells(rt, what, kind, 8)?,
-        words::CLOCK => cells(rt, what, kind, body_length(kind))?,
-        _ => {
-            cells(rt, what, kind, body_length(kind))?;
-            say(rt, b"; exchanged")?;
-            cells(rt, words::EXCHANGED, kind, body_length(kind))?;
-        }
-    }
-    end(rt)
+// A line of each length from 0 to 7.
+pub fn length_row(rt: &impl Print, name: &str, fields: &str) -> io::Result<()> {
+    let kind = byte_of(fields);
+    print!(rt; "  {name}")?;
+    cells(rt, 8, |len| of_length(kind, len))?;
+    println!(rt)
+}
+
+// 2 at each place of the body.
+pub fn clock_row(rt: &impl Print, name: &str, fields: &str) -> io::Result<()> {
+    let kind = byte_of(fields);
+    print!(rt; "  {name}")?;
+    cells(rt, body_length(kind), |at| with_clock(kind, at))?;
+    println!(rt)
+}
+
+// Two lines, 1 then 2 at each place of the body and behind it 2 then 1; and these exchanged.
+pub fn twice_row(rt: &impl Print, name: &str, fields: &str) -> io::Result<()> {
+    let kind = byte_of(fields);
+    let length = body_length(kind);
+    print!(rt; "  {name}")?;
+    cells(rt, length, |at| two_lines(kind, at, [1, 1, 2], [1, 2, 1]))?;
+    print!(rt; "; exchanged")?;
+    cells(rt, length, |at| two_lines(kind, at, [1, 2, 1], [1, 1, 2]))?;
+    println!(rt)
 }

@@ -6,7 +6,7 @@ use std::io;
 fn reading(rt: &impl Print) -> io::Result<()> {
     rows(
         rt,
-        b"#|Lines that count
+        "#|Lines that count
 read|counts at their ends|01 00 01 00 01, 04 00 18 00 00 00 00 01, 04 00 18 00 00 00 00 FF|lines
 read|each clock another, then two the same|01 00 01 00 08, 04 00 18 00 05 06 07 08, 04 00 18 00 05 07 05 09, 04 00 18 00 06 06 05 02, 04 00 18 00 06 07 07 80|lines
 any|falling, a line twice, in any order|01 00 01 00 02, 04 00 18 00 01 00 00 01, 04 00 18 00 00 01 01 02, 04 00 18 00 01 00 00 01|lines
@@ -37,7 +37,7 @@ read|a count of 0, a byte short|01 00 01 00 02, 04 00 18 00 00 01 00",
 fn writing(rt: &impl Print) -> io::Result<()> {
     rows(
         rt,
-        b"#|Lines that count, to write
+        "#|Lines that count, to write
 write|just a line|192|02 01, 18 01 00 01 C8
 write|a count of 0|192|02 01, 18 00 01 00 00
 write|A = 2 of 2|192|02 01, 18 02 00 00 01

@@ -6,7 +6,7 @@ use std::io;
 pub fn all(rt: &impl Print) -> io::Result<()> {
     rows(
         rt,
-        b"#|Instant values to write
+        "#|Instant values to write
 fill|listing 1|192|02, 20 00 00, 01 FD FF
 fill|listing 1, just room|10|02, 20 00 00, 01 FD FF
 fill|listing 1, room a byte short|9|02, 20 00 00, 01 FD FF

@@ -6,7 +6,7 @@ use std::io;
 fn records(rt: &impl Print) -> io::Result<()> {
     rows(
         rt,
-        b"#|Instants to read
+        "#|Instants to read
 instant|listing 1|2|06 00 20 00 01 FD FF 00 00 00
 instant|listing 2|2|06 00 20 00 02 FE FF 00 00 00
 instant|listing 3|2|06 00 20 00 00 FF FF 01 00 00
@@ -39,7 +39,7 @@ instant|a byte after it, tick byte 3|1|03 00 20 00 03 00 00, 00",
 fn bodies(rt: &impl Print) -> io::Result<()> {
     rows(
         rt,
-        b"#|Instants to read: kind, length, tick bytes
+        "#|Instants to read: kind, length, tick bytes
 instant|kind 31|1|03 00 1F 00 00 00 00
 instant|kind 34|1|03 00 22 00 00 00 00
 instant|kind 288|1|03 00 20 01 00 00 00

@@ -27,7 +27,6 @@ mod text;
 mod unordered;
 mod value_order;
 mod values;
-mod words;
 mod write_row;
 
 use std::io;

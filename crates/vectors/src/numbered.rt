@@ -6,7 +6,7 @@ use std::io;
 fn alone(rt: &impl Print) -> io::Result<()> {
     rows(
         rt,
-        b"#|Numbered instants to read
+        "#|Numbered instants to read
 instant|number 0|1|05 00 21 00 00 00 01 FD FF
 instant|number 1|1|05 00 21 00 01 00 01 FD FF
 instant|number 257|1|05 00 21 00 01 01 01 FD FF
@@ -39,7 +39,7 @@ instant|C = 9|9|05 00 21 00 01 00 01 FD FF",
 fn next(rt: &impl Print) -> io::Result<()> {
     rows(
         rt,
-        b"#|The next instant: the number
+        "#|The next instant: the number
 next|number 1, none held|0|05 00 21 00 01 00 01 FD FF
 next|number 0, none held|0|05 00 21 00 00 00 01 FD FF
 next|number 2, none held|0|05 00 21 00 02 00 01 FD FF

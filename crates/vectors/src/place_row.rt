@@ -1,29 +1,18 @@
 // The record at a place of a byte string.
-use crate::fields::{first, number_of, rest};
-use crate::tape::{front, tape_of};
-use crate::text::{case, end, number, say, word};
-use records::record::{Record, record_at};
+use crate::fields::{number_of, parted};
+use crate::tape::tape_of;
+use records::record::record_at;
 use std::io;
 
-pub fn record_case(rt: &impl Print, name: &[u8], bytes: &[u8], at: usize) -> io::Result<()> {
-    case(rt, name)?;
-    say(rt, b"at ")?;
-    number(rt, at)?;
+pub fn record_case(rt: &impl Print, name: &str, bytes: &[u8], at: usize) -> io::Result<()> {
+    print!(rt; "  {name}: at {at}")?;
     match record_at(bytes, at) {
-        Record::Torn => say(rt, b" torn")?,
-        Record::Whole { kind, len } => {
-            say(rt, b" whole, kind ")?;
-            word(rt, kind)?;
-            say(rt, b", length ")?;
-            number(rt, len)?;
-        }
+        None => println!(rt; " torn"),
+        Some(record) => println!(rt; " whole, kind {}, length {}", record.kind, record.len),
     }
-    end(rt)
 }
 
-pub fn place_row(rt: &impl Print, name: &[u8], fields: &[u8]) -> io::Result<()> {
-    let at = number_of(first(fields));
-    let t = tape_of(rest(fields));
-    let bytes = t.bytes;
-    record_case(rt, name, front(&bytes, t.len), at)
+pub fn place_row(rt: &impl Print, name: &str, fields: &str) -> io::Result<()> {
+    let (at, text) = parted(fields);
+    record_case(rt, name, tape_of(text).told(), number_of(at))
 }

@@ -6,7 +6,7 @@ use std::io;
 pub fn all(rt: &impl Print) -> io::Result<()> {
     rows(
         rt,
-        b"#|Records at a place
+        "#|Records at a place
 place|no bytes|0|
 place|no bytes|1|
 place|three bytes|0|00 00 01

@@ -1,101 +1,91 @@
 // Room to write into, marked so that a byte that was written shows.
 use crate::tape::front;
-use crate::text::{counted, either, listing, number, refused, say};
-use records::record::Written;
+use crate::text::{counted, listing};
+use records::refusal::Refusal;
 use std::io;
 
 // How many bytes it has.
 pub const ROOM: usize = 192;
 
+// What each of its bytes is before.
+const MARK: u8 = 0xA5;
+
 pub fn marked() -> [u8; ROOM] {
-    [0xA5; ROOM]
+    [MARK; ROOM]
 }
 
-// Whether the bytes from n on are as they were.
-fn rest_as_before(room: [u8; ROOM], n: usize) -> bool {
-    if ROOM < n {
-        return false;
+// What became of the bytes from n on, in a word.
+fn rest_of(room: &[u8; ROOM], n: usize) -> &'static str {
+    if room.iter().skip(n).all(|x| *x == MARK) {
+        "untouched"
+    } else {
+        "changed"
     }
-    let before = marked();
-    &room[n..] == &before[n..]
 }
 
 // What came of writing back what was read from `bytes`.
 pub fn written_back(
     rt: &impl Print,
-    written: Written,
-    room: [u8; ROOM],
+    written: Result<usize, Refusal>,
+    room: &[u8; ROOM],
     bytes: &[u8],
 ) -> io::Result<()> {
     match written {
-        Written::Refused(n) => {
-            say(rt, b", writing back ")?;
-            refused(rt, n)?;
-        }
-        Written::Bytes(n) => {
-            say(rt, b", ")?;
-            counted(rt, n, b"byte")?;
-            say(rt, b" written back, ")?;
-            either(rt, front(&room, n) == bytes, b"same bytes", b"other bytes")?;
-            either(
-                rt,
-                rest_as_before(room, n),
-                b", rest untouched",
-                b", rest changed",
-            )?;
+        Err(refusal) => print!(rt; ", writing back refused {}", u8::from(refusal)),
+        Ok(n) => {
+            let same = if front(room, n) == bytes {
+                "same"
+            } else {
+                "other"
+            };
+            let rest = rest_of(room, n);
+            print!(rt; ", ")?;
+            counted(rt, n, "byte")?;
+            print!(rt; " written back, {same} bytes, rest {rest}")
         }
     }
-    Ok(())
 }
 
 // 'written' with how many bytes, or the refusal.
-fn answer(rt: &impl Print, written: Written) -> io::Result<()> {
+fn answer(rt: &impl Print, written: Result<usize, Refusal>) -> io::Result<()> {
     match written {
-        Written::Refused(n) => refused(rt, n)?,
-        Written::Bytes(n) => {
-            say(rt, b"written ")?;
-            number(rt, n)?;
-        }
+        Err(refusal) => print!(rt; "refused {}", u8::from(refusal)),
+        Ok(n) => print!(rt; "written {n}"),
     }
-    Ok(())
 }
 
 // What came of writing a value, and what the room holds.
-pub fn outcome(rt: &impl Print, written: Written, room: [u8; ROOM]) -> io::Result<()> {
+pub fn outcome(
+    rt: &impl Print,
+    written: Result<usize, Refusal>,
+    room: &[u8; ROOM],
+) -> io::Result<()> {
     answer(rt, written)?;
     match written {
-        Written::Refused(_) => {
-            either(
-                rt,
-                rest_as_before(room, 0),
-                b", buffer untouched",
-                b", buffer changed",
-            )?;
+        Err(_) => {
+            let rest = rest_of(room, 0);
+            println!(rt; ", buffer {rest}")
         }
-        Written::Bytes(n) => {
-            either(
-                rt,
-                rest_as_before(room, n),
-                b", rest untouched",
-                b", rest changed",
-            )?;
-            say(rt, b":")?;
-            listing(rt, front(&room, n))?;
+        Ok(n) => {
+            let rest = rest_of(room, n);
+            print!(rt; ", rest {rest}:")?;
+            listing(rt, front(room, n))?;
+            println!(rt)
         }
     }
-    Ok(())
 }
 
 // What came of writing two values, and whether the rooms hold the same bytes.
 pub fn both(
     rt: &impl Print,
-    first: Written,
-    one: [u8; ROOM],
-    second: Written,
-    other: [u8; ROOM],
+    first: Result<usize, Refusal>,
+    one: &[u8; ROOM],
+    second: Result<usize, Refusal>,
+    other: &[u8; ROOM],
 ) -> io::Result<()> {
+    let bytes = if one == other { "same" } else { "different" };
     answer(rt, first)?;
-    say(rt, b" and ")?;
+    print!(rt; " and ")?;
     answer(rt, second)?;
-    either(rt, one == other, b", same bytes", b", different bytes")
+    println!(rt; ", {bytes} bytes")
 }

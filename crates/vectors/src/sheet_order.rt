@@ -6,7 +6,7 @@ use std::io;
 pub fn all(rt: &impl Print) -> io::Result<()> {
     rows(
         rt,
-        b"#|Sheets to read: the order of lines
+        "#|Sheets to read: the order of lines
 read|t = 256, then t = 1|01 00 01 00 02, 04 00 10 00 00 01 00 01, 04 00 10 00 00 01 01 00
 read|t = 1, then t = 256|01 00 01 00 02, 04 00 10 00 00 01 01 00, 04 00 10 00 00 01 00 01
 read|t = 1, then t = -1|01 00 01 00 02, 04 00 10 00 00 01 01 00, 04 00 10 00 00 01 FF FF

@@ -6,7 +6,7 @@ use std::io;
 fn one_fault(rt: &impl Print) -> io::Result<()> {
     rows(
         rt,
-        b"#|Sheets to read: a torn record
+        "#|Sheets to read: a torn record
 read|no bytes|
 read|1 byte|01
 read|2 bytes|01 00
@@ -41,7 +41,7 @@ read|an instant|01 00 01 00 01, 03 00 20 00 00 00 00",
 fn two_faults(rt: &impl Print) -> io::Result<()> {
     rows(
         rt,
-        b"#|Sheets to read: two faults
+        "#|Sheets to read: two faults
 read|torn, and not the clocks|02 00 02 00 02
 read|not the clocks, wrong length|02 00 02 00 02 00
 read|wrong length, C = 9|02 00 01 00 09 00

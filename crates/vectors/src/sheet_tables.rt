@@ -6,7 +6,7 @@ use std::io;
 pub fn all(rt: &impl Print) -> io::Result<()> {
     rows(
         rt,
-        b"#|Sheets to read: the length of a line
+        "#|Sheets to read: the length of a line
 length|kind 15 at lengths 0 to 7|15
 length|kind 16 at lengths 0 to 7|16
 length|kind 17 at lengths 0 to 7|17

@@ -6,7 +6,7 @@ use std::io;
 fn sizes(rt: &impl Print) -> io::Result<()> {
     rows(
         rt,
-        b"#|Sheet values to write
+        "#|Sheet values to write
 write|the listing|192|02 01, 14 00 00 01 02 00
 write|the listing, just room|14|02 01, 14 00 00 01 02 00
 write|the listing, room a byte short|13|02 01, 14 00 00 01 02 00
@@ -29,7 +29,7 @@ write|counted by 255|192|01 01, 18 00 00 00 FF",
 fn limits(rt: &impl Print) -> io::Result<()> {
     rows(
         rt,
-        b"#|Sheet values to write: limits
+        "#|Sheet values to write: limits
 write|C = 0|192|00 00, 12 00 01
 write|C = 9|192|09 01, 12 00 01
 write|17 lines|192|08 11, 12 00 00 08+, 12 01 00 08+

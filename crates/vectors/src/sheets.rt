@@ -6,7 +6,7 @@ use std::io;
 pub fn all(rt: &impl Print) -> io::Result<()> {
     rows(
         rt,
-        b"#|Sheets to read
+        "#|Sheets to read
 read|the listing|01 00 01 00 02, 05 00 14 00 00 00 01 02 00|lines
 read|all nine kinds|01 00 01 00 03, 04 00 10 00 00 01 FD FF, 06 00 11 00 00 01 3C 00 FF FF, 02 00 12 00 01 02, 02 00 13 00 02 00, 05 00 14 00 00 01 02 64 00, 02 00 15 00 00 02, 02 00 16 00 01 00, 02 00 17 00 02 01, 04 00 18 00 00 01 02 03|lines
 read|t, p, q and d at their ends|01 00 01 00 01, 04 00 10 00 00 00 00 80, 04 00 10 00 00 00 FF 7F, 06 00 11 00 00 00 00 80 FF 7F, 06 00 11 00 00 00 FF FF 00 00, 05 00 14 00 00 00 00 00 00, 05 00 14 00 00 00 00 FF FF|lines

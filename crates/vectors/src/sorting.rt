@@ -6,7 +6,7 @@ use std::io;
 pub fn all(rt: &impl Print) -> io::Result<()> {
     rows(
         rt,
-        b"#|Sheets to sort
+        "#|Sheets to sort
 sort|eight clocks, no line|192|01 00 01 00 08
 sort|t = 1, then t = 256|192|01 00 01 00 02, 04 00 10 00 00 01 01 00, 04 00 10 00 00 01 00 01
 sort|t = 256, then t = 1|192|01 00 01 00 02, 04 00 10 00 00 01 00 01, 04 00 10 00 00 01 01 00

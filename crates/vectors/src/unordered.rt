@@ -6,7 +6,7 @@ use std::io;
 pub fn all(rt: &impl Print) -> io::Result<()> {
     rows(
         rt,
-        b"#|Sheets to read in any order
+        "#|Sheets to read in any order
 any|t = 256, then t = 1|01 00 01 00 02, 04 00 10 00 00 01 00 01, 04 00 10 00 00 01 01 00|lines
 any|t = 1, then t = 256|01 00 01 00 02, 04 00 10 00 00 01 01 00, 04 00 10 00 00 01 00 01|lines
 any|a repeated line, and a clock in both places|01 00 01 00 08, 02 00 13 00 07 07, 02 00 13 00 07 07|lines

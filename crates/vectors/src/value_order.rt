@@ -6,7 +6,7 @@ use std::io;
 pub fn all(rt: &impl Print) -> io::Result<()> {
     rows(
         rt,
-        b"#|Sheet values to write: the order of lines
+        "#|Sheet values to write: the order of lines
 write|t = 256, then t = 1|192|02 02, 10 00 01 00 01, 10 00 01 01 00
 write|t = 1, then t = 256|192|02 02, 10 00 01 01 00, 10 00 01 00 01
 write|t = 1, then t = -1|192|02 02, 10 00 01 01 00, 10 00 01 FF FF

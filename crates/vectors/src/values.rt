@@ -1,9 +1,8 @@
 // Sheet values and instant values, put together from bytes.
 use crate::tape::{behind, byte_at};
-use crate::text::wide;
 use records::form::Form;
-use records::instant::{Instant, Tick, TickSlot};
-use records::line::{Line, Slot};
+use records::instant::{Instant, Tick};
+use records::line::Line;
 use records::sheet::Sheet;
 use records::word::tag_of;
 
@@ -16,11 +15,11 @@ const CLOCKS: usize = 4;
 // The number of the bytes at a place and behind it, the low one first.
 fn word_at(bytes: &[u8], at: usize) -> u16 {
     let rest = behind(bytes, at);
-    (byte_at(rest, 0) as u16) + (byte_at(rest, 1) as u16) * 256
+    u16::from_le_bytes([byte_at(rest, 0), byte_at(rest, 1)])
 }
 
 // How many bytes the body of a line of a kind has.
-pub fn body_length(kind: u8) -> usize {
+pub fn body_length(kind: u8) -> u8 {
     match kind {
         16 => 4,
         17 => 6,
@@ -70,31 +69,26 @@ fn line_of(line: &[u8]) -> Line {
 
 // Where the line behind the one at a place begins; behind the last it is the first again.
 fn next_line(bytes: &[u8], at: usize) -> usize {
-    if bytes.len() <= at {
-        return LINES;
+    match bytes.get(at) {
+        None => LINES,
+        Some(kind) => {
+            let next = at + 1 + usize::from(body_length(*kind));
+            if next < bytes.len() { next } else { LINES }
+        }
     }
-    let next = std::num::wrapping_add_usize(at + 1, body_length(bytes[at]));
-    if bytes.len() <= next {
-        return LINES;
-    }
-    next
 }
 
 // A sheet value: its clock count, its line count, and the lines at its places, each by its kind and its body; places behind the last begin again with the first.
 pub fn sheet_of(bytes: &[u8]) -> Sheet {
-    let line = line_of(behind(bytes, LINES));
-    let mut lines = [Slot { line }; 16];
+    let mut lines = [line_of(behind(bytes, LINES)); 16];
     let mut at = LINES;
-    let mut i = 0;
-    while i < 16 {
-        let line = line_of(behind(bytes, at));
-        lines[i] = Slot { line };
+    for line in &mut lines {
+        *line = line_of(behind(bytes, at));
         at = next_line(bytes, at);
-        i += 1;
     }
     Sheet {
         clocks: byte_at(bytes, 0),
-        count: wide(byte_at(bytes, 1)),
+        count: usize::from(byte_at(bytes, 1)),
         lines,
     }
 }
@@ -117,15 +111,12 @@ fn form_of(kind: u8, number: u16) -> Form {
 // An instant value behind the clock count that it is written with: its kind, its number, and the tick and the tag of each clock.
 pub fn instant_of(bytes: &[u8]) -> Instant {
     let form = form_of(byte_at(bytes, 1), word_at(bytes, 2));
-    let mut ticks = [TickSlot { tick: Tick::Idle }; 8];
-    let mut tags = [0i16; 8];
-    let mut i = 0;
-    while i < 8 {
+    let mut ticks = [Tick::Idle; 8];
+    let mut tags = [0; 8];
+    for i in 0..8 {
         let cell = behind(bytes, CLOCKS + 3 * i);
-        let tick = tick_of(byte_at(cell, 0));
-        ticks[i] = TickSlot { tick };
+        ticks[i] = tick_of(byte_at(cell, 0));
         tags[i] = tag_of(word_at(cell, 1));
-        i += 1;
     }
     Instant { form, ticks, tags }
 }

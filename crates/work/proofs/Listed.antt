@@ -7,10 +7,9 @@ use Prim.Native.Nat.{ℕ, zero, suc, ◌+◌, ◌<◌, ◌≤◌}
 use native.Mathlib.Nat.{zero-add, le_trans}
 use native.Mathlib.Omega.{arith}
 use lib.IntN.{ℤ}
-use lib.ListN.{length, get_or, set, replicate, take, length-append, length-map, length-take}
+use lib.ListN.{length, get_or, set, replicate, take, length-append, length-take}
 use Rattle.records.specs.declared.instant.Tick.{Tick}
 use Rattle.records.specs.declared.instant.Tick.TheVariants.{Idle, Ticks, Unseen}
-use Rattle.records.specs.declared.instant.TickSlot.{TickSlot}
 use Rattle.records.specs.declared.line.Line.{Line}
 use Rattle.records.specs.Lists.{listed_from}
 use Rattle.records.specs.Sheet.{SheetValue}
@@ -75,12 +74,12 @@ length-relevant : (p : ℕ → Bool) (k : ℕ) (seen : List Tick) → length (re
 length-relevant p k [] = refl
 length-relevant p k (t ∷ seen) = ap suc (length-relevant p (k + 1) seen)
 
-pub at-most-256 : (flags : List Bool) (seen : List TickSlot) (c : ℕ) (ticks : List Bool) → c ≤ 8 → 0 + length (fillings_left flags seen c 0 ticks) ≤ 256
+pub at-most-256 : (flags : List Bool) (seen : List Tick) (c : ℕ) (ticks : List Bool) → c ≤ 8 → 0 + length (fillings_left flags seen c 0 ticks) ≤ 256
 at-most-256 flags seen c ticks h =
     rw zero-add
-    (few 8 0 (relevant_only (λ j. get_or flags j true) 0 (seen_of c seen)) ticks (omega (arith, length-relevant (λ j. get_or flags j true) 0 (seen_of c seen), length-map (take c seen) (λ (t : TickSlot). t.tick), length-take c seen)))
+    (few 8 0 (relevant_only (λ j. get_or flags j true) 0 (seen_of c seen)) ticks (omega (arith, length-relevant (λ j. get_or flags j true) 0 (seen_of c seen), length-take c seen)))
 
-pub few-listed : (flags : List Bool) (seen : List TickSlot) (c : ℕ) (ticks : List Bool) {m : ℕ} → c ≤ 8 → m ≤ 0 + length (fillings_left flags seen c 0 ticks) → m ≤ 256
+pub few-listed : (flags : List Bool) (seen : List Tick) (c : ℕ) (ticks : List Bool) {m : ℕ} → c ≤ 8 → m ≤ 0 + length (fillings_left flags seen c 0 ticks) → m ≤ 256
 few-listed flags seen c ticks h l = le_trans l (at-most-256 flags seen c ticks h)
 
 -- ---- an instant
@@ -92,7 +91,7 @@ module _ (room : ℕ) (v : SheetValue) (tags : List ℤ) (rs : List Remainder) w
   filled-listed : (seen : List Tick) (ticks : List Bool) (found : Option (List Remainder)) → fill_from (filling room v tags rs) 0 seen ticks found ≡ taken_by (by_filling room v tags rs) (filter (allowed (filter is_rule v.lines)) (fillings_from 0 seen ticks)) found
   filled-listed seen ticks found = fill-taken (filling room v tags rs) 0 seen ticks found ∙ taken-filter (filling room v tags rs) (by_filling room v tags rs) (allowed (filter is_rule v.lines)) filling-allowed (fillings_from 0 seen ticks) found
 
-module _ (room : ℕ) (v : SheetValue) (last : Option (List ℤ)) (ticks : List TickSlot) (tags : List ℤ) where
+module _ (room : ℕ) (v : SheetValue) (last : Option (List ℤ)) (ticks : List Tick) (tags : List ℤ) where
   abbrev seen : List Tick
   seen = seen_of v.clocks ticks
 

@@ -4,7 +4,6 @@ use Rattle.records.specs.declared.line.Line.{Line}
 use Rattle.records.specs.declared.line.Line.TheVariants.{Sporadic, Relation, Implies, Excludes, Delayed, Weakly, Strictly, Kills, Counted}
 use Rattle.records.specs.declared.instant.Tick.{Tick}
 use Rattle.records.specs.declared.instant.Tick.TheVariants.{Idle, Ticks, Unseen}
-use Rattle.records.specs.declared.instant.TickSlot.{TickSlot}
 use Rattle.tesl.specs.Lists.{flat_map}
 use Rattle.tesl.specs.Fits.{Obligation, Countdown}
 use Rattle.tesl.specs.Remainder.{Remainder}
@@ -53,5 +52,5 @@ relevant_only p k [] = []
 relevant_only p k (t ∷ left) = tick_if_relevant (p k) t ∷ relevant_only p (k + 1) left
 
 -- of the clocks from k on; an unseen tick of a clock without a flag counts as idle
-abbrev pub fillings_left : List Bool → List TickSlot → ℕ → ℕ → List Bool → List (List Bool)
+abbrev pub fillings_left : List Bool → List Tick → ℕ → ℕ → List Bool → List (List Bool)
 fillings_left flags seen clocks k ticks = fillings_from k (relevant_only (λ j. get_or flags j true) k (drop k (seen_of clocks seen))) ticks

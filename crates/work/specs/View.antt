@@ -2,7 +2,6 @@
 use Rattle.std.specs.Prelude.{Bool, true, false, cond, List, [], map, ℕ, ℤ, take}
 use Rattle.std.proofs.Math.Option.{Option, none, some}
 use Rattle.records.specs.declared.instant.Tick.{Tick}
-use Rattle.records.specs.declared.instant.TickSlot.{TickSlot}
 use Rattle.records.specs.declared.line.Line.{Line}
 use Rattle.records.specs.Line.{of_precedes}
 use Rattle.records.specs.Sheet.{SheetValue}
@@ -15,8 +14,8 @@ abbrev pub filled_of : List Bool → List ℤ → Filled
 filled_of ticks tags = record { ticks = ticks; tags = tags }
 
 -- the ticks of an instant of c clocks
-abbrev pub seen_of : ℕ → List TickSlot → List Tick
-seen_of c seen = map (λ (t : TickSlot). t.tick) (take c seen)
+abbrev pub seen_of : ℕ → List Tick → List Tick
+seen_of c seen = take c seen
 
 -- the last tags, of all eight clocks; none before the first instant
 abbrev pub tags_before : Bool → List ℤ → Option (List ℤ)

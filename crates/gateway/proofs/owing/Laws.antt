@@ -14,7 +14,8 @@ use Rattle.tesl.specs.Answer.{Answer, exhausted, broken, holding, remainders, an
 use Rattle.tesl.specs.Machine.{list_after_calls, session, LogResult, calls_of, judge_log}
 use Rattle.work.specs.View.{held_list}
 use Rattle.judge.specs.declared.answer.Answer as code
-use Rattle.judge.specs.declared.answer.Reply.TheVariants as reply
+use Rattle.std.specs.Prelude.{Result, Ok, Err}
+use Rattle.records.specs.declared.refusal.Refusal.{Refusal}
 use Rattle.judge.specs.declared.monitor.Monitor.{Monitor}
 use Rattle.judge.specs.Answer.{reply_of}
 use Rattle.judge.specs.Limits.{monitor_within}
@@ -23,9 +24,8 @@ use Rattle.judge.specs.Promises.{Follows}
 use Rattle.logs.specs.Log.{FollowsLog}
 use Rattle.logs.proofs.log.Opening.{follows-whole}
 use Rattle.logs.specs.declared.log.LastMonitor.{LastMonitor}
-use Rattle.panel.specs.declared.Panel.{Panel}
-use Rattle.panel.specs.declared.Panel.TheVariants as shown
-use Rattle.panel.specs.Panel.{owes_clock, panel_of, panel_count}
+use Rattle.records.specs.Outcome.{outcome_of}
+use Rattle.panel.specs.Panel.{owes_clock, panel_count}
 use Rattle.panel.proofs.Run.{within_count, panel-of-run}
 use Rattle.gateway.specs.Result.{number_of, packed, unless_refused, shown_count, unless_exhausted, owing_in, owing_of, shown_code}
 use Rattle.gateway.specs.Inner.{OwingAfter}
@@ -43,13 +43,13 @@ count-few p (x ∷ xs) = by-test (p x) (count-few p xs)
     by-test false h = omega arith
 
 -- what a monitor's panel shows
-module _ (m : Monitor) (clock : ℕ) {x : Panel} (p : panel_of x ≡ panel_count clock m) where
-  pub shown-small : {n : ℕ} → x ≡ shown.Count n → n ≤ 32
+module _ (m : Monitor) (clock : ℕ) {x : Result ℕ Refusal} (p : outcome_of x ≡ panel_count clock m) where
+  pub shown-small : {n : ℕ} → x ≡ Ok n → n ≤ 32
   unfolding panel_count
   shown-small {n} q = by-limits (monitor_within m) refl
     where
       same : taken n ≡ panel_count clock m
-      same = sym (ap panel_of q) ∙ p
+      same = sym (ap outcome_of q) ∙ p
 
       by-limits : (b : Bool) → monitor_within m ≡ b → n ≤ 32
       by-limits false e = let k : panel_count clock m ≡ refused 11 = rw e in refused-taken (sym k ∙ sym same)
@@ -57,12 +57,6 @@ module _ (m : Monitor) (clock : ℕ) {x : Panel} (p : panel_of x ≡ panel_count
           let k = same ∙ within_count clock m e in
           let f : n ≡ count (owes_clock clock) (held_list (held_by m)) = cc in
           omega (arith, f, count-few (owes_clock clock) (held_list (held_by m)), held-few m e)
-
-  pub shown-counted : {n : ℕ} → x ≡ shown.Count n → n ≡ shown_count (panel_count clock m)
-  shown-counted q = ap shown_count (sym (ap panel_of q) ∙ p)
-
-  pub shown-none : {n : ℕ} → x ≡ shown.Refused n → 0 ≡ shown_count (panel_count clock m)
-  shown-none q = ap shown_count (sym (ap panel_of q) ∙ p)
 
 -- of a monitor that follows a run
 pub owing-shown : (clock : ℕ) (s : SheetValue) (run : List Instant) (m : Monitor) → Follows s run m → panel_count clock m ≡ taken (owing_in clock s run)
@@ -76,16 +70,18 @@ owing-shown clock s run m f = by_answer (answer s run) refl
 
 -- ---- after a log
 module _ (last : LastMonitor) (clock : ℕ) where
-  pub owing-refused : {n : ℕ} → last.reply ≡ reply.Refused n → OwingAfter last clock 0
-  owing-refused e = record { none = λ k q. refl; owing = λ a q. refused-taken (sym (ap reply_of e) ∙ q) }
-
-  pub owing-counted : {a : code.Answer} → last.reply ≡ reply.Answered a → {n : ℕ} → n ≡ shown_count (panel_count clock last.monitor) → OwingAfter last clock n
+  pub owing-counted : {a : code.Answer} → last.reply ≡ Ok a → {n : ℕ} → n ≡ shown_count (panel_count clock last.monitor) → OwingAfter last clock n
   owing-counted e q = record {
     none = λ k r. refused-taken (sym r ∙ ap reply_of e);
     owing = λ b r s run f. q ∙ ap shown_count (owing-shown clock s run last.monitor f);
   }
 
--- ---- the exported call
+-- ---- the exported calls
+
+-- an answer as the code has it is refused with the same number
+pub reply-number : (r : Result code.Answer Refusal) → number_of (outcome_of r) ≡ number_of (reply_of r)
+reply-number (Ok a) = refl
+reply-number (Err why) = refl
 
 module _ (sheet log : List ℕ) (last : LastMonitor) (h : FollowsLog sheet log last) where
   -- a log that is judged to an answer has a sheet

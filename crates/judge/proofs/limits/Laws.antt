@@ -2,15 +2,15 @@
 use mathlib.Core.Bool.{Bool, true, false, ◌&&◌, and-false}
 use mathlib.Core.List.{List, [], ◌∷◌, map}
 use mathlib.Core.Path.{◌≡◌, refl, sym, ap, ap₂, ◌∙◌}
-use Prim.Native.Nat.{ℕ, ◌≤◌}
-use native.Mathlib.Omega.{arith}
+use Prim.Native.Nat.{ℕ, zero, suc, ◌+◌, ◌≤◌}
 use lib.Dec.{leb, ltb}
 use lib.ListN.{length, take}
-use borrow.Author.Tests.{le-leb}
 use Rattle.records.specs.declared.line.Line.{Line}
 use Rattle.records.specs.declared.sheet.Sheet.{Sheet}
+use Rattle.records.specs.Lists.{listed_from}
 use Rattle.records.specs.Sheet.{SheetValue, line_at, sheet_value}
 use Rattle.records.proofs.Lists.{listed-take, length-listed}
+use Rattle.std.specs.List.{list_all, range_with_len}
 use Rattle.tesl.specs.Lists.{all}
 use Rattle.theory.specs.Step.{lines_ok, next_leads}
 use Rattle.theory.specs.Limits.{obligation_ok, least_wanted, most_wanted, countdown_ok, within_limits}
@@ -23,7 +23,11 @@ use Rattle.remainders.specs.Word.{due_of, due_number}
 use Rattle.remainders.specs.View.{obligation_of, countdown_of, owed_of, countdowns_of, view_of}
 use Rattle.judge.specs.Limits.{stored_within, least_due, most_due, set_within, remainder_within}
 use Rattle.remainders.proofs.obligation.Laws.{due-le}
-use Rattle.lines.proofs.tags.Laws.{ok_from, ok-start}
+
+-- what a search of a list answers
+pub all-listed : {A : Type 0} (p : A → Bool) (xs : List A) → list_all p xs ≡ all p xs
+all-listed p [] = refl
+all-listed p (x ∷ xs) = ap (λ (b : Bool). p x && b) (all-listed p xs)
 
 -- ---- obligations
 module _ (c : ℕ) where
@@ -69,10 +73,6 @@ module _ (v : SheetValue) (m : ℕ) (r : arrays.Remainder) {b : Bool} (owed : b 
 
 -- ---- leads
 
--- a line without a lead reads 0
-pub zero-within : (m : ℕ) → true ≡ leb 0 m
-zero-within m = sym (le-leb 0 m (omega arith))
-
 -- the line's lead is within m
 abbrev pub lead_ok : ℕ → Line → ℕ → Bool
 lead_ok m l lead = leb (in_use l lead) m
@@ -87,8 +87,13 @@ module _ (m : ℕ) where
       none (l ∷ ls) = refl
   as-ok (l ∷ ls) (n ∷ leads) = ap (λ (b : Bool). lead_ok m l n && b) (as-ok ls leads)
 
-  -- as the loop begins
-  pub leads-start : (s : Sheet) (leads : List ℕ) → s.count ≤ length leads → all (λ (n : ℕ). leb n m) (next_leads in_use (sheet_value s).lines leads) ≡ ok_from (lead_ok m) s leads s.count 0
-  leads-start s leads h =
-      as-ok (sheet_value s).lines leads
-      ∙ rw (length-listed (line_at s) s.count, sym (listed-take 0 (lead_in leads) s.count leads h (λ i k. refl))) (ok-start (lead_ok m) s leads)
+  -- asked place by place
+  asked : (f : ℕ → Line) (g : ℕ → ℕ) (i n : ℕ) → list_all (λ (k : ℕ). lead_ok m (f k) (g k)) (range_with_len i n) ≡ lines_ok (lead_ok m) (listed_from f i n) (listed_from g i n)
+  unfolding listed_from
+  asked f g i zero = refl
+  asked f g i (suc n) = ap (λ (b : Bool). lead_ok m (f i) (g i) && b) (asked f g (i + 1) n)
+
+  pub leads-asked : (s : Sheet) (leads : List ℕ) → s.count ≤ length leads → list_all (λ (k : ℕ). lead_ok m (line_at s k) (lead_in leads k)) (range_with_len 0 s.count) ≡ all (λ (n : ℕ). leb n m) (next_leads in_use (sheet_value s).lines leads)
+  leads-asked s leads h =
+      asked (line_at s) (lead_in leads) 0 s.count
+      ∙ sym (as-ok (sheet_value s).lines leads ∙ rw (length-listed (line_at s) s.count, sym (listed-take 0 (lead_in leads) s.count leads h (λ i k. refl))))

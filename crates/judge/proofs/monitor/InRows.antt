@@ -1,4 +1,5 @@
 -- A monitor observed in rows, where its remainders were stored: refused as the rows are; and answered, read back, it goes on as the rows do. Assumes nothing.
+use Rattle.std.specs.Prelude.{Result, Ok, Err}
 use mathlib.Core.Bool.{Bool, true}
 use mathlib.Core.List.{List}
 use mathlib.Core.Option.{Option}
@@ -11,7 +12,7 @@ use Rattle.tesl.specs.Run.{Instant}
 use Rattle.tesl.specs.Remainder.{Remainder}
 use Rattle.tesl.specs.Answer.{Answer}
 use Rattle.judge.specs.declared.answer.Answer as code
-use Rattle.judge.specs.declared.answer.Reply.TheVariants as reply
+use Rattle.records.specs.declared.refusal.Refusal.{Refusal}
 use Rattle.lines.specs.declared.plan.Plan.{Plan}
 use Rattle.judge.specs.declared.progress.Progress.{Progress}
 use Rattle.judge.specs.declared.progress.InstantResult.{InstantResult}
@@ -20,14 +21,14 @@ use Rattle.judge.specs.declared.monitor.CallResult.{CallResult}
 use Rattle.judge.specs.Answer.{reply_of, said_by}
 use Rattle.judge.specs.Limits.{monitor_within, Limited}
 use Rattle.lines.specs.Plan.{PlanOf}
-use Rattle.judge.specs.Stored.{StoredHeld, FindingRows, FromRows}
-use Rattle.judge.specs.Monitor.{refusal}
+use Rattle.judge.specs.Stored.{StoredHeld, FromRows}
+use Rattle.judge.specs.Monitor.{refused_call}
 use Rattle.judge.specs.Progress.{rows_monitor, progress_of, given, read_back, ReadBack, Ready, Takes}
 use Rattle.judge.specs.Promises.{observes, Called, Observed}
-use Rattle.judge.proofs.progress.Laws.{same_back, within-back, follows-back, nothing-back, within-stored, follows-stored, ready-stored, found-working}
+use Rattle.judge.proofs.progress.Laws.{same_back, within-back, follows-back, nothing-back, within-stored, follows-stored, ready-stored}
 
 -- an answer is no refusal
-pub answered-refused : {X : Type 0} {a : code.Answer} {n : ℕ} → reply.Answered a ≡ reply.Refused n → X
+pub answered-refused : {X : Type 0} {a : code.Answer} {why : Refusal} → ◌≡◌ {A = Result code.Answer Refusal} (Ok a) (Err why) → X
 answered-refused e = let z : ◌≡◌ {A = ℕ} 0 1 = cc in absurd (omega arith)
 
 -- an answer leaves the monitor within its limits
@@ -36,7 +37,7 @@ answered-within {m} {bytes} {g} o {a} p = by-outcome (observes m bytes) refl
   where
     by-outcome : (x : Outcome Instant) → observes m bytes ≡ x → monitor_within g.monitor ≡ true
     by-outcome (taken i) e = (o.accepts i e).limits
-    by-outcome (refused n) e = refused-taken (sym (ap (λ (x : CallResult). reply_of x.reply) (o.refuses n e)) ∙ p)
+    by-outcome (refused n) e = refused-taken (sym (o.refuses n e).reply ∙ p)
 
 module _ (m : Monitor) (l : Limited m true) {p : Plan} {lines : List ℕ} (plan : PlanOf m.sheet p lines) {blank rows : List ℕ} (storing : StoredHeld m.held.count m.held.remainders blank rows) where
   abbrev before : Monitor
@@ -59,33 +60,30 @@ module _ (m : Monitor) (l : Limited m true) {p : Plan} {lines : List ℕ} (plan 
     ready : Ready m.sheet t.progress p lines out
     ready = o.ready m.sheet starts
 
-    replied : {n : ℕ} → observes m bytes ≡ refused n → t.reply ≡ reply.Refused n
-    replied {n} f = ap (λ (g : CallResult). g.reply) (called.refuses n (sym (same-call bytes) ∙ f))
+    replied : {n : ℕ} → observes m bytes ≡ refused n → reply_of t.reply ≡ refused n
+    replied {n} f = (called.refuses n (sym (same-call bytes) ∙ f)).reply
 
-    none-taken : {n : ℕ} → t.reply ≡ reply.Refused n → {X : Type 0} {i : Instant} → observes m bytes ≡ taken i → X
+    none-taken : {why : Refusal} → t.reply ≡ Err why → {X : Type 0} {i : Instant} → observes m bytes ≡ taken i → X
     none-taken p {i = i} f = refused-taken (ap reply_of (sym p) ∙ (called.accepts i (sym (same-call bytes) ∙ f)).answers)
 
-    pub refused-rows : {g : CallResult} {n : ℕ} → t.reply ≡ reply.Refused n → g ≡ refusal n m → Observed m bytes g
-    refused-rows {g} {n} p q = record {
+    pub refused-rows : {g : CallResult} {why : Refusal} → t.reply ≡ Err why → g ≡ refused_call why m → Observed m bytes g
+    refused-rows {g} p q = record {
       called = record {
-        refuses = λ k f. let y : reply.Refused n ≡ reply.Refused k = sym p ∙ replied f in let z : n ≡ k = cc in rw (← z) q;
+        refuses = λ k f. record { reply = ap (λ (c : CallResult). reply_of c.reply) q ∙ (ap reply_of (sym p) ∙ replied f); monitor = ap (λ (c : CallResult). c.monitor) q };
         accepts = λ i f. none-taken p f;
       };
       unused = λ i f. none-taken p f;
     }
 
-    pub found-next : FindingRows out next.count next.from p
-    found-next = found-working o.room
-
     -- read back
-    module _ {a : code.Answer} (q : t.reply ≡ reply.Answered a) {n : Monitor} (back : ReadBack m.sheet next p n out) where
+    module _ {a : code.Answer} (q : t.reply ≡ Ok a) {n : Monitor} (back : ReadBack m.sheet next p n out) where
       found : FromRows p next.count next.from n.held.remainders out
       found = back.found
 
       observed : Observed m bytes (given t.reply (read_back m.sheet next n.held.remainders))
       observed = record {
         called = record {
-          refuses = λ n f. answered-refused (sym q ∙ replied f);
+          refuses = λ n f. refused-taken (sym (replied f) ∙ ap reply_of q);
           accepts = λ i f.
               let w = called.accepts i (sym (same-call bytes) ∙ f) in
               record {

@@ -1,4 +1,5 @@
 -- Limits of a monitor (11) as theory has them: of its sheet and of those held; what within them the work asks; and the shape of those held. Assumes nothing.
+use Rattle.std.specs.Prelude.{None, Option, Some}
 use mathlib.Core.Bool.{Bool, true, false, ◌&&◌, and-false, and_assoc}
 use mathlib.Core.List.{List, [], ◌∷◌, map}
 use mathlib.Core.Path.{◌≡◌, refl, sym, ap, ◌∙◌, subst}
@@ -23,8 +24,6 @@ use Rattle.work.specs.View.{held_list}
 use Rattle.work.specs.Lines.{small_leads}
 use Rattle.work.proofs.Found.{Shaped}
 use Rattle.remainders.specs.declared.remainder.Remainder as arrays
-use Rattle.remainders.specs.declared.held.Status.{Status}
-use Rattle.remainders.specs.declared.held.Status.TheVariants.{Exhausted, Live}
 use Rattle.judge.specs.declared.monitor.Monitor.{Monitor}
 use Rattle.remainders.specs.View.{obligation_of, countdown_of, view_of, held_in, few_owed, sized_in, sized}
 use Rattle.judge.specs.Limits.{is_taken, sheet_within, remainder_within, held_within, monitor_within}
@@ -67,11 +66,11 @@ each-limits v n rs =
     ∙ ap (λ (b : Bool). all few_owed rs && b) (sym (all_map (within_limits most_tag v.clocks n) (view_of v) rs))
 
 -- within the limits: room for what is counted, and each view within them
-pub held-limits : (v : SheetValue) (n : ℕ) (count : Status) (rs : List arrays.Remainder)
+pub held-limits : (v : SheetValue) (n : ℕ) (count : Option ℕ) (rs : List arrays.Remainder)
     → held_within v n count rs ≡ (sized_in count rs && all (within_limits most_tag v.clocks n) (held_list (held_in v count rs)))
 unfolding held_within
-held-limits v n Exhausted rs = refl
-held-limits v n (Live k) rs = ap (λ (b : Bool). leb k 32 && b) (each-limits v n (take k rs)) ∙ sym (and_assoc (leb k 32) _ _)
+held-limits v n None rs = refl
+held-limits v n (Some k) rs = ap (λ (b : Bool). leb k 32 && b) (each-limits v n (take k rs)) ∙ sym (and_assoc (leb k 32) _ _)
 
 -- ---- the monitor
 
@@ -148,7 +147,7 @@ module _ (v : SheetValue) (c-most : v.clocks ≤ 8) where
   all_take P (suc n) [] h = tt
   all_take P (suc n) (x ∷ xs) h = (h.0, all_take P n xs h.1)
 
-  pub held-shaped : (count : Status) (rs : List arrays.Remainder) → All (λ (r : arrays.Remainder). length r.stopped ≡ 8) rs → T (sized_in count rs)
+  pub held-shaped : (count : Option ℕ) (rs : List arrays.Remainder) → All (λ (r : arrays.Remainder). length r.stopped ≡ 8) rs → T (sized_in count rs)
       → All (Shaped v.clocks) (held_list (held_in v count rs))
-  held-shaped Exhausted rs s t = tt
-  held-shaped (Live n) rs s t = all-shaped (take n rs) (all_take _ n rs s) (and_r (leb n 32) (all few_owed (take n rs)) t)
+  held-shaped None rs s t = tt
+  held-shaped (Some n) rs s t = all-shaped (take n rs) (all_take _ n rs s) (and_r (leb n 32) (all few_owed (take n rs)) t)

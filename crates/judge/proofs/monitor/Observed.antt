@@ -1,6 +1,6 @@
 -- An accepted instant: what the work found is what theory asks of a finding, so the monitor stays within its limits, and follows the longer run of each run that it followed. Assumes nothing.
 use mathlib.Core.Bool.{Bool, true, cond}
-use mathlib.Core.List.{List, [], ◌∷◌, ◌++◌, map, map-map}
+use mathlib.Core.List.{List, [], ◌∷◌, ◌++◌}
 use mathlib.Core.Logic.{◌≢◌}
 use mathlib.Core.Option.{Option, none, some}
 use mathlib.Core.Path.{◌≡◌, refl, sym, ap, ◌∙◌, subst}
@@ -10,12 +10,11 @@ use lib.Dec.{T, eqb, eqb-suc-zero}
 use lib.IntN.{ℤ, pos}
 use lib.ListN.{length, take}
 use Rattle.records.specs.declared.sheet.Sheet.{Sheet}
-use Rattle.records.specs.declared.instant.TickSlot.{TickSlot}
 use Rattle.records.specs.declared.instant.Tick.TheVariants.{Idle}
 use Rattle.records.specs.Lists.{filled}
 use Rattle.records.specs.Outcome.{taken}
 use Rattle.records.specs.Sheet.{SheetValue, sheet_value}
-use Rattle.records.specs.Instant.{Cell, InstantValue, tick_slot, instant_of}
+use Rattle.records.specs.Instant.{Cell, InstantValue, instant_of}
 use Rattle.records.proofs.instant.Read.{places-in-use}
 use Rattle.records.specs.Types.{All, IsInstant}
 use Rattle.tesl.specs.Lists.{all}
@@ -92,8 +91,7 @@ module _ (room : ℕ) where
 
 seen_of-law : (c : ℕ) (v : InstantValue) → length v.cells ≡ c → seen_of c (instant_of v).ticks ≡ ticks_of v.cells
 seen_of-law c v e =
-    ap (map (λ (t : TickSlot). t.tick)) (places-in-use (λ (x : Cell). tick_slot x.tick) (tick_slot Idle) c v.cells e)
-    ∙ map-map (λ (t : TickSlot). t.tick) (λ (x : Cell). tick_slot x.tick) v.cells
+    places-in-use (λ (x : Cell). x.tick) Idle c v.cells e
 
 -- ---- the monitor after it
 

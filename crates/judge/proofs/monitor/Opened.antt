@@ -1,5 +1,6 @@
 -- A monitor of no instant: its one remainder is that of no filled instant, so it follows the sheet that was read. Beside a refusal there is none: what stands there has no clock, and is outside its limits. Assumes nothing.
-use mathlib.Core.Bool.{Bool, true, false}
+use Rattle.std.specs.Prelude.{Some, Result, Ok, Err}
+use mathlib.Core.Bool.{true, false}
 use mathlib.Core.List.{List, [], ◌∷◌, append-nil}
 use mathlib.Core.Option.{Option, some}
 use mathlib.Core.Path.{◌≡◌, refl, sym, ap, ◌∙◌, subst}
@@ -10,16 +11,14 @@ use lib.IntN.{pos}
 use lib.ListN.{length, get_or, replicate, length-replicate}
 use Rattle.records.specs.declared.order.Order.{Order}
 use Rattle.records.specs.declared.order.Order.TheVariants.{Any}
-use Rattle.records.specs.declared.record.Decision.TheVariants as told
+use Rattle.records.specs.declared.refusal.Refusal.{Refusal}
 use Rattle.records.specs.declared.sheet.Sheet.{Sheet}
-use Rattle.records.specs.declared.sheet.SheetRead.{SheetRead}
-use Rattle.records.specs.Outcome.{Outcome, taken, refused}
+use Rattle.records.specs.Outcome.{Outcome, taken, refused, outcome_of}
 use Rattle.records.specs.Sheet.{SheetValue, sheet_value, sheet_of, sheet_read, read_by, sheet_value_checks}
 use Rattle.records.specs.Types.{IsBytes, IsSheet}
-use Rattle.records.proofs.Lists.{refused-taken, taken-passed, passed-taken}
+use Rattle.records.proofs.Lists.{refused-taken, refused-same, taken-passed, passed-taken}
 use Rattle.records.proofs.sheet.Passed.{passed-any}
-use Rattle.records.proofs.sheet.Read.{sheet-refused}
-use Rattle.records.proofs.sheet.Writing.{refused-done}
+use Rattle.records.proofs.sheet.Read.{sheet-refused, sheet-done_as}
 use Rattle.records.proofs.sheet.RoundTrip.{read-writes, sheet_of-value}
 use Rattle.tesl.specs.Lists.{all, any, flat_map}
 use Rattle.tesl.specs.Fits.{most_tag, Obligation, owed_at_start, unmet}
@@ -37,23 +36,19 @@ use Rattle.theory.proofs.Limits.{same-within, start-within}
 use Rattle.theory.proofs.Opened.{read-limits, opening-owes, opening-answer}
 use Rattle.work.specs.View.{held_list}
 use Rattle.work.specs.Owed.{owing, added_all}
-use Rattle.judge.specs.declared.answer.Reply.TheVariants as reply
-use Rattle.remainders.specs.declared.held.Status.TheVariants.{Live}
 use Rattle.lines.specs.declared.plan.Plan.{Plan}
 use Rattle.judge.specs.declared.progress.Progress.{Progress}
 use Rattle.judge.specs.declared.start.Begun.{Begun}
 use Rattle.judge.specs.declared.monitor.Monitor.{Monitor}
 use Rattle.judge.specs.declared.monitor.CallResult.{CallResult}
 use Rattle.remainders.specs.View.{sized}
-use Rattle.judge.specs.Answer.{answer_of, said_by}
+use Rattle.judge.specs.Answer.{answer_of, reply_of, said_by}
 use Rattle.judge.specs.Limits.{is_taken, sheet_within, monitor_within}
 use Rattle.lines.specs.Plan.{numbers, Preparing, PlanOf}
 use Rattle.remainders.specs.Rows.{width, all_words, head_rows, rows_of}
 use Rattle.remainders.specs.Unused.{BlankFrom}
-use Rattle.step.specs.Fill.{Working}
-use Rattle.judge.specs.Stored.{FindingRows}
 use Rattle.judge.specs.Start.{BlankRow, BegunRows, BegunMonitor}
-use Rattle.judge.specs.Monitor.{sheet_by, held_by, blank_monitor, no_monitor, refusal}
+use Rattle.judge.specs.Monitor.{sheet_by, held_by, blank_monitor, no_monitor, refused_call}
 use Rattle.judge.specs.Progress.{rows_monitor, first_progress, given, ReadBack, Ready}
 use Rattle.judge.specs.Promises.{Follows, Opened}
 use Rattle.remainders.proofs.rows.Placing.{blank-at}
@@ -132,11 +127,11 @@ module _ (order : Order) (last : ℕ) (b : List ℕ) (bytes : IsBytes b) (s : Sh
     holds-begun : held_by (rows_monitor sheet first_progress rows) ≡ some (held s l ∷ [])
     unfolding held
     holds-begun =
-        held_rows rows head_rows (sheet_value sheet) (Live 1)
+        held_rows rows head_rows (sheet_value sheet) (Some 1)
         ∙ ap some (subst (λ (v : SheetValue). BegunRows v blank rows → rows_of v rows head_rows 1 ≡ owing (record { owed = (first s l).owed; countdowns = [] }) (remainder s []) ∷ []) (sym same) (λ b. b.first l.clocks-most (first s l).owed (first s l).found) begun)
 
     pub follows-begun : Follows s [] (rows_monitor sheet first_progress rows)
-    follows-begun = follows (rows_monitor sheet first_progress rows) same refl holds-begun (sized_rows rows head_rows (Live 1) begun.small)
+    follows-begun = follows (rows_monitor sheet first_progress rows) same refl holds-begun (sized_rows rows head_rows (Some 1) begun.small)
 
     pub ready-begun : {p : Plan} {lines : List ℕ} → PlanOf sheet p lines → Ready sheet first_progress p lines rows
     ready-begun plan = record { value = subst IsSheet (sym same) (read-writes order last b bytes e).value; planned = plan.planned; limits = follows-begun.limits }
@@ -149,88 +144,69 @@ no-monitor-outside = refl
 
 -- ---- as the code has them: what was read, and the monitor begun
 
-module _ (order : Order) (last : ℕ) (b : List ℕ) (x : SheetRead) (e : x ≡ sheet_read (read_by order last b)) where
-  pub prepares-read : IsBytes b → {lines : List ℕ} → length lines ≡ numbers → Preparing x.sheet lines
-  prepares-read bytes {lines} size = by-outcome (read_by order last b) refl
-    where
-      by-outcome : (o : Outcome SheetValue) → read_by order last b ≡ o → Preparing x.sheet lines
-      by-outcome (taken s) h = let l = read-limits order last b bytes h in rw (e, h) (record { few-lines = l.lines-most; few-clocks = l.clocks-most; size = size })
-      by-outcome (refused n) h = rw (e, h) (record { few-lines = omega arith; few-clocks = omega arith; size = size })
+-- a sheet was read, and is the one that the code has
+pub record SheetTaken (order : Order) (last : ℕ) (b : List ℕ) (sheet : Sheet) : Type 0 where
+  pub value : SheetValue
+  pub read : read_by order last b ≡ taken value
+  pub is : sheet ≡ sheet_of value
 
-  pub read_answer : {n : ℕ} → x.answer ≡ told.Refused n → read_by order last b ≡ refused n
-  read_answer a = sheet-refused (read_by order last b) x e a
-
-  -- a sheet was read, and is the one that the code has
-  pub record SheetTaken : Type 0 where
-    pub value : SheetValue
-    pub read : read_by order last b ≡ taken value
-    pub sheet : x.sheet ≡ sheet_of value
-
-  pub sheet-taken : x.answer ≡ told.Done → SheetTaken
-  sheet-taken a = by-outcome (read_by order last b) refl (ap (λ (y : SheetRead). y.answer) (sym e) ∙ a)
-    where
-      by-outcome : (o : Outcome SheetValue) → read_by order last b ≡ o → (sheet_read o).answer ≡ told.Done → SheetTaken
-      by-outcome (refused n) h q = refused-done q
-      by-outcome (taken s) h q = record { value = s; read = h; sheet = ap (λ (y : SheetRead). y.sheet) (e ∙ ap sheet_read h) }
-
-  pub opened-refused : {n : ℕ} → x.answer ≡ told.Refused n → (r : CallResult) → r ≡ refusal n (blank_monitor x.sheet) → Opened (read_by order last) b r
+module _ (order : Order) (last : ℕ) (b : List ℕ) {x : Result Sheet Refusal} (e : outcome_of x ≡ sheet_read (read_by order last b)) where
+  pub opened-refused : {why : Refusal} → x ≡ Err why → (r : CallResult) → r ≡ refused_call why (blank_monitor (sheet_of (record { clocks = 0; lines = [] }))) → Opened (read_by order last) b r
   unfolding no_monitor
-  opened-refused {n} a r q =
-      let h = read_answer a in
-      let none : r ≡ refusal n no_monitor = q ∙ ap (λ (y : SheetRead). refusal n (blank_monitor y.sheet)) (e ∙ ap sheet_read h) in
-      record { refuses = λ j f. let z : n ≡ j = cc in rw (← z) none; opens = λ s f. refused-taken (sym h ∙ f); unused = λ s f. refused-taken (sym h ∙ f) }
-
-  -- ---- begun in rows: what was opened, the answer, and the monitor in rows
-  pub record OpenedRows (r : Begun) (lines rows : List ℕ) : Type 0 where
-    pub value : SheetValue
-    pub read : read_by order last b ≡ taken value
-    pub said : answer_of r.said ≡ answer value []
-    pub follows : Follows value [] (rows_monitor x.sheet r.progress rows)
-    pub ready : Ready x.sheet r.progress r.plan lines rows
-    pub tags : BlankFrom x.sheet.clocks (pos 0) r.progress.tags
-
-  pub opened_rows : IsBytes b → x.answer ≡ told.Done → {r : Begun} {lines blank rows : List ℕ} → BegunMonitor x.sheet r lines blank rows → OpenedRows r lines rows
-  opened_rows bytes a {r} {lines} {blank} {rows} begun =
-      let t = sheet-taken a in
-      let s = t.value in
-      let h = t.read in
-      let same : sheet_value x.sheet ≡ s = ap sheet_value t.sheet ∙ sheet_of-value s in
-      let follows = follows-begun order last b bytes s h x.sheet same begun.rows in
+  opened-refused {why} a r q =
+      let h = sheet-refused (read_by order last b) x e a in
       record {
-        value = s;
-        read = h;
-        said = begun.said (sheet_value x.sheet) ∙ ap said_by (sym (held_rows rows head_rows (sheet_value x.sheet) (Live 1))) ∙ follows.said;
-        follows = subst (λ (k : Progress). Follows s [] (rows_monitor x.sheet k rows)) (sym begun.progress) follows;
-        ready = subst (λ (k : Progress). Ready x.sheet k r.plan lines rows) (sym begun.progress) (ready-begun order last b bytes s h x.sheet same begun.rows begun.plan);
-        tags = λ j l. ap (λ (k : Progress). get_or k.tags j (pos 0)) begun.progress ∙ blank-at (pos 0) 8 j;
+        refuses = λ j f. record { reply = ap (λ (c : CallResult). reply_of c.reply) q ∙ ap refused (refused-same (sym h ∙ f)); monitor = ap (λ (c : CallResult). c.monitor) q };
+        opens = λ s f. refused-taken (sym h ∙ f);
+        unused = λ s f. refused-taken (sym h ∙ f);
       }
 
-  -- and read back
-  pub opened-done : {r : Begun} {lines rows : List ℕ} → OpenedRows r lines rows → {m : Monitor} → ReadBack x.sheet r.progress r.plan m rows → Opened (read_by order last) b (given (reply.Answered r.said) m)
-  opened-done {r} o {m} back =
-      let f = back.found in
-      subst (λ (n : Monitor). Opened (read_by order last) b (given (reply.Answered r.said) n)) (sym back.same)
-      (record {
-        refuses = λ n h. refused-taken (sym h ∙ o.read);
-        opens = λ v h. let z : o.value ≡ v = cc in rw (← z) (ap taken o.said, follows-back o.ready f o.follows);
-        unused = λ v h. nothing-back o.ready f o.tags;
-      })
+  module _ {sheet : Sheet} (a : x ≡ Ok sheet) where
+    pub sheet-taken : SheetTaken order last b sheet
+    sheet-taken = let d = sheet-done_as (read_by order last b) x e a in record { value = d.0; read = d.1; is = d.2 }
+
+    pub prepares-read : IsBytes b → {lines : List ℕ} → length lines ≡ numbers → Preparing sheet lines
+    prepares-read bytes size =
+        let t = sheet-taken in
+        let l = read-limits order last b bytes t.read in
+        rw t.is (record { few-lines = l.lines-most; few-clocks = l.clocks-most; size = size })
+
+    -- ---- begun in rows: what was opened, the answer, and the monitor in rows
+    pub record OpenedRows (r : Begun) (lines rows : List ℕ) : Type 0 where
+      pub value : SheetValue
+      pub read : read_by order last b ≡ taken value
+      pub said : answer_of r.said ≡ answer value []
+      pub follows : Follows value [] (rows_monitor sheet r.progress rows)
+      pub ready : Ready sheet r.progress r.plan lines rows
+      pub tags : BlankFrom sheet.clocks (pos 0) r.progress.tags
+
+    pub opened_rows : IsBytes b → {r : Begun} {lines blank rows : List ℕ} → BegunMonitor sheet r lines blank rows → OpenedRows r lines rows
+    opened_rows bytes {r} {lines} {blank} {rows} begun =
+        let t = sheet-taken in
+        let s = t.value in
+        let h = t.read in
+        let same : sheet_value sheet ≡ s = ap sheet_value t.is ∙ sheet_of-value s in
+        let follows = follows-begun order last b bytes s h sheet same begun.rows in
+        record {
+          value = s;
+          read = h;
+          said = begun.said (sheet_value sheet) ∙ ap said_by (sym (held_rows rows head_rows (sheet_value sheet) (Some 1))) ∙ follows.said;
+          follows = subst (λ (k : Progress). Follows s [] (rows_monitor sheet k rows)) (sym begun.progress) follows;
+          ready = subst (λ (k : Progress). Ready sheet k r.plan lines rows) (sym begun.progress) (ready-begun order last b bytes s h sheet same begun.rows begun.plan);
+          tags = λ j l. ap (λ (k : Progress). get_or k.tags j (pos 0)) begun.progress ∙ blank-at (pos 0) 8 j;
+        }
+
+    -- and read back
+    pub opened-done : {r : Begun} {lines rows : List ℕ} → OpenedRows r lines rows → {m : Monitor} → ReadBack sheet r.progress r.plan m rows → Opened (read_by order last) b (given (Ok r.said) m)
+    opened-done {r} o {m} back =
+        let f = back.found in
+        subst (λ (n : Monitor). Opened (read_by order last) b (given (Ok r.said) n)) (sym back.same)
+        (record {
+          refuses = λ n h. refused-taken (sym h ∙ o.read);
+          opens = λ v h. let z : o.value ≡ v = cc in rw (← z) (ap taken o.said, follows-back o.ready f o.follows);
+          unused = λ v h. nothing-back o.ready f o.tags;
+        })
 
 -- ---- rows of a new array are blank
 pub fresh-rows : BlankRow (replicate all_words 0) head_rows
 fresh-rows = record { size = length-replicate {A = ℕ} all_words 0; blank = λ p h. blank-at {A = ℕ} 0 all_words (width * head_rows + p) }
-
--- ---- room in what was begun
-module _ {s : Sheet} {r : Begun} {lines a b : List ℕ} (begun : BegunMonitor s r lines a b) where
-  pub found-begun : FindingRows b r.progress.count r.progress.from r.plan
-  found-begun = rw begun.progress (record { side = omega arith; small = begun.rows.small; plan = begun.plan.fits })
-
-  pub room-begun : length a ≡ all_words → {list : List Bool} → length list ≡ 2048 → Working b r.progress.from r.progress.count r.plan list
-  room-begun size lists = rw begun.progress
-      (record {
-        size = begun.rows.stays.size ∙ size;
-        side = record { one = omega arith; other = omega arith; past = omega arith; apart = λ k l h j e. omega arith };
-        small = begun.rows.small;
-        plan = begun.plan.fits;
-        lists = lists;
-      })

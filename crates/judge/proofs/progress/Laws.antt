@@ -1,4 +1,6 @@
 -- A monitor kept in rows: what it holds is what the rows hold, counts that the arrays have room for are the same, and it follows what the monitor followed whose remainders were stored, as monitors do that hold the same. Assumes nothing.
+use Rattle.std.specs.Prelude.{None, Some, Ok}
+use Rattle.std.specs.declared.option.Option as option
 use mathlib.Core.Bool.{Bool, true, false, not}
 use mathlib.Core.List.{List, map}
 use mathlib.Core.Option.{Option, some}
@@ -29,10 +31,7 @@ use Rattle.work.specs.Lines.{small_leads}
 use Rattle.work.specs.Work.{worked}
 use Rattle.work.proofs.Listing.{map-listed, one_of, all_of}
 use Rattle.judge.specs.declared.answer.Answer as code
-use Rattle.judge.specs.declared.answer.Reply.TheVariants as reply
 use Rattle.remainders.specs.declared.remainder.Remainder as arrays
-use Rattle.remainders.specs.declared.held.Status.{Status}
-use Rattle.remainders.specs.declared.held.Status.TheVariants.{Exhausted, Live}
 use Rattle.remainders.specs.declared.held.Held.{Held}
 use Rattle.lines.specs.declared.plan.Plan.{Plan}
 use Rattle.judge.specs.declared.progress.Progress.{Progress}
@@ -44,9 +43,8 @@ use Rattle.judge.specs.Limits.{sheet_within, monitor_within, Limited}
 use Rattle.lines.specs.Plan.{numbers, Preparing, PlanOf}
 use Rattle.remainders.specs.Rows.{all_words, row_count, row_obligation, row_owed, row_countdowns, row_leads, row_stopped, row_of, FewInRow}
 use Rattle.step.specs.Apply.{Side, found_in, FewOwedIn}
-use Rattle.judge.specs.Stored.{StoringHeld, StoredHeld, FindingRows, FromRows}
+use Rattle.judge.specs.Stored.{StoringHeld, StoredHeld, FromRows}
 use Rattle.judge.specs.Monitor.{KeepsNothing, sheet_by, held_by, Accepts}
-use Rattle.step.specs.Fill.{Working}
 use Rattle.judge.specs.Progress.{row_remainder, rows_held, rows_monitor, progress_of, given, read_back, Ready}
 use Rattle.judge.specs.Promises.{Follows}
 use Rattle.judge.proofs.monitor.Limits.{held-limits, limits_of, within-limits, leads-small}
@@ -90,23 +88,23 @@ module _ (rows : List ℕ) (from : ℕ) where
   abbrev one : ℕ → arrays.Remainder
   one k = row_remainder rows (from + k)
 
-  pub held_rows : (v : SheetValue) (count : Status) → held_of v (rows_held count rows from) ≡ found_in v count rows from
-  held_rows v Exhausted = refl
-  held_rows v (Live n) = ap some (map-all one (view_of v) n ∙ ap (λ (f : ℕ → Remainder). listed f n) (fun_ext (λ k. view-row v rows (from + k))))
+  pub held_rows : (v : SheetValue) (count : option.Option ℕ) → held_of v (rows_held count rows from) ≡ found_in v count rows from
+  held_rows v None = refl
+  held_rows v (Some n) = ap some (map-all one (view_of v) n ∙ ap (λ (f : ℕ → Remainder). listed f n) (fun_ext (λ k. view-row v rows (from + k))))
 
-  pub small-rows : (count : Status) → T (sized (rows_held count rows from)) → FewOwedIn count rows from
-  small-rows Exhausted t = tt
-  small-rows (Live n) t =
+  pub small-rows : (count : option.Option ℕ) → T (sized (rows_held count rows from)) → FewOwedIn count rows from
+  small-rows None t = tt
+  small-rows (Some n) t =
       let u = rw (take_all one n) at (and_r (leb n 32) (all few_owed (take n (listed one n))) t) in
       (leb→le n 32 (and_l (leb n 32) (all few_owed (take n (listed one n))) t), λ k h. few-row rows (from + k) (one_of one few_owed n u k h))
 
-  pub sized_rows : (count : Status) → FewOwedIn count rows from → T (sized (rows_held count rows from))
-  sized_rows Exhausted h = tt
-  sized_rows (Live n) h =
+  pub sized_rows : (count : option.Option ℕ) → FewOwedIn count rows from → T (sized (rows_held count rows from))
+  sized_rows None h = tt
+  sized_rows (Some n) h =
       and_i (leb n 32) (all few_owed (take n (listed one n))) (le→leb n 32 h.0)
       (rw (take_all one n) (all_of one few_owed n (λ k l. row-few rows (from + k) (h.1 k l))))
 
-  pub eight-rows : (count : Status) → All (λ (q : arrays.Remainder). length q.stopped ≡ 8) (rows_held count rows from).remainders
+  pub eight-rows : (count : option.Option ℕ) → All (λ (q : arrays.Remainder). length q.stopped ≡ 8) (rows_held count rows from).remainders
   eight-rows count = each_from one (λ (q : arrays.Remainder). length q.stopped ≡ 8) (λ k. length-listed _ 8) 0 (live_count count)
 
 -- ---- a monitor in rows
@@ -124,10 +122,10 @@ module _ (s : Sheet) (k : Progress) (rows : List ℕ) where
   pub leads-rows : T (all small_leads (held_list (held_by m))) → T (all small_leads (held_list (found_in v k.count rows k.from)))
   leads-rows t = subst (λ (o : Option (List Remainder)). T (all small_leads (held_list o))) (held_rows rows k.from v k.count) t
 
-  pub accepts-rows : (room : ℕ) (i : Instant) (next : Status) (out : List ℕ) (to : ℕ) {said : code.Answer}
+  pub accepts-rows : (room : ℕ) (i : Instant) (next : option.Option ℕ) (out : List ℕ) (to : ℕ) {said : code.Answer}
       → found_in v next out to ≡ worked room v (tags_before (eqb k.instants 0) k.tags) (seen_of s.clocks i.ticks) i.tags (found_in v k.count rows k.from)
       → FewOwedIn next out to → answer_of said ≡ said_by (found_in v next out to)
-      → Accepts room m i (given (reply.Answered said) (rows_monitor s (record { instants = k.instants + 1; tags = i.tags; count = next; from = to }) out))
+      → Accepts room m i (given (Ok said) (rows_monitor s (record { instants = k.instants + 1; tags = i.tags; count = next; from = to }) out))
   accepts-rows room i next out to w small q = record {
     sheet = refl;
     instants = add-one k.instants;
@@ -207,19 +205,6 @@ module _ (m : Monitor) {blank rows : List ℕ} (storing : StoredHeld m.held.coun
 
   pub ready-stored : Limited m true → {p : Plan} {lines : List ℕ} → PlanOf m.sheet p lines → Ready m.sheet (progress_of m) p lines rows
   ready-stored l plan = record { value = l.value refl; planned = plan.planned; limits = within-stored (sym l.answer) }
-
-  pub room-stored : {p : Plan} {lines : List ℕ} → PlanOf m.sheet p lines → {list : List Bool} → length list ≡ 2048 → Working rows 6 m.held.count p list
-  room-stored plan lists = record {
-    size = storing.size;
-    side = record { one = omega arith; other = omega arith; past = omega arith; apart = λ k l h j e. omega arith };
-    small = storing.small;
-    plan = plan.fits;
-    lists = lists;
-  }
-
--- where there is room to work, those held are found
-pub found-working : {rows : List ℕ} {from : ℕ} {count : Status} {p : Plan} {list : List Bool} → Working rows from count p list → FindingRows rows count from p
-found-working w = record { side = w.side.one; small = w.small; plan = w.plan }
 
 -- ---- what is within the limits of a monitor
 pub inside : {m : Monitor} {b : Bool} → Limited m b → not b ≡ false → Limited m true

@@ -77,7 +77,7 @@ module _ {a : List ℕ} (z : BlankRow a head_rows) where
   blank-count part h = z.blank (part_words * part) (omega arith)
 
   pub blank-row : Row a head_rows 0
-  blank-row = record { size = z.size; row = omega arith; inside = omega arith; few = omega (arith, blank-count 0 (omega arith)) }
+  blank-row = record { size = z.size; row = omega arith; few = omega (arith, blank-count 0 (omega arith)) }
 
   blank-owes : row_owed a head_rows ≡ []
   unfolding listed_from

@@ -1,4 +1,6 @@
 -- Remainders stored in rows one by one, and read back: the row that is stored, the rows before it and the head, which stay. Assumes nothing.
+use Rattle.std.specs.Prelude.{None, Option, Some}
+use Rattle.std.specs.Option.{unwrap_or}
 use mathlib.Core.Bool.{Bool, true, false, cond}
 use mathlib.Core.List.{List, [], map}
 use mathlib.Core.Logic.{⊎_elim}
@@ -20,8 +22,6 @@ use Rattle.work.proofs.Listing.{one_of, all_of}
 use Rattle.work.proofs.Carried.{used-by}
 use Rattle.lines.specs.declared.plan.Plan.{Plan}
 use Rattle.remainders.specs.declared.remainder.Remainder as arrays
-use Rattle.remainders.specs.declared.held.Status.{Status}
-use Rattle.remainders.specs.declared.held.Status.TheVariants.{Exhausted, Live}
 use Rattle.remainders.specs.View.{remainder_of, blank_obligation, blank_remainder, view_of, few_owed, sized_in}
 use Rattle.remainders.specs.Unused.{NothingUnused}
 use Rattle.lines.specs.Plan.{Planned}
@@ -80,17 +80,17 @@ module _ (rs : List arrays.Remainder) {was : List ℕ} where
 pub owes-few : (rs : List arrays.Remainder) (n k : ℕ) → k < n → n ≤ length rs → T (all few_owed (take n rs)) → T (few_owed (get_or rs k past_end))
 owes-few rs n k h l t = all-at (λ (r : arrays.Remainder). r) rs n k past_end h l few_owed (rw as_is t)
 
-pub room_for : {count : Status} {n : ℕ} (rs : List arrays.Remainder) → count ≡ Live n → T (sized_in count rs) → (n ≤ 32) × T (all few_owed (take n rs))
+pub room_for : {count : Option ℕ} {n : ℕ} (rs : List arrays.Remainder) → count ≡ Some n → T (sized_in count rs) → (n ≤ 32) × T (all few_owed (take n rs))
 room_for {n = n} rs e t =
-    let s : T (sized_in (Live n) rs) = rw e at t in
+    let s : T (sized_in (Some n) rs) = rw e at t in
     let few = all few_owed (take n rs) in
     (leb→le n 32 (and_l (leb n 32) few s), and_r (leb n 32) few s)
 
-module _ {count : Status} (rs : List arrays.Remainder) {a : List ℕ} where
-  pub stored-none : count ≡ Exhausted → length a ≡ all_words → StoredHeld count rs a a
+module _ {count : Option ℕ} (rs : List arrays.Remainder) {a : List ℕ} where
+  pub stored-none : count ≡ None → length a ≡ all_words → StoredHeld count rs a a
   stored-none e h = rw e (record { size = h; head = λ g p l m. refl; small = tt; held = λ v. refl })
 
-  pub stored-live : {n : ℕ} {b : List ℕ} → count ≡ Live n → n ≤ 32 → ToRows n rs a b → StoredHeld count rs a b
+  pub stored-live : {n : ℕ} {b : List ℕ} → count ≡ Some n → n ≤ 32 → ToRows n rs a b → StoredHeld count rs a b
   stored-live e h w = rw e (record { size = w.size; head = w.head; small = (h, w.small); held = λ v. ap some (w.rows v) })
 
 -- ---- read back
@@ -123,12 +123,12 @@ module _ {p : Plan} {from n : ℕ} (rs : List arrays.Remainder) {rows : List ℕ
     copied-unused : (k : ℕ) → NothingUnused v (get_or rs k blank_remainder)
     copied-unused = each-place (NothingUnused v) blank_remainder rs n (λ k h. (w.first k h).unused v lines planned) w.rest (blank-unused v)
 
-  pub found_none : {count : Status} → count ≡ Exhausted → n ≡ 0 → FromRows p count from rs rows
+  pub found_none : {count : Option ℕ} → count ≡ None → n ≡ 0 → FromRows p count from rs rows
   found_none e z =
       rw e
       (record { fits = tt; held = λ v lines planned t. refl; unused = λ v lines planned. copied-unused planned; rest = λ k h. w.rest k (omega arith) })
 
-  pub found-live : {count : Status} → count ≡ Live n → n ≤ 32 → FromRows p count from rs rows
+  pub found-live : {count : Option ℕ} → count ≡ Some n → n ≤ 32 → FromRows p count from rs rows
   found-live e h =
       rw e
       (record {
@@ -138,5 +138,10 @@ module _ {p : Plan} {from n : ℕ} (rs : List arrays.Remainder) {rows : List ℕ
         rest = w.rest;
       })
 
-pub small-live : {count : Status} {n : ℕ} (rows : List ℕ) (from : ℕ) → count ≡ Live n → FewOwedIn count rows from → (n ≤ 32) × FewOwed rows from n
-small-live rows from e h = subst (λ (k : Status). FewOwedIn k rows from) e h
+pub small-live : {count : Option ℕ} {n : ℕ} (rows : List ℕ) (from : ℕ) → count ≡ Some n → FewOwedIn count rows from → (n ≤ 32) × FewOwed rows from n
+small-live rows from e h = subst (λ (k : Option ℕ). FewOwedIn k rows from) e h
+
+-- the remainders of a count, none once exhausted
+pub found-rows : (count : Option ℕ) {p : Plan} {from : ℕ} (rs : List arrays.Remainder) {rows : List ℕ} → FewOwedIn count rows from → CopiedRows p from (unwrap_or count 0) rs rows → FromRows p count from rs rows
+found-rows None rs h w = found_none rs w refl refl
+found-rows (Some n) rs h w = found-live rs w refl h.0

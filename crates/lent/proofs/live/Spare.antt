@@ -1,4 +1,6 @@
 -- No bit of a state is spare: what its words read as decides each of them. Assumes nothing.
+use Rattle.std.specs.Prelude.{None, Some}
+use Rattle.std.specs.declared.option.Option as option
 use mathlib.Core.List.{List}
 use mathlib.Core.Option.{Option}
 use mathlib.Core.Path.{◌≡◌, sym, ap, ap₂, ◌∙◌}
@@ -11,8 +13,6 @@ use Rattle.records.specs.Sheet.{SheetValue, sheet_value}
 use Rattle.tesl.specs.Remainder.{Remainder}
 use Rattle.work.specs.View.{used_part, held_list}
 use Rattle.work.proofs.Listing.{listed_at}
-use Rattle.remainders.specs.declared.held.Status.{Status}
-use Rattle.remainders.specs.declared.held.Status.TheVariants.{Exhausted, Live}
 use Rattle.judge.specs.declared.progress.Progress.{Progress}
 use Rattle.remainders.specs.View.{live_count}
 use Rattle.remainders.specs.Rows.{width, height, word, row_of}
@@ -24,9 +24,9 @@ use Rattle.lent.specs.StoredState.{top_words, kinds_row, numbers_row, remainder_
 use Rattle.lent.proofs.unused.Sides.{among-rows}
 
 -- the j-th of those held
-found_at : (v : SheetValue) (c : Status) (rows : List ℕ) (from : ℕ) (d : Remainder) (j : ℕ) → j < live_count c → get_or (held_list (found_in v c rows from)) j d ≡ used_part v (row_of rows (from + j))
-found_at v Exhausted rows from d j h = absurd (omega arith)
-found_at v (Live n) rows from d j h = listed_at (λ k. used_part v (row_of rows (from + k))) d n j h
+found_at : (v : SheetValue) (c : option.Option ℕ) (rows : List ℕ) (from : ℕ) (d : Remainder) (j : ℕ) → j < live_count c → get_or (held_list (found_in v c rows from)) j d ≡ used_part v (row_of rows (from + j))
+found_at v None rows from d j h = absurd (omega arith)
+found_at v (Some n) rows from d j h = listed_at (λ k. used_part v (row_of rows (from + k))) d n j h
 
 module _ (w : List ℕ) (d : Remainder) where
   abbrev one : ℕ → Remainder

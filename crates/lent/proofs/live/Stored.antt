@@ -1,4 +1,5 @@
 -- The words of a state, row by row, are those that the monitor they read as is stored as; and so after an instant. Assumes nothing.
+use Rattle.std.specs.Prelude.{None, Some}
 use mathlib.Core.Bool.{Bool, true, false, cond, ◌&&◌, ◌||◌}
 use mathlib.Core.List.{List, [], ◌∷◌, ◌++◌, map}
 use mathlib.Core.Path.{◌≡◌, refl, sym, ap, ◌∙◌, subst}
@@ -17,7 +18,6 @@ use Rattle.work.proofs.Listing.{listed_at, map-listed}
 use Rattle.lines.specs.declared.line_words.LineWords.{LineWords}
 use Rattle.lines.specs.declared.plan.Plan.{Plan}
 use Rattle.lines.specs.Plan.{Planned}
-use Rattle.remainders.specs.declared.held.Status.TheVariants.{Exhausted, Live}
 use Rattle.remainders.specs.Word.{flag_word}
 use Rattle.remainders.specs.Unused.{BlankFrom}
 use Rattle.remainders.specs.View.{live_count}
@@ -55,7 +55,7 @@ module _ (w : List ℕ) (s : Sheet) (places : (k : ℕ) → k < 16 → state_wor
 case-stored : (case live : ℕ) → is_case case ≡ true → case ≡ case_word (count_by case live)
 case-stored case live e = by-test (eqb case 1) refl e
   where
-    by-test : (t : Bool) → eqb case 1 ≡ t → (t || eqb case 2) ≡ true → case ≡ case_word (cond t Exhausted (Live live))
+    by-test : (t : Bool) → eqb case 1 ≡ t → (t || eqb case 2) ≡ true → case ≡ case_word (cond t None (Some live))
     by-test true f g = eqb-true case 1 f
     by-test false f g = eqb-true case 2 g
 

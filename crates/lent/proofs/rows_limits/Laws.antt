@@ -1,4 +1,5 @@
 -- Whether a row is within its limits: its obligations, and the leads that precedes lines have, are within theirs. Assumes nothing.
+use Rattle.std.specs.Prelude.{None, Option, Some}
 use mathlib.Core.Bool.{Bool, true, false, cond, not, ◌&&◌, ◌||◌}
 use mathlib.Core.List.{List}
 use mathlib.Core.Path.{◌≡◌, refl, sym, ap, ap₂, ◌∙◌}
@@ -19,8 +20,6 @@ use Rattle.work.specs.View.{in_use}
 use Rattle.work.proofs.Below.{below-ext, below-front, below-either}
 use Rattle.work.proofs.Listing.{listed_at, all_listed}
 use Rattle.work.proofs.Carried.{sheet_line, next-places, used-by}
-use Rattle.remainders.specs.declared.held.Status.{Status}
-use Rattle.remainders.specs.declared.held.Status.TheVariants.{Exhausted, Live}
 use Rattle.lines.specs.declared.plan.Plan.{Plan}
 use Rattle.judge.specs.Limits.{stored_within, least_due, most_due, set_within, remainder_within, held_within}
 use Rattle.lines.specs.Plan.{Planned}
@@ -99,15 +98,15 @@ module _ (c least most : ℕ) (rows : List ℕ) (i part : ℕ) where
 
 -- ---- those held
 module _ {p : Plan} (m : ℕ) (rows : List ℕ) (from : ℕ) where
-  pub held_none : {c : Status} → c ≡ Exhausted → RowsWithin p m rows from c true
+  pub held_none : {c : Option ℕ} → c ≡ None → RowsWithin p m rows from c true
   unfolding held_within
   held_none e v lines planned = rw e
 
-  pub held-many : {c : Status} {n : ℕ} → c ≡ Live n → 32 < n → RowsWithin p m rows from c false
+  pub held-many : {c : Option ℕ} {n : ℕ} → c ≡ Some n → 32 < n → RowsWithin p m rows from c false
   unfolding held_within
   held-many {n = n} e h v lines planned = rw (e, lt-leb n 32 h)
 
-  pub held-live : {c : Status} {n : ℕ} {b : Bool} → c ≡ Live n → n ≤ 32 → EachRowWithin p m rows from n b → RowsWithin p m rows from c b
+  pub held-live : {c : Option ℕ} {n : ℕ} {b : Bool} → c ≡ Some n → n ≤ 32 → EachRowWithin p m rows from n b → RowsWithin p m rows from c b
   unfolding held_within
   held-live {n = n} e h f v lines planned =
       rw (e, le-leb n 32 h)

@@ -1,25 +1,28 @@
 -- The head of a state: what is stored in it is read there, and what stays is read as before. Assumes nothing.
+use Rattle.std.specs.Prelude.{Option}
 use mathlib.Core.Bool.{Bool, true, false, ◌&&◌, ◌||◌, not, and-true}
 use mathlib.Core.List.{List}
 use mathlib.Core.Logic.{⊎_elim}
 use mathlib.Core.Path.{◌≡◌, refl, sym, ap, ap₂, ◌∙◌}
-use Prim.Native.Nat.{ℕ, ◌+◌, ◌-◌, ◌*◌, ◌≤◌, ◌<◌}
+use Prim.Native.Nat.{ℕ, ◌+◌, ◌-◌, ◌*◌, ◌%◌, ◌≤◌, ◌<◌}
 use native.Mathlib.Nat.{eq-or-lt_of_le}
 use native.Mathlib.Omega.{arith}
 use lib.Dec.{T, eqb, ltb}
-use lib.IntN.{ℤ}
-use lib.ListN.{length, set, length-set}
+use lib.IntN.{ℤ, pos}
+use lib.ListN.{length, get_or, set, length-set}
 use borrow.Author.Tests.{eqb-true, eqb-false, ltb-true, ltb-false}
+use Rattle.records.specs.Word.{tag_of, raw_of}
 use Rattle.tesl.proofs.Tests.{or-e, T→≡}
 use Rattle.work.proofs.Below.{below-ext}
-use Rattle.remainders.specs.declared.held.Status.{Status}
-use Rattle.remainders.specs.declared.held.Status.TheVariants.{Live}
 use Rattle.judge.specs.declared.progress.Progress.{Progress}
-use Rattle.remainders.specs.View.{live_count}
 use Rattle.remainders.specs.Rows.{width, all_words, word, Stays}
 use Rattle.step.specs.Apply.{Side}
-use Rattle.lent.specs.State.{count_by, state_count, is_side, is_case, is_kind, has_kinds, has_format, is_state, format, PutFormat, FewIn, PutCount, PutLastTags, PutProgress}
+use Rattle.lent.specs.State.{state_count, is_side, is_case, is_kind, has_kinds, has_format, is_state, PutCount, PutLastTags, PutProgress}
 use Rattle.remainders.proofs.rows.Laws.{stored, stored_other, stays_all, stays_put, stays_wide, stays_on}
+
+-- ---- a tag stored
+abbrev pub SameTag : List ℤ → ℕ → ℕ → Type 0
+SameTag tags k w = (tag_of (w % 65536) ≡ get_or tags k (pos 0)) × (w ≡ raw_of (get_or tags k (pos 0)))
 
 -- ---- sides
 pub side-small : (from : ℕ) → T (is_side from) → from ≤ 39
@@ -59,40 +62,8 @@ side-is from s = by_tests (eqb from 6) (eqb from 39) (ltb from 23) refl refl ref
 pub kinds-same : (a b : List ℕ) → word b 0 2 ≡ word a 0 2 → ((k : ℕ) → k < 16 → word b 1 k ≡ word a 1 k) → has_kinds b ≡ has_kinds a
 kinds-same a b e f = below-ext 16 _ _ (λ k h. ap₂ (λ (n w : ℕ). not (ltb k n) || is_kind w) e (f k h))
 
--- ---- the format
-pub format-put : (a : List ℕ) → length a ≡ all_words → PutFormat a (set a (width * 0 + 0) format)
-format-put a size =
-    record {
-      stays = stays_put (stays_all 0 0 1 a) 0 format (omega arith) (omega arith) (omega arith);
-      format = ap (λ (w : ℕ). eqb w format) (stored a 0 0 format (omega arith));
-    }
-
--- ---- how many are held
-pub few-live : {c : Status} {n : ℕ} → c ≡ Live n → FewIn c → n ≤ 32
-few-live e h = rw e at h
-
-module _ (a : List ℕ) (case live : ℕ) (size : length a ≡ all_words) where
-  abbrev cased : List ℕ
-  cased = set a (width * 0 + 5) case
-
-  abbrev counted : List ℕ
-  counted = set cased (width * 0 + 6) live
-
-  here : word counted 0 5 ≡ case
-  here = stored_other cased 0 6 live 0 5 (omega arith) (omega arith) (λ x y. omega arith) ∙ stored a 0 5 case (omega arith)
-
-  pub count-put : {c : Status} → count_by case live ≡ c → is_case case ≡ true → live ≡ live_count c → PutCount c a counted
-  count-put e t q =
-      let l = stored cased 0 6 live (omega (arith, length-set a (width * 0 + 5) case)) in
-      record {
-        stays = stays_put (stays_put (stays_all 0 5 7 a) 5 case (omega arith) (omega arith) (omega arith)) 6 live (omega arith) (omega arith) (omega arith);
-        count = rw (here, l) e;
-        live = l ∙ q;
-        answer = rw here t;
-      }
-
 -- ---- a monitor beside its sheet and its rows
-pub same-progress : {i i' f f' : ℕ} {t t' : List ℤ} {c c' : Status} → i ≡ i' → t ≡ t' → c ≡ c' → f ≡ f' → ◌≡◌ {A = Progress} (record { instants = i; tags = t; count = c; from = f }) (record { instants = i'; tags = t'; count = c'; from = f' })
+pub same-progress : {i i' f f' : ℕ} {t t' : List ℤ} {c c' : Option ℕ} → i ≡ i' → t ≡ t' → c ≡ c' → f ≡ f' → ◌≡◌ {A = Progress} (record { instants = i; tags = t; count = c; from = f }) (record { instants = i'; tags = t'; count = c'; from = f' })
 same-progress a b c d = rw (a, b, c, d)
 
 module _ (k : Progress) (a : List ℕ) where
@@ -101,9 +72,6 @@ module _ (k : Progress) (a : List ℕ) where
 
   abbrev pub sided : List ℕ
   sided = set timed (width * 0 + 4) k.from
-
-  pub sided-long : length a ≡ all_words → length sided ≡ all_words
-  sided-long size = length-set timed (width * 0 + 4) k.from ∙ length-set a (width * 0 + 3) k.instants ∙ size
 
   module _ (size : length a ≡ all_words) {b c : List ℕ} (n : PutCount k.count sided b) (t : PutLastTags k.tags b c) (side : T (is_side k.from)) where
     -- a word before the tags, and one before the answer

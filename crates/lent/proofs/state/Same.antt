@@ -2,20 +2,19 @@
 use mathlib.Core.Bool.{true, cond, ◌&&◌}
 use mathlib.Core.List.{List}
 use mathlib.Core.Path.{◌≡◌, ap, ap₂, ◌∙◌}
-use Prim.Native.Nat.{ℕ, ◌+◌, ◌%◌, ◌<◌, ◌≤◌}
+use Prim.Native.Nat.{ℕ, ◌<◌}
 use native.Mathlib.Omega.{arith}
 use lib.Dec.{eqb, ltb}
 use Rattle.records.specs.declared.line.Line.{Line}
 use Rattle.records.specs.declared.sheet.Sheet.{Sheet}
 use Rattle.records.specs.Line.{blank_line}
-use Rattle.records.specs.Sheet.{slot_of, sheet_value}
-use Rattle.records.specs.Word.{tag_of}
+use Rattle.records.specs.Sheet.{sheet_value}
 use Rattle.work.proofs.Listing.{listed_same}
 use Rattle.judge.specs.declared.progress.Progress.{Progress}
 use Rattle.lines.specs.LineWords.{line_of_words}
 use Rattle.remainders.specs.Rows.{word, Stays, HeadStays}
-use Rattle.lent.specs.State.{format, clocks_by, state_words, state_sheet, count_by, state_progress, is_side, is_case, is_state, PutFormat, PutProgress, PutSheet}
-use Rattle.lent.proofs.state.Laws.{kinds-same, same-progress}
+use Rattle.lent.specs.State.{format, clocks_by, state_words, state_sheet, is_side, is_case, is_state, PutFormat, PutProgress, PutSheet}
+use Rattle.lent.proofs.state.Laws.{kinds-same}
 use Rattle.lent.proofs.state.Words.{words_same}
 use Rattle.lent.proofs.state.Sheet.{same-sheet}
 
@@ -24,15 +23,7 @@ module _ (a b : List ℕ) where
   pub sheet-same : word b 0 1 ≡ word a 0 1 → word b 0 2 ≡ word a 0 2 → ((k : ℕ) → k < 16 → state_words b k ≡ state_words a k) → state_sheet b ≡ state_sheet a
   sheet-same c n f =
       same-sheet (ap clocks_by c) n
-      (listed_same 16 (λ k h. ap₂ (λ (m : ℕ) (l : Line). slot_of (cond (ltb k m) l blank_line)) n (ap line_of_words (f k h))))
-
-  -- the monitor beside it
-  pub progress-same : ((p : ℕ) → 3 ≤ p → p < 16 → word b 0 p ≡ word a 0 p) → state_progress b ≡ state_progress a
-  progress-same f =
-      same-progress (f 3 (omega arith) (omega arith))
-      (listed_same 8 (λ k h. ap (λ (w : ℕ). tag_of (w % 65536)) (f (8 + k) (omega arith) (omega arith))))
-      (ap₂ count_by (f 5 (omega arith) (omega arith)) (f 6 (omega arith) (omega arith)))
-      (f 4 (omega arith) (omega arith))
+      (listed_same 16 (λ k h. ap₂ (λ (m : ℕ) (l : Line). cond (ltb k m) l blank_line) n (ap line_of_words (f k h))))
 
   -- the sheet once another monitor is stored beside it
   pub sheet-beside : Stays 0 3 16 a b → state_sheet b ≡ state_sheet a
@@ -46,9 +37,6 @@ module _ (a b : List ℕ) where
     sheet-stays =
         sheet-same (s 0 1 (omega arith) (omega arith)) (s 0 2 (omega arith) (omega arith))
         (words_same a b (λ h p l m n. s h p (omega arith) n))
-
-    pub progress-stays : state_progress b ≡ state_progress a
-    progress-stays = progress-same (λ p l h. s 0 p (omega arith) (omega arith))
 
     pub state-stays : is_state b ≡ is_state a
     unfolding is_state

@@ -1,66 +1,35 @@
 -- A sheet in the head of a state: its lines are read in their places, and its value is read back. Assumes nothing.
 use mathlib.Core.Bool.{Bool, true, false, cond, not, ◌||◌}
 use mathlib.Core.List.{List}
-use mathlib.Core.Logic.{⊎_elim}
 use mathlib.Core.Path.{◌≡◌, refl, sym, ap, ap₂, ◌∙◌}
 use Prim.Native.Nat.{ℕ, ◌+◌, ◌*◌, ◌<◌, ◌≤◌}
-use native.Mathlib.Nat.{eq-or-lt_of_le}
 use native.Mathlib.Omega.{arith}
 use lib.Dec.{ltb}
 use lib.ListN.{length, set, length-set}
-use borrow.Author.Tests.{lt-ltb, le-ltb, le-leb, ltb-true}
+use borrow.Author.Tests.{lt-ltb, ltb-true}
 use Rattle.records.specs.declared.line.Line.{Line}
-use Rattle.records.specs.declared.line.Slot.{Slot}
 use Rattle.records.specs.declared.sheet.Sheet.{Sheet}
 use Rattle.records.specs.Lists.{listed}
 use Rattle.records.specs.Line.{blank_line}
-use Rattle.records.specs.Sheet.{SheetValue, slot_of, line_at}
+use Rattle.records.specs.Sheet.{SheetValue, line_at}
 use Rattle.tesl.proofs.FormulaLists.{below_of}
 use Rattle.tesl.proofs.Tests.{≡→T, T→≡}
 use Rattle.work.proofs.Listing.{listed_at, listed_same}
 use Rattle.lines.specs.declared.line_words.LineWords.{LineWords}
-use Rattle.lines.specs.LineWords.{line_of_words, words_of, WordsOf}
+use Rattle.lines.specs.LineWords.{line_of_words, words_of}
 use Rattle.remainders.specs.Rows.{width, all_words, word}
-use Rattle.lent.specs.State.{state_words, state_line, clocks_by, state_slot, state_sheet, is_kind, has_kinds, OthersStay, PutWords, no_words, slot_words, SlotWords, PutLines, PutSheet}
+use Rattle.lent.specs.State.{state_words, state_line, clocks_by, state_slot, state_sheet, is_kind, has_kinds, OthersStay, no_words, slot_words, SlotWords, PutLines, PutSheet}
 use Rattle.remainders.proofs.rows.Laws.{stored, stored_other}
 use Rattle.lent.proofs.state.Words.{words_same}
 
-pub same-sheet : {c c' n n' : ℕ} {l l' : List Slot} → c ≡ c' → n ≡ n' → l ≡ l' → ◌≡◌ {A = Sheet} (record { clocks = c; count = n; lines = l }) (record { clocks = c'; count = n'; lines = l' })
+pub same-sheet : {c c' n n' : ℕ} {l l' : List Line} → c ≡ c' → n ≡ n' → l ≡ l' → ◌≡◌ {A = Sheet} (record { clocks = c; count = n; lines = l }) (record { clocks = c'; count = n'; lines = l' })
 same-sheet a b c = rw (a, b, c)
-
--- ---- the words of a place
-module _ (s : Sheet) (k : ℕ) {r : LineWords} where
-  pub line-words : k < s.count → WordsOf (line_at s k) r → SlotWords s k r
-  line-words h w =
-      record {
-        words = w.words ∙ rw (lt-ltb k s.count h);
-        line = λ l. w.line;
-        kind = λ l. rw (le-leb 16 r.kind w.least) (le-leb r.kind 24 w.most);
-      }
-
-  pub none-words : s.count ≤ k → r ≡ no_words → SlotWords s k r
-  none-words h e = record { words = e ∙ rw (le-ltb k s.count h); line = λ l. absurd (omega arith); kind = λ l. absurd (omega arith) }
 
 -- ---- lines stored one after the other
 pub record Lining (s : Sheet) (a b : List ℕ) (k : ℕ) : Type 0 where
   pub size : length b ≡ length a
   pub places : (j : ℕ) → j < k → SlotWords s j (state_words b j)
   pub rows : OthersStay a b
-
-module _ (s : Sheet) (a : List ℕ) where
-  pub lining-start : Lining s a a 0
-  lining-start = record { size = refl; places = λ j h. absurd (omega arith); rows = λ h p l f g. refl }
-
-  pub lining-more : {b c : List ℕ} {k : ℕ} {r : LineWords} → Lining s a b k → k < 16 → SlotWords s k r → PutWords k r b c → Lining s a c (k + 1)
-  lining-more {k = k} w l q p =
-      record {
-        size = p.size ∙ w.size;
-        places = λ j h. ⊎_elim
-            (λ (e : j ≡ k). rw (e, p.here) q)
-            (λ (g : j < k). rw (p.others j (omega arith) (λ e. omega arith)) (w.places j g))
-            (eq-or-lt_of_le (omega arith));
-        rows = λ h m i f g. p.rows h m i f g ∙ w.rows h m i f g;
-      }
 
 -- ---- the sheet
 same-value : {c c' : ℕ} {l l' : List Line} → c ≡ c' → l ≡ l' → ◌≡◌ {A = SheetValue} (record { clocks = c; lines = l }) (record { clocks = c'; lines = l' })
@@ -92,7 +61,7 @@ module _ (s : Sheet) (a b : List ℕ) where
 
     line : (k : ℕ) → k < s.count → line_at (state_sheet sheeted) k ≡ line_at s k
     line k h =
-        ap (λ (t : Slot). t.line) (listed_at (state_slot (word sheeted 0 2) sheeted) (slot_of blank_line) 16 k (omega arith))
+        listed_at (state_slot (word sheeted 0 2) sheeted) blank_line 16 k (omega arith)
         ∙ ap (λ (t : Bool). cond t (state_line sheeted k) blank_line) (ap (ltb k) count ∙ lt-ltb k s.count h)
         ∙ ap line_of_words (place k (omega arith)) ∙ (w.places k (omega arith)).line h
 

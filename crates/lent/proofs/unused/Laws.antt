@@ -1,5 +1,5 @@
 -- Words of a row cleared part by part: what is used is read as before, and the rest is zero. Assumes nothing.
-use mathlib.Core.Bool.{Bool, true, false, cond, ◌&&◌}
+use mathlib.Core.Bool.{Bool, true, false, cond}
 use mathlib.Core.List.{List, map}
 use mathlib.Core.Logic.{⊎_elim}
 use mathlib.Core.Path.{◌≡◌, refl, sym, ap, ◌∙◌}
@@ -7,8 +7,8 @@ use Prim.Native.Nat.{ℕ, ◌+◌, ◌*◌, ◌≤◌, ◌<◌}
 use native.Mathlib.Nat.{eq-or-lt_of_le}
 use native.Mathlib.Omega.{arith}
 use lib.Dec.{ltb}
-use lib.ListN.{length, get_or, set, take}
-use borrow.Author.Tests.{ltb-true, ltb-false}
+use lib.ListN.{length, get_or, take}
+use borrow.Author.Tests.{ltb-true}
 use Rattle.records.specs.Lists.{listed}
 use Rattle.records.specs.Sheet.{SheetValue}
 use Rattle.records.proofs.Lists.{both, length-listed}
@@ -21,37 +21,13 @@ use Rattle.work.proofs.Carried.{sheet_line, next-places, used-by}
 use Rattle.lines.specs.declared.plan.Plan.{Plan}
 use Rattle.remainders.specs.Word.{flag_of}
 use Rattle.remainders.specs.View.{obligation_of, countdown_of}
-use Rattle.lines.specs.Plan.{PlanFits, Planned}
-use Rattle.remainders.specs.Rows.{parts, part_words, leads_part, stopped_part, width, word, row_count, row_obligation, row_set, row_owed, row_countdowns, row_lead, row_leads, row_stop, row_stopped, FewInRow, CountsSame, Stays, ClearedWords}
+use Rattle.lines.specs.Plan.{Planned}
+use Rattle.remainders.specs.Rows.{parts, part_words, leads_part, stopped_part, width, word, row_count, row_obligation, row_set, row_owed, row_countdowns, row_lead, row_leads, row_stop, row_stopped, FewInRow, CountsSame, Stays}
 use Rattle.lent.specs.UnusedWords.{lead_used}
-use Rattle.lent.specs.Cleared.{ClearedPart, ClearedRows, ClearedOwed, ClearedSets, ClearedLeads, StopsStay, ClearedUnused}
-use Rattle.remainders.proofs.rows.Laws.{stored-zero, stored_other, stays_all, stays_put, stays_wide, stays_on, obligation-same, place_same, set_same-law, part_stays, few-counts, set_words-law, nothing-words}
+use Rattle.lent.specs.Cleared.{ClearedPart, ClearedOwed, ClearedSets, ClearedLeads, StopsStay, ClearedUnused}
+use Rattle.remainders.proofs.rows.Laws.{stays_all, stays_wide, stays_on, place_same, set_same-law, part_stays, few-counts, set_words-law, nothing-words}
 use Rattle.judge.proofs.stored.Laws.{take_same}
 use Rattle.step.proofs.advance.Row.{same-remainder}
-
--- ---- words of a row, and rows
-pub part-cleared : (i lo hi : ℕ) {a b : List ℕ} → ClearedWords (width * i + lo) (width * i + hi) a b → hi ≤ width → ClearedPart i lo hi a b
-part-cleared i lo hi c l =
-    record {
-      stays = record { size = c.size; same = λ h q m f. c.same (width * h + q) (λ x y. f (omega arith) (omega arith) (omega arith)) };
-      zero = λ q x y. c.zero (width * i + q) (omega arith) (omega arith);
-    }
-
-pub rows-cleared : (first n : ℕ) {a b : List ℕ} → ClearedWords (width * first) (width * (first + n)) a b → ClearedRows first n a b
-rows-cleared first n c =
-    record {
-      stays = record { size = c.size; same = λ h q m f. c.same (width * h + q) (λ x y. f (omega arith) (omega arith)) };
-      zero = λ h q x y m. c.zero (width * h + q) (omega arith) (omega arith);
-    }
-
--- ---- a part
-pub owed-cleared : {i part n : ℕ} {a b : List ℕ} → part < parts → n ≤ 8 → ClearedPart i (part_words * part + 1 + n) (part_words * part + part_words) a b → ClearedOwed i part n a b
-owed-cleared {i} {part} {n} {a} {b} inside few x =
-    record {
-      stays = stays_wide x.stays (part_words * part + 1) (part_words * part + part_words) (omega arith) (omega arith);
-      places = λ j l. obligation-same a b i part j (x.stays.same i (part_words * part + 1 + j) (omega arith) (λ r u w. omega arith));
-      rest = λ j l m. x.zero (part_words * part + 1 + j) (omega arith) (omega arith);
-    }
 
 -- ---- the sets: the first `part` are cleared
 pub record Sets (i : ℕ) (was rows : List ℕ) (part : ℕ) : Type 0 where
@@ -61,16 +37,10 @@ pub record Sets (i : ℕ) (was rows : List ℕ) (part : ℕ) : Type 0 where
   pub set : (p : ℕ) → p < part → row_set rows i p ≡ row_set was i p
   pub rest : (p j : ℕ) → p < part → row_count rows i p ≤ j → j < 8 → word rows i (part_words * p + 1 + j) ≡ 0
 
-module _ {i : ℕ} {was : List ℕ} where
-  pub sets-start : Sets i was was 0
-  sets-start = record {
-    turns = omega arith;
-    stays = stays_all i 0 0 was;
-    count = λ p l. refl;
-    set = λ p l. absurd (omega arith);
-    rest = λ p j l. absurd (omega arith);
-  }
+pub sets-start : (i : ℕ) (was : List ℕ) → Sets i was was 0
+sets-start i was = record { turns = omega arith; stays = stays_all i 0 0 was; count = λ p l. refl; set = λ p l. absurd (omega arith); rest = λ p j l m k. absurd (omega arith) }
 
+module _ {i : ℕ} {was : List ℕ} where
   module _ {rows : List ℕ} {part : ℕ} (w : Sets i was rows part) where
     pub sets-few : FewInRow was i → FewInRow rows i
     sets-few few = few-counts was rows i w.count few
@@ -106,15 +76,6 @@ module _ {i : ℕ} {was : List ℕ} where
             (eq-or-lt_of_le (omega arith));
       }
 
-    -- all of them
-    pub sets-cleared : parts ≤ part → ClearedSets i was rows
-    sets-cleared h = record {
-      stays = stays_wide w.stays 0 leads_part (omega (arith, w.turns)) (omega (arith, w.turns));
-      count = w.count;
-      set = λ p l. w.set p (omega arith);
-      nothing = record { places = λ p j l m k. w.rest p j (omega arith) m k };
-    }
-
 -- ---- leads: of the first k those without a flag are zero
 pub record Leads (leaders : ℕ) (precede : List Bool) (i : ℕ) (was rows : List ℕ) (k : ℕ) : Type 0 where
   pub turns : k ≤ leaders
@@ -122,55 +83,8 @@ pub record Leads (leaders : ℕ) (precede : List Bool) (i : ℕ) (was rows : Lis
   pub used : (j : ℕ) → j < leaders → get_or precede j false ≡ true → row_lead rows i j ≡ row_lead was i j
   pub unused : (j : ℕ) → j < k → get_or precede j false ≡ false → row_lead rows i j ≡ 0
 
-module _ {leaders : ℕ} (precede : List Bool) {i : ℕ} {was : List ℕ} (few : leaders ≤ 16) where
-  pub leads-start : Leads leaders precede i was was 0
-  leads-start = record { turns = omega arith; stays = stays_all i leads_part stopped_part was; used = λ j l e. refl; unused = λ j l e. absurd (omega arith) }
-
-  module _ {rows : List ℕ} {k : ℕ} (w : Leads leaders precede i was rows k) where
-    apart : {j : ℕ} → get_or precede k false ≡ false → get_or precede j false ≡ true → j ≡ k → ⊥
-    apart e f g = let z : true ≡ false = sym f ∙ ap (λ n. get_or precede n false) g ∙ e in let n : ◌≡◌ {A = ℕ} 0 1 = cc in omega arith
-
-    pub leads-stay : k < leaders → get_or precede k false ≡ true → Leads leaders precede i was rows (k + 1)
-    leads-stay h e =
-        record {
-          turns = omega arith;
-          stays = w.stays;
-          used = w.used;
-          unused = λ j l f. ⊎_elim
-              (λ (g : j ≡ k). let z : true ≡ false = sym e ∙ ap (λ n. get_or precede n false) (sym g) ∙ f in let n : ◌≡◌ {A = ℕ} 0 1 = cc in absurd (omega arith))
-              (λ (g : j < k). w.unused j g f)
-              (eq-or-lt_of_le (omega arith));
-        }
-
-    pub leads-more : k < leaders → get_or precede k false ≡ false → Leads leaders precede i was (set rows (width * i + (leads_part + k)) 0) (k + 1)
-    leads-more h e =
-        record {
-          turns = omega arith;
-          stays = stays_put w.stays (leads_part + k) 0 (omega arith) (omega arith) (omega arith);
-          used = λ j l f. stored_other rows i (leads_part + k) 0 i (leads_part + j) (omega arith) (omega arith) (λ r x. apart e f (omega arith)) ∙ w.used j l f;
-          unused = λ j l f. ⊎_elim
-              (λ (g : j ≡ k). rw g (stored-zero rows (width * i + (leads_part + k))))
-              (λ (g : j < k). stored_other rows i (leads_part + k) 0 i (leads_part + j) (omega arith) (omega arith) (λ r x. omega arith) ∙ w.unused j g f)
-              (eq-or-lt_of_le (omega arith));
-        }
-
-    pub leads-cleared : {out : List ℕ} → leaders ≤ k → ClearedPart i (leads_part + leaders) stopped_part rows out → ClearedLeads leaders precede i was out
-    leads-cleared {out} h c =
-        record {
-          stays = stays_on w.stays (stays_wide c.stays leads_part stopped_part (omega arith) (omega arith));
-          used = λ j e. let b = both (ltb j leaders) e in let m = ltb-true j leaders b.0 in within j m ∙ w.used j m b.1;
-          unused = λ j l e. by-test j l (ltb j leaders) refl e;
-        }
-      where
-        within : (j : ℕ) → j < leaders → row_lead out i j ≡ row_lead rows i j
-        within j m = c.stays.same i (leads_part + j) (omega arith) (λ r x y. omega arith)
-
-        by-test : (j : ℕ) → j < 16 → (b : Bool) → ltb j leaders ≡ b → (b && get_or precede j false) ≡ false → row_lead out i j ≡ 0
-        by-test j l true t e = let m = ltb-true j leaders t in within j m ∙ w.unused j (omega arith) e
-        by-test j l false t e = let m = ltb-false j leaders t in c.zero (leads_part + j) (omega arith) (omega arith)
-
 -- ---- a row
-module _ {p : Plan} {i : ℕ} {a b c d : List ℕ} (few : FewInRow a i) (fit : PlanFits p)
+module _ (p : Plan) {i : ℕ} {a b c d : List ℕ} (few : FewInRow a i)
     (o : ClearedSets i a b) (l : ClearedLeads p.leaders p.precede i b c) (s : ClearedPart i (stopped_part + p.clocks) width c d) where
   -- a word before the leads
   same_word : (q : ℕ) → q < leads_part → word d i q ≡ word b i q
@@ -187,7 +101,7 @@ module _ {p : Plan} {i : ℕ} {a b c d : List ℕ} (few : FewInRow a i) (fit : P
 
   same_stop-law : StopsStay p i a d
   same_stop-law k h =
-      let f = fit.clocks in
+      let f = p.few_clocks in
       s.stays.same i (stopped_part + k) (omega arith) (λ r x y. omega arith) ∙ l.stays.same i (stopped_part + k) (omega arith) (λ r x y. omega arith) ∙ o.stays.same i (stopped_part + k) (omega arith) (λ r x y. omega arith)
 
   -- of a sheet that the plan is of
@@ -198,7 +112,7 @@ module _ {p : Plan} {i : ℕ} {a b c d : List ℕ} (few : FewInRow a i) (fit : P
         by-test : (b : Bool) → is_precedes (sheet_line v k) ≡ b → cond b (get_or (row_leads d i) k 0) 0 ≡ cond b (get_or (row_leads a i) k 0) 0
         by-test true e =
             let u : lead_used p.leaders p.precede k ≡ true = sym (planned.leading.1 k) ∙ e in
-            let h : k < 16 = omega (arith, ltb-true k p.leaders (both (ltb k p.leaders) u).0, fit.leaders) in
+            let h : k < 16 = omega (arith, ltb-true k p.leaders (both (ltb k p.leaders) u).0, p.few_leaders) in
             listed_at (row_lead d i) 0 16 k h ∙ same-lead k h u ∙ sym (listed_at (row_lead a i) 0 16 k h)
         by-test false e = refl
 

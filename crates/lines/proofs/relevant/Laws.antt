@@ -3,9 +3,8 @@ use mathlib.Core.Bool.{Bool, true}
 use mathlib.Core.List.{List, [], ◌∷◌, ◌++◌}
 use mathlib.Core.Path.{◌≡◌, refl, sym, ◌∙◌}
 use Prim.Native.Nat.{ℕ, ◌+◌, ◌-◌, ◌<◌, ◌≤◌}
-use native.Mathlib.Omega.{arith}
 use lib.ListN.{set}
-use Rattle.records.specs.Lists.{listed_from, listed}
+use Rattle.records.specs.Lists.{listed_from}
 use Rattle.records.proofs.Lists.{listed_cons, listed-end}
 use Rattle.tesl.specs.Lists.{flat_map}
 use Rattle.work.specs.Relevant.{flagged}
@@ -25,6 +24,3 @@ module _ {A : Type 0} (names : A → List ℕ) (at : ℕ → A) (n i : ℕ) (fla
 
     pub named_more : i < n → {after : List Bool} → after ≡ flagged (names (at i)) flags → whole ≡ flagged (flat_map names (listed_from at (i + 1) (n - (i + 1)))) after
     named_more h e = w ∙ rw (listed_cons at n i h, flagged-append (names (at i)) (flat_map names (listed_from at (i + 1) (n - (i + 1)))) flags, e)
-
-pub named_start : {A : Type 0} (names : A → List ℕ) (at : ℕ → A) (n : ℕ) (flags : List Bool) → flagged (flat_map names (listed at n)) flags ≡ named_from names at n 0 flags
-named_start names at n flags = let k : n - 0 ≡ n = omega arith in rw k

@@ -4,8 +4,12 @@ use mathlib.Core.Path.{◌≡◌, refl}
 use Prim.Native.Nat.{ℕ, suc, ◌+◌, ◌≤◌}
 use native.Mathlib.Omega.{arith}
 use lib.ListN.{length, drop, length-append, drop_of_length-le}
-use Rattle.records.specs.declared.record.Decision.TheVariants.{Done, Refused}
-use Rattle.records.specs.declared.instant.InstantRead.{InstantRead}
+use mathlib.Core.Bool.{true, false, true≢false, false≢true}
+use Rattle.std.specs.Prelude.{Result, Ok, Err}
+use Rattle.std.specs.Result.{is_err}
+use Rattle.records.specs.declared.instant.Instant as code
+use Rattle.records.specs.declared.refusal.Refusal.{Refusal}
+use Rattle.records.specs.Outcome.{outcome_of}
 use Rattle.records.specs.Record.{TheRecord}
 use Rattle.records.specs.Sheet.{SheetValue}
 use Rattle.records.specs.Instant.{instant_read}
@@ -19,6 +23,17 @@ use Rattle.theory.proofs.Accepted.{accepts-as}
 use Rattle.theory.proofs.Log.{next-replies}
 use Rattle.logs.specs.Entry.{answers_from}
 use Rattle.logs.specs.Records.{Counted}
+
+-- ---- what was read, or why not
+
+module _ {A B : Type 0} where
+  an-err : (x : Result A B) → is_err x ≡ true → (e : B) × (x ≡ Err e)
+  an-err (Ok v) q = absurd (false≢true q)
+  an-err (Err e) q = (e, refl)
+
+  an-ok : (x : Result A B) → is_err x ≡ false → (v : A) × (x ≡ Ok v)
+  an-ok (Ok v) q = (v, refl)
+  an-ok (Err e) q = absurd (true≢false q)
 
 -- ---- a turn
 
@@ -45,13 +60,13 @@ module _ {log : List ℕ} {clocks n at : ℕ} (w : Counting log clocks n at) whe
   unfolding machine
   counted-end h = counted (λ s run e c. rw (drop_of_length-le log {i = at} h, no_pieces))
 
-  module _ {p : List ℕ} (h : TheRecord log at p) {x : InstantRead} (r : x ≡ instant_read (read_next clocks n p)) where
-    pub counted-refused : {k : ℕ} → x.answer ≡ Refused k → Counted log clocks n
-    counted-refused q = counted (λ s run e c. rw (next-replies h s run, accepts-as s run p e c (read-refused (read_next clocks n p) r q)))
+  module _ {p : List ℕ} (h : TheRecord log at p) (x : Result code.Instant Refusal) (r : outcome_of x ≡ instant_read (read_next clocks n p)) where
+    pub counted-refused : is_err x ≡ true → Counted log clocks n
+    counted-refused q = counted (λ s run e c. rw (next-replies h s run, accepts-as s run p e c (read-refused (read_next clocks n p) r (an-err x q).1)))
 
-    pub counting_more : x.answer ≡ Done → Counting log clocks (n + 1) (at + length p)
+    pub counting_more : is_err x ≡ false → Counting log clocks (n + 1) (at + length p)
     counting_more q =
-        let d = read_done (read_next clocks n p) r q in
+        let d = read_done (read_next clocks n p) r (an-ok x q).1 in
         let i : Instant = d.value.cells in
         record {
           most = omega (arith, (next-read clocks n p d.is).room);

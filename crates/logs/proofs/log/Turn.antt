@@ -15,7 +15,9 @@ use Rattle.tesl.specs.Machine.{accepts, list_after, machine, accepts_each, concl
 use Rattle.theory.proofs.Log.{next-replies, next-accepts}
 use Rattle.judge.specs.declared.monitor.Monitor.{Monitor}
 use Rattle.judge.specs.declared.monitor.CallResult.{CallResult}
-use Rattle.judge.specs.declared.answer.Reply.{Reply}
+use Rattle.std.specs.Prelude.{Result}
+use Rattle.judge.specs.declared.answer.Answer as code
+use Rattle.records.specs.declared.refusal.Refusal.{Refusal}
 use Rattle.judge.specs.Answer.{reply_of}
 use Rattle.logs.specs.Entry.{before_refusal, answers_from, instants_from}
 use Rattle.judge.specs.Promises.{Follows, Called}
@@ -79,17 +81,17 @@ module _ {log : List ℕ} {m₀ m : Monitor} {said : List Answer} {at : ℕ} (w 
 
 -- ---- the last reply and the count
 
-pub record Watching (log : List ℕ) (m₀ : Monitor) (r₀ : Reply) (m : Monitor) (last : Reply) (n at : ℕ) (said : List Answer) : Type 0 where
+pub record Watching (log : List ℕ) (m₀ : Monitor) (r₀ : Result code.Answer Refusal) (m : Monitor) (last : Result code.Answer Refusal) (n at : ℕ) (said : List Answer) : Type 0 where
   pub going : Going log m₀ m said at
   pub last-said : reply_of last ≡ last_said (reply_of r₀) said
   pub counted : n ≡ length said
 
-pub watching-start : (log : List ℕ) (m : Monitor) (r : Reply) → Watching log m r m r 0 0 []
+pub watching-start : (log : List ℕ) (m : Monitor) (r : Result code.Answer Refusal) → Watching log m r m r 0 0 []
 watching-start log m r = record { going = going_start log m; last-said = refl; counted = refl }
 
-module _ {log : List ℕ} {m₀ m : Monitor} {r₀ last : Reply} {n at : ℕ} {said : List Answer} (w : Watching log m₀ r₀ m last n at said) where
+module _ {log : List ℕ} {m₀ m : Monitor} {r₀ last : Result code.Answer Refusal} {n at : ℕ} {said : List Answer} (w : Watching log m₀ r₀ m last n at said) where
   -- the machine's replies are those said, up to the end or to a refusal
-  concludes : (r : Reply) (replies : List (Outcome Answer)) (s : SheetValue) (run : List Instant)
+  concludes : (r : Result code.Answer Refusal) (replies : List (Outcome Answer)) (s : SheetValue) (run : List Instant)
       → machine s run (calls_of log) ≡ map taken said ++ replies
       → concluded (last_said (reply_of r₀) said) n replies ≡ record { outcome = reply_of r; instants = n }
       → record { outcome = reply_of r; instants = n } ≡ concluded (reply_of r₀) 0 (machine s run (calls_of log))
@@ -123,10 +125,10 @@ module _ {log : List ℕ} {m₀ m : Monitor} {r₀ last : Reply} {n at : ℕ} {s
       stopped-answers s run f = let t = turn w.going h o s run f in rw (t.1, answers-said, e) (append-nil said)
 
     module _ {a : Answer} (e : reply_of g.reply ≡ taken a) where
-      pub watching-more : (next : Reply) → reply_of next ≡ taken a → Watching log m₀ r₀ g.monitor next (n + 1) (at + length p) (said ++ (a ∷ []))
-      watching-more next q = record {
+      pub watching-more : Watching log m₀ r₀ g.monitor g.reply (n + 1) (at + length p) (said ++ (a ∷ []))
+      watching-more = record {
         going = going_more w.going h o e;
-        last-said = q ∙ sym (last_snoc (reply_of r₀) said a);
+        last-said = e ∙ sym (last_snoc (reply_of r₀) said a);
         counted = omega (arith, w.counted, length-append said (a ∷ []));
       }
 

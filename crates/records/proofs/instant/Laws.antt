@@ -1,38 +1,34 @@
 -- Laws of specs/Instant.antt, one for each way through the code. Assumes nothing.
 use mathlib.Core.Path.{◌≡◌, refl, sym, ap, ◌∙◌}
-use mathlib.Core.Bool.{Bool, true, false, not, cond}
+use mathlib.Core.Bool.{Bool, true, false, cond}
 use mathlib.Core.List.{List, [], ◌∷◌, ◌++◌, map, append-nil, append_assoc}
-use Prim.Native.Nat.{ℕ, ◌+◌, ◌-◌, ◌*◌, ◌<◌, ◌≤◌}
+use Prim.Native.Nat.{ℕ, ◌+◌, ◌*◌, ◌<◌, ◌≤◌}
 use native.Mathlib.Omega.{arith}
 use native.Mathlib.Numerals.{add-one}
 use lib.ListN.{length, take, drop, length-map, length-append, length-drop, drop_of_length-le}
 use lib.Seq.{drop-cons, take_all}
 use lib.IntN.{ℤ, pos}
-use lib.Dec.{leb}
+use lib.Dec.{leb, ltb}
 use lib.Signed.{mag}
 use mir.Syntax.{w16}
 use mir.Val.{to_z, of_z}
-use borrow.Author.Tests.{lt-ltb, le-ltb, leb-true, eq-eqb, ne_eqb, not-false}
+use borrow.Author.Tests.{leb-true, eq-eqb, ne_eqb}
 use Rattle.records.specs.declared.form.Form.{Form}
-use Rattle.records.specs.declared.form.FormShape.{FormShape}
 use Rattle.records.specs.declared.instant.Tick.{Tick}
 use Rattle.records.specs.declared.instant.Tick.TheVariants.{Idle}
-use Rattle.records.specs.declared.instant.TickSlot.{TickSlot}
 use Rattle.records.specs.declared.instant.Instant.{Instant}
-use Rattle.records.specs.declared.instant.InstantRead.{InstantRead}
-use Rattle.records.specs.declared.record.Decision.TheVariants as answer
+use Rattle.std.specs.Prelude.{Some, None}
 use Rattle.records.specs.declared.record.Record.{Record}
-use Rattle.records.specs.declared.record.Record.TheVariants.{Whole, Torn}
-use Rattle.records.specs.Outcome.{taken, refused, decide}
+use Rattle.records.specs.Outcome.{Outcome, taken, refused, decide, ◌⇒◌}
 use Rattle.records.specs.Lists.{filled}
 use Rattle.records.specs.Word.{at, word_at, tag_of}
 use Rattle.records.specs.Record.{is_torn, whole, cut, pieces, record_at}
 use Rattle.records.specs.Sheet.{clock_count}
-use Rattle.records.specs.Instant.{Cell, InstantValue, RawCell, tick_of, raw_cells, tick_above, cell_of, number_length, form_of, one_instant_checks, instant_in, read_instant, tick_slot, instant_of, instant_read}
-use Rattle.records.specs.Inner.{with_cell, form_shape_of, cells_read, body_read}
-use Rattle.records.proofs.Lists.{both, map-append, filled-set}
+use Rattle.records.specs.Instant.{Cell, InstantValue, RawCell, tick_of, raw_cells, tick_above, cell_of, is_instant_kind, number_length, form_of, one_instant_checks, instant_in, read_instant, instant_of, instant_read}
+use Rattle.records.specs.Inner.{with_cell, cells_read, body_read}
+use Rattle.records.proofs.Lists.{both, taken-passed, map-append, filled-set}
 use Rattle.records.proofs.word.Laws.{back}
-use Rattle.records.proofs.record.Laws.{whole-at, torn-at, part-from, pieces-at}
+use Rattle.records.proofs.record.Laws.{whole-at, torn-at, pieces-at}
 use Rattle.records.proofs.record.Cut.{no_pieces, pieces-torn}
 
 -- ---- reading clocks
@@ -43,8 +39,8 @@ with_cells v i [] = v
 with_cells v i (c ∷ cells) = with_cells (with_cell v i c.tick c.tag) (i + 1) cells
 
 -- what the clocks from place i on answer, where those before are in a struct
-unfoldable pub cells_from : Instant → ℕ → List RawCell → InstantRead
-cells_from v i cells = cond (tick_above cells) (instant_read (refused 15)) (record { answer = answer.Done; instant = with_cells v i (map cell_of cells) })
+unfoldable pub cells_from : Instant → ℕ → List RawCell → Outcome Instant
+cells_from v i cells = cond (tick_above cells) (refused 15) (taken (with_cells v i (map cell_of cells)))
 
 -- the struct of a form's value with these clocks
 abbrev pub struct_of : Form → List Cell → Instant
@@ -52,9 +48,9 @@ struct_of form cells = instant_of (record { form = form; cells = cells })
 
 cell_set : (form : Form) (cells : List Cell) (i : ℕ) (c : Cell) → length cells ≡ i → i < 8 → with_cell (struct_of form cells) i c.tick c.tag ≡ struct_of form (cells ++ (c ∷ []))
 cell_set form cells i c e h =
-    let slot : Cell → TickSlot = λ (x : Cell). tick_slot x.tick in
+    let tick : Cell → Tick = λ (x : Cell). x.tick in
     let tag : Cell → ℤ = λ (x : Cell). x.tag in
-    let t = filled-set 8 i (tick_slot Idle) (slot c) (map slot cells) (rw length-map e) h ∙ ap (filled 8 (tick_slot Idle)) (sym (map-append slot cells (c ∷ []))) in
+    let t = filled-set 8 i Idle c.tick (map tick cells) (rw length-map e) h ∙ ap (filled 8 Idle) (sym (map-append tick cells (c ∷ []))) in
     let g = filled-set 8 i (pos 0) c.tag (map tag cells) (rw length-map e) h ∙ ap (filled 8 (pos 0)) (sym (map-append tag cells (c ∷ []))) in
     λ j. record { form = form; ticks = t j; tags = g j }
 
@@ -73,11 +69,11 @@ raw-size (t ∷ low ∷ []) = omega arith
 raw-size (t ∷ low ∷ high ∷ b) = omega (arith, raw-size b)
 
 -- `u` is what stands before the first clock
-pub cells-start : (form : Form) (b : List ℕ) (c : ℕ) (u : Instant) → c ≤ 8 → length b ≡ 3 * c → u ≡ struct_of form [] → instant_read (cells_read u.form b) ≡ cells_from u 0 (raw_cells b)
+pub cells-start : (form : Form) (b : List ℕ) (c : ℕ) (u : Instant) → c ≤ 8 → length b ≡ 3 * c → u ≡ struct_of form [] → instant_read (cells_read form b) ≡ cells_from u 0 (raw_cells b)
 unfolding cells_read cells_from
 cells-start form b c u h l e = rw e (by-test (tick_above (raw_cells b)))
   where
-    by-test : (t : Bool) → instant_read (cond t (refused 15) (taken (record { form = form; cells = map cell_of (raw_cells b) }))) ≡ cond t (instant_read (refused 15)) (record { answer = answer.Done; instant = with_cells (struct_of form []) 0 (map cell_of (raw_cells b)) })
+    by-test : (t : Bool) → instant_read (cond t (refused 15) (taken (record { form = form; cells = map cell_of (raw_cells b) }))) ≡ cond t (refused 15) (taken (with_cells (struct_of form []) 0 (map cell_of (raw_cells b))))
     by-test true = refl
     by-test false = rw (cells-set form [] (map cell_of (raw_cells b)) 0 refl (rw length-map (omega (arith, raw-size b))))
 
@@ -90,24 +86,30 @@ raw-next b i n h l =
     let k : 3 * i + 1 + 1 + 1 ≡ 3 * (i + 1) = omega arith in
     rw (next b (3 * i) (omega arith), next b (3 * i + 1) (omega arith), next b (3 * i + 1 + 1) (omega arith), k)
 
--- a turn of the loop over clocks
-module _ (form : Form) (b : List ℕ) (c n i : ℕ) (u v : Instant) (l : length b ≡ 3 * c) (e : n ≡ c) (start : u ≡ struct_of form []) (inv : instant_read (cells_read u.form b) ≡ cells_from v i (raw_cells (drop (3 * i) b))) where
-  of-form : instant_read (cells_read u.form b) ≡ instant_read (cells_read form b)
-  of-form = ap (λ (x : Instant). instant_read (cells_read x.form b)) start
-
-  pub cells-end : n ≤ i → record { answer = answer.Done; instant = v } ≡ instant_read (cells_read form b)
+-- a turn of the loop over clocks; `x` is the outcome of all
+module _ (b : List ℕ) (n i : ℕ) (v : Instant) {x : Outcome Instant} (l : length b ≡ 3 * n) (inv : x ≡ cells_from v i (raw_cells (drop (3 * i) b))) where
+  pub cells-end : n ≤ i → taken v ≡ x
   unfolding raw_cells cells_from
-  cells-end h = sym (inv ∙ rw (drop_of_length-le b {i = 3 * i} (omega arith))) ∙ of-form
+  cells-end h = sym (inv ∙ rw (drop_of_length-le b {i = 3 * i} (omega arith)))
 
+  -- the tick byte of a clock is read, or refused
   module _ (h : i < n) where
-    pub cells-no : 2 < at b (3 * i) → (r : InstantRead) → r ≡ instant_read (refused 15) → r ≡ instant_read (cells_read form b)
+    pub cells-no : {k : ℕ} → refused k ≡ decide ((ltb 2 (at b (3 * i)) ⇒ 15) ∷ []) (tick_of (at b (3 * i))) → refused k ≡ x
     unfolding cells_from
-    cells-no g r q = q ∙ sym (inv ∙ rw (raw-next b i n h (omega arith), lt-ltb 2 (at b (3 * i)) g)) ∙ of-form
+    cells-no {k} e = by-test (ltb 2 (at b (3 * i))) refl e
+      where
+        by-test : (t : Bool) → ltb 2 (at b (3 * i)) ≡ t → refused k ≡ cond t (refused 15) (taken (tick_of (at b (3 * i)))) → refused k ≡ x
+        by-test true g e =
+            let f : k ≡ 15 = cc in
+            rw f (sym (inv ∙ rw (raw-next b i n h l, g)))
+        by-test false g e = cc
 
-    pub cells-more : at b (3 * i) ≤ 2 → (x : ℕ) (t : Tick) (z : ℤ) (v' : Instant) → v' ≡ with_cell v i t (to_z w16 (of_z w16 z)) → t ≡ tick_of (at b (3 * i)) → z ≡ tag_of x → mag z < 32768 → x ≡ word_at b (3 * i + 1)
-        → instant_read (cells_read u.form b) ≡ cells_from v' (i + 1) (raw_cells (drop (3 * (i + 1)) b))
+    pub cells-more : {t : Tick} → taken t ≡ decide ((ltb 2 (at b (3 * i)) ⇒ 15) ∷ []) (tick_of (at b (3 * i))) → {v' : Instant} {z : ℤ} {w : ℕ} → v' ≡ with_cell v i t (to_z w16 (of_z w16 z)) → z ≡ tag_of w → mag z < 32768 → w ≡ word_at b (3 * i + 1)
+        → x ≡ cells_from v' (i + 1) (raw_cells (drop (3 * (i + 1)) b))
     unfolding cells_from
-    cells-more k x t z v' s r q f p = inv ∙ rw (raw-next b i n h (omega arith), le-ltb 2 (at b (3 * i)) k, s, r, back f q, p)
+    cells-more e q g f k =
+        let p = taken-passed ((ltb 2 (at b (3 * i)) ⇒ 15) ∷ []) (sym e) in
+        inv ∙ rw (raw-next b i n h l, p.0.0, q, back f g, k, p.1)
 
 -- ---- reading the record
 
@@ -120,55 +122,47 @@ unfolding cut
 more-refused c k body [] v h = absurd (omega arith)
 more-refused c k body (x ∷ d) v h = refl
 
-only-piece : (b : List ℕ) (k n : ℕ) → record_at b 0 ≡ Whole k n → length b ≡ 4 + n → pieces b ≡ whole k (drop 4 b) ∷ []
-only-piece b k n e l = pieces-at b 0 e ∙ rw (take_all n (drop 4 b) (simp length-drop (omega arith)), drop_of_length-le b {i = 4 + n} (omega arith), no_pieces)
+only-piece : (b : List ℕ) {r : Record} → record_at b 0 ≡ Some r → length b ≡ 4 + r.len → pieces b ≡ whole r.kind (drop 4 b) ∷ []
+only-piece b {r} e l = pieces-at b 0 e ∙ rw (take_all r.len (drop 4 b) (simp length-drop (omega arith)), drop_of_length-le b {i = 4 + r.len} (omega arith), no_pieces)
 
 -- a clock count is at most 8
-pub few-clocks : (c : ℕ) (t : Bool) → t ≡ clock_count c → not t ≡ false → c ≤ 8
-few-clocks c t e h = leb-true c 8 (both (leb 1 c) (sym e ∙ not-false t h)).1
+pub few-clocks : (c : ℕ) → clock_count c ≡ true → c ≤ 8
+few-clocks c h = leb-true c 8 (both (leb 1 c) h).1
 
--- the answers of `read_body`, in the shapes that its places hold
-module _ (c k : ℕ) (body : List ℕ) (s : FormShape) (e : s ≡ form_shape_of k) (x : InstantRead) where
-  pub read-13 : not s.instant ≡ true → x ≡ instant_read (refused 13) → x ≡ instant_read (body_read c k body)
+-- the answers of `read_body`
+module _ (c k : ℕ) (body : List ℕ) where
+  pub read-13 : is_instant_kind k ≡ false → refused 13 ≡ instant_read (body_read c k body)
   unfolding body_read
-  read-13 h q = q ∙ rw (← ap (λ (t : FormShape). t.instant) e, h)
+  read-13 h = rw h
 
-  module _ (h : not s.instant ≡ false) (m : ℕ) (g : m ≡ c) where
-    pub read-14 : (length body ≡ 3 * m + s.before → ⊥) → x ≡ instant_read (refused 14) → x ≡ instant_read (body_read c k body)
+  module _ (h : is_instant_kind k ≡ true) where
+    pub read-14 : (length body ≡ 3 * c + number_length k → ⊥) → refused 14 ≡ instant_read (body_read c k body)
     unfolding body_read
-    read-14 y q =
-        let k₁ = ap (λ (t : FormShape). t.instant) e in
-        let k₂ = ap (λ (t : FormShape). t.before) e in
-        let z : length body ≡ 3 * c + number_length k → ⊥ = λ z. y (omega arith) in
-        q ∙ rw (← k₁, h, ne_eqb (length body) (3 * c + number_length k) z)
+    read-14 y = rw (h, ne_eqb (length body) (3 * c + number_length k) y)
 
-    pub read-clocks : length body ≡ 3 * m + s.before → (form : Form) → form ≡ form_of k body → x ≡ instant_read (cells_read form (take (length body - s.before) (drop s.before body))) → x ≡ instant_read (body_read c k body)
+    pub read-clocks : length body ≡ 3 * c + number_length k → instant_read (cells_read (form_of k body) (drop (number_length k) body)) ≡ instant_read (body_read c k body)
     unfolding body_read cells_read
-    read-clocks y form f q =
-        let k₁ = ap (λ (t : FormShape). t.instant) e in
-        let k₂ = ap (λ (t : FormShape). t.before) e in
-        let z : length body ≡ 3 * c + number_length k = omega arith in
-        q ∙ rw (part-from body s.before, f, k₂, ← k₁, h, eq-eqb (length body) (3 * c + number_length k) z)
+    read-clocks y = rw (h, eq-eqb (length body) (3 * c + number_length k) y)
 
--- the answers of `read_instant`, in the shapes that its places hold
-module _ (c : ℕ) (b : List ℕ) (t : Bool) (e : t ≡ clock_count c) (x : InstantRead) where
-  pub read-4 : not t ≡ true → x ≡ instant_read (refused 4) → x ≡ instant_read (read_instant c b)
+-- the answers of `read_instant`
+module _ (c : ℕ) (b : List ℕ) where
+  pub read-4 : clock_count c ≡ false → refused 4 ≡ instant_read (read_instant c b)
   unfolding read_instant
-  read-4 h q = q ∙ rw (← e, h)
+  read-4 h = rw h
 
-  module _ (h : not t ≡ false) (r : Record) (f : r ≡ record_at b 0) where
-    pub read-torn : r ≡ Torn → x ≡ instant_read (refused 12) → x ≡ instant_read (read_instant c b)
+  module _ (h : clock_count c ≡ true) where
+    pub read-torn : record_at b 0 ≡ None → refused 12 ≡ instant_read (read_instant c b)
     unfolding read_instant
-    read-torn p q = q ∙ rw (← e, h, torn-refused c b (torn-at b 0 (sym f ∙ p)))
+    read-torn e = rw (h, torn-refused c b (torn-at b 0 e))
 
-    module _ (k n : ℕ) (p : r ≡ Whole k n) where
-      pub read-12 : (length b ≡ 4 + n → ⊥) → x ≡ instant_read (refused 12) → x ≡ instant_read (read_instant c b)
+    module _ {r : Record} (e : record_at b 0 ≡ Some r) where
+      pub read-12 : (length b ≡ 4 + r.len → ⊥) → refused 12 ≡ instant_read (read_instant c b)
       unfolding read_instant
-      read-12 l q =
-          let w = whole-at b 0 (sym f ∙ p) in
-          q ∙ rw (← e, h, pieces-at b 0 (sym f ∙ p), more-refused c k (take n (drop 4 b)) (drop (4 + n) b) _ (simp length-drop (omega arith)))
+      read-12 l =
+          let w = whole-at b 0 e in
+          rw (h, pieces-at b 0 e, more-refused c r.kind (take r.len (drop 4 b)) (drop (4 + r.len) b) _ (simp length-drop (omega arith)))
 
       -- 13, 14, 15 and the instant, as the body's own
-      pub read_whole : length b ≡ 4 + n → x ≡ instant_read (body_read c k (take (length b - 4) (drop 4 b))) → x ≡ instant_read (read_instant c b)
+      pub read_whole : length b ≡ 4 + r.len → instant_read (body_read c r.kind (drop 4 b)) ≡ instant_read (read_instant c b)
       unfolding read_instant body_read
-      read_whole l q = q ∙ rw (part-from b 4, ← e, h, only-piece b k n (sym f ∙ p) l)
+      read_whole l = rw (h, only-piece b e l)

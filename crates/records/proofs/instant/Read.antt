@@ -2,34 +2,37 @@
 use mathlib.Core.List.{List, map}
 use mathlib.Core.Path.{◌≡◌, refl, sym, ap, ◌∙◌}
 use Prim.Native.Nat.{ℕ}
-use native.Mathlib.Omega.{arith}
 use lib.ListN.{length, take, length-map}
 use lib.Seq.{take-append_seam}
-use Rattle.records.specs.declared.instant.InstantRead.{InstantRead}
-use Rattle.records.specs.declared.record.Decision.TheVariants.{Done, Refused}
-use Rattle.records.specs.Outcome.{Outcome, taken, refused}
+use Rattle.std.specs.Prelude.{Result, Ok, Err}
+use Rattle.records.specs.declared.instant.Instant.{Instant}
+use Rattle.records.specs.declared.refusal.Refusal.{Refusal}
+use Rattle.records.specs.Outcome.{Outcome, taken, refused, outcome_of}
+use Rattle.records.specs.Refusal.{refusal_number}
 use Rattle.records.specs.Lists.{filled}
 use Rattle.records.specs.Instant.{InstantValue, instant_of, instant_read}
+use Rattle.records.proofs.Lists.{refused-same, taken-same}
+
+-- what was read is a struct's value, or refused with a number
+pub number-refused : (o : Outcome InstantValue) {n : ℕ} → refused n ≡ instant_read o → o ≡ refused n
+number-refused (taken v) e = cc
+number-refused (refused k) e = ap refused (sym (refused-same e))
 
 -- x is what reading gave
-pub read-refused : (o : Outcome InstantValue) {x : InstantRead} → x ≡ instant_read o → {n : ℕ} → x.answer ≡ Refused n → o ≡ refused n
-read-refused o {x} h {n} q = by-outcome o (sym (ap (λ (y : InstantRead). y.answer) h) ∙ q)
-  where
-    by-outcome : (o : Outcome InstantValue) → (instant_read o).answer ≡ Refused n → o ≡ refused n
-    by-outcome (taken v) e = let z : ◌≡◌ {A = ℕ} 0 1 = cc in absurd (omega arith)
-    by-outcome (refused k) e = let z : k ≡ n = cc in ap refused z
+pub read-refused : (o : Outcome InstantValue) {x : Result Instant Refusal} → outcome_of x ≡ instant_read o → {e : Refusal} → x ≡ Err e → o ≡ refused (refusal_number e)
+read-refused o h q = number-refused o (sym (ap outcome_of q) ∙ h)
 
-pub record Read (o : Outcome InstantValue) (x : InstantRead) : Type 0 where
+pub record Read (o : Outcome InstantValue) (i : Instant) : Type 0 where
   pub value : InstantValue
   pub is : o ≡ taken value
-  pub struct : x.instant ≡ instant_of value
+  pub struct : i ≡ instant_of value
 
-pub read_done : (o : Outcome InstantValue) {x : InstantRead} → x ≡ instant_read o → x.answer ≡ Done → Read o x
-read_done o {x} h q = by-outcome o h (sym (ap (λ (y : InstantRead). y.answer) h) ∙ q)
+pub read_done : (o : Outcome InstantValue) {x : Result Instant Refusal} → outcome_of x ≡ instant_read o → {i : Instant} → x ≡ Ok i → Read o i
+read_done o {x} h {i} q = by-outcome o (sym (ap outcome_of q) ∙ h)
   where
-    by-outcome : (o : Outcome InstantValue) → x ≡ instant_read o → (instant_read o).answer ≡ Done → Read o x
-    by-outcome (taken v) h e = record { value = v; is = refl; struct = ap (λ (y : InstantRead). y.instant) h }
-    by-outcome (refused n) h e = let z : ◌≡◌ {A = ℕ} 0 1 = cc in absurd (omega arith)
+    by-outcome : (o : Outcome InstantValue) → taken i ≡ instant_read o → Read o i
+    by-outcome (taken v) e = record { value = v; is = refl; struct = taken-same e }
+    by-outcome (refused n) e = cc
 
 -- the places in use of an array that reading filled
 pub places-in-use : {A B : Type 0} (f : A → B) (d : B) (n : ℕ) (xs : List A) → length xs ≡ n → take n (filled 8 d (map f xs)) ≡ map f xs

@@ -4,24 +4,23 @@ use mathlib.Core.Logic.{◌↔◌}
 use mathlib.Core.Bool.{true, not}
 use mathlib.Core.List.{List, [], ◌∷◌, ◌++◌}
 use Prim.Native.Nat.{ℕ, ◌≤◌, ◌<◌}
-use native.Mathlib.Omega.{arith}
 use lib.ListN.{length, get_or, take, drop}
 use lib.IntN.{pos}
 use borrow.Author.Tests.{not-false}
 use Rattle.records.specs.declared.instant.Tick.TheVariants.{Idle}
 use Rattle.records.specs.declared.instant.Instant.{Instant}
-use Rattle.records.specs.declared.record.Decision.TheVariants as answer
-use Rattle.records.specs.declared.record.Written.TheVariants as written
-use Rattle.records.specs.Outcome.{Outcome, taken, refused, ◌⇒◌}
+use Rattle.std.specs.Prelude.{Ok}
+use Rattle.records.specs.Outcome.{taken, ◌⇒◌}
 use Rattle.records.specs.Lists.{listed}
 use Rattle.records.specs.Record.{pieces}
 use Rattle.records.specs.Sheet.{clock_count}
-use Rattle.records.specs.Instant.{Cell, InstantValue, one_instant_checks, read_instant, tick_slot, cell_at, instant_value, SameInstant, instant_of, instant_read, instant_bytes, write_instant}
+use Rattle.records.specs.Instant.{Cell, InstantValue, one_instant_checks, read_instant, cell_at, instant_value, SameInstant, instant_of, instant_read, instant_bytes, write_instant}
 use Rattle.records.specs.Store.{wrote}
 use Rattle.records.specs.Types.{IsBytes, IsInstantValue}
 use Rattle.records.proofs.Lists.{taken-passed, passed-taken, listed_of, length-listed, filled_at}
 use Rattle.records.proofs.record.Inverse.{pieces-bodies, pieces-bytes}
 use Rattle.records.proofs.record.Write.{writes, wrote-all}
+use Rattle.records.proofs.instant.Read.{read_done}
 use Rattle.records.proofs.instant.Pieces.{instant_pieces, instant-pieces, instant-passed, instant-back, instant-taken, pieces-instant}
 
 -- a value of c clocks that may be written, and the byte string that it is written as
@@ -63,32 +62,30 @@ instant_of-value c v n = let e : listed (cell_at (instant_of v)) c ≡ v.cells =
 
     same : (i : ℕ) → i < length v.cells → cell_at (instant_of v) i ≡ get_or v.cells i blank
     same i l =
-        let t = filled_at (λ (x : Cell). tick_slot x.tick) 8 blank v.cells i l in
+        let t = filled_at (λ (x : Cell). x.tick) 8 blank v.cells i l in
         let g = filled_at (λ (x : Cell). x.tag) 8 blank v.cells i l in
-        λ j. record { tick = (t j).tick; tag = g j }
+        λ j. record { tick = t j; tag = g j }
 
 -- read, then written: the same bytes, and not refused
 module _ (c : ℕ) (b buffer : List ℕ) (l : length b ≤ length buffer) where
-  pub value_written : {v : InstantValue} → Writes c b v → write_instant c v buffer ≡ wrote (written.Bytes (length b)) (b ++ drop (length b) buffer)
+  pub value_written : {v : InstantValue} → Writes c b v → write_instant c v buffer ≡ wrote (Ok (length b)) (b ++ drop (length b) buffer)
   unfolding write_instant
   value_written {v} w = writes ((not (clock_count c) ⇒ 4) ∷ []) (instant_bytes v) buffer w.bytes (rw w.clocks (refl, tt)) l
 
-  pub read-written : IsBytes b → (instant_read (read_instant c b)).answer ≡ answer.Done
-      → write_instant c (instant_value c (instant_read (read_instant c b)).instant) buffer ≡ wrote (written.Bytes (length b)) (b ++ drop (length b) buffer)
-  read-written h e = by-outcome (read_instant c b) refl e
-    where
-      by-outcome : (o : Outcome InstantValue) → read_instant c b ≡ o → (instant_read o).answer ≡ answer.Done
-          → write_instant c (instant_value c (instant_read o).instant) buffer ≡ wrote (written.Bytes (length b)) (b ++ drop (length b) buffer)
-      by-outcome (taken v) f e = let w = read-writes c b h f in rw (instant_of-value c v w.size) (value_written w)
-      by-outcome (refused n) f e = let z : ◌≡◌ {A = ℕ} 0 1 = cc in absurd (omega arith)
+  pub read-written : IsBytes b → {i : Instant} → instant_read (read_instant c b) ≡ taken i → write_instant c (instant_value c i) buffer ≡ wrote (Ok (length b)) (b ++ drop (length b) buffer)
+  read-written h {i} e =
+      let r = read_done (read_instant c b) {x = Ok i} (sym e) refl in
+      let w = read-writes c b h r.is in
+      rw (r.struct, instant_of-value c r.value w.size) (value_written w)
 
 -- written, then read: the same value, up to unused places
 pub record ReadBack (c : ℕ) (i : Instant) (b : List ℕ) : Type 0 where
   pub outcome : read_instant c b ≡ taken (instant_value c i)
-  pub answer : (instant_read (read_instant c b)).answer ≡ answer.Done
-  pub same : SameInstant c (instant_read (read_instant c b)).instant i
+  pub read : Instant
+  pub answer : instant_read (read_instant c b) ≡ taken read
+  pub same : SameInstant c read i
 
-pub written_read : (c : ℕ) (i : Instant) (buffer : List ℕ) {n : ℕ} → IsInstantValue (instant_value c i) → (write_instant c (instant_value c i) buffer).answer ≡ written.Bytes n
+pub written_read : (c : ℕ) (i : Instant) (buffer : List ℕ) {n : ℕ} → IsInstantValue (instant_value c i) → (write_instant c (instant_value c i) buffer).answer ≡ taken n
     → ReadBack c i (take n (write_instant c (instant_value c i) buffer).buffer)
 unfolding write_instant
 written_read c i buffer {n} h e =
@@ -97,7 +94,7 @@ written_read c i buffer {n} h e =
     let w = wrote-all ((not (clock_count c) ⇒ 4) ∷ []) (instant_bytes v) buffer e in
     let r : read_instant c (take n (write_instant c v buffer).buffer) ≡ taken v =
     writes-read c _ (record { value = h; size = k; clocks = not-false (clock_count c) w.passed.0; bytes = sym w.bytes-there }) in
-    record { outcome = r; answer = rw r; same = rw r (instant_of-value c v k) }
+    record { outcome = r; read = instant_of v; answer = rw r; same = instant_of-value c v k }
 
 -- what is written does not depend on unused places
 pub unused-places : (c : ℕ) (i j : Instant) (buffer : List ℕ) → SameInstant c i j → write_instant c (instant_value c i) buffer ≡ write_instant c (instant_value c j) buffer

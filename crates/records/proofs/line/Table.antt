@@ -1,7 +1,7 @@
 -- A line's kind is 16 to 24, and its body has the length of its kind. Assumes nothing.
-use mathlib.Core.Path.{◌≡◌, refl}
+use mathlib.Core.Path.{◌≡◌, refl, sym}
 use mathlib.Core.Bool.{Bool, true, false, cond}
-use Prim.Native.Nat.{ℕ, ◌≤◌, ◌<◌}
+use Prim.Native.Nat.{ℕ, ◌≤◌}
 use native.Mathlib.Omega.{arith}
 use lib.ListN.{length}
 use lib.Dec.{eqb}
@@ -26,17 +26,9 @@ shaped (Strictly a b) = record { line = refl; size = refl; short = omega arith }
 shaped (Kills a b) = record { line = refl; size = refl; short = omega arith }
 shaped (Counted a b d n) = record { line = refl; size = refl; short = omega arith }
 
--- every line's body has at least two clocks
-pub two-clocks : (k : ℕ) → is_line k ≡ true → 2 ≤ length_of k
-unfolding length_of
-two-clocks k h = rw h (least (eqb k 16) (eqb k 17) (eqb k 20) (eqb k 24))
-  where
-    least : (x y z w : Bool) → 2 ≤ cond x 4 (cond y 6 (cond z 5 (cond w 4 2)))
-    least true y z w = omega arith
-    least false true z w = omega arith
-    least false false true w = omega arith
-    least false false false true = omega arith
-    least false false false false = omega arith
+-- the length that the table gives a line's kind is that of its body
+pub line-length : (l : Line) → length_of (kind_of l) ≡ length (body_of l)
+line-length l = sym (shaped l).size
 
 -- no line's body is longer than 6
 pub length_most : (k : ℕ) → length_of k ≤ 6
@@ -50,10 +42,6 @@ length_most k = most (eqb k 16) (eqb k 17) (eqb k 20) (eqb k 24) (is_line k)
     most false false false true t = omega arith
     most false false false false true = omega arith
     most false false false false false = omega arith
-
--- no kind stands between 23 and 24
-pub beyond : (k : ℕ) → (k ≡ 24 → ⊥) → 23 < k → 24 < k
-beyond k n h = omega arith
 
 -- a body has room for its clocks
 pub clocks-within : (k : ℕ) → clocks_of k ≤ length_of k
@@ -73,3 +61,6 @@ clocks-within k = within (eqb k 16) (eqb k 17) (eqb k 20) (eqb k 24) (is_line k)
     within false false false true t = omega arith
     within false false false false true = omega arith
     within false false false false false = omega arith
+
+-- for the functions that read and write a line
+pub ruleset tables = (line-length, length_most, clocks-within)

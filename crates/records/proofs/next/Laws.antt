@@ -1,5 +1,5 @@
 -- The next instant: what it tells of the record and of the instants held, and the tests that the code makes. Assumes nothing.
-use mathlib.Core.Bool.{Bool, true, false, not}
+use mathlib.Core.Bool.{Bool, true, false}
 use mathlib.Core.List.{List}
 use mathlib.Core.Path.{◌≡◌, refl, ap, ◌∙◌, subst}
 use Prim.Native.Nat.{ℕ, suc, ◌≤◌, ◌<◌}
@@ -7,14 +7,14 @@ use native.Mathlib.Omega.{arith}
 use borrow.Author.Tests.{le-leb, lt-leb, leb-false, eqb-true, not-false}
 use Rattle.records.specs.declared.form.Form.TheVariants.{Numbered}
 use Rattle.records.specs.declared.instant.Instant.{Instant}
-use Rattle.records.specs.declared.instant.InstantRead.{InstantRead}
-use Rattle.records.specs.declared.record.Decision.TheVariants.{Done, Refused}
-use Rattle.records.specs.Outcome.{Outcome, taken, refused}
+use Rattle.std.specs.Prelude.{Result, Ok}
+use Rattle.records.specs.declared.refusal.Refusal.{Refusal}
+use Rattle.records.specs.Outcome.{Outcome, taken, refused, outcome_of}
 use Rattle.records.specs.Instant.{InstantValue, read_instant, instant_read}
 use Rattle.records.specs.Next.{is_next, next_checks, if_next, read_next}
 use Rattle.records.proofs.Lists.{refused-taken, taken-passed, refused-number}
 use Rattle.records.proofs.instant.Front.{read_number}
-use Rattle.records.proofs.instant.Read.{Read, read-refused, read_done}
+use Rattle.records.proofs.instant.Read.{Read, number-refused, read_done}
 
 -- ---- what was read as the next
 
@@ -54,34 +54,34 @@ next-refused c held bytes {n} e = by-outcome (read_instant c bytes) refl e
 -- ---- the code
 
 -- what was done has room for one more
-pub done-room : (c held : ℕ) (bytes : List ℕ) {x : InstantRead} → x ≡ instant_read (read_next c held bytes) → x.answer ≡ Done → held < 4000
+pub done-room : (c held : ℕ) (bytes : List ℕ) {x : Result Instant Refusal} → outcome_of x ≡ instant_read (read_next c held bytes) → {i : Instant} → x ≡ Ok i → held < 4000
 done-room c held bytes h q = (next-read c held bytes (read_done (read_next c held bytes) h q).is).room
 
--- the answers of `read_next`, in the shapes that its places hold; x is what reading alone gives
-module _ (c held : ℕ) (bytes : List ℕ) {x : InstantRead} (h : x ≡ instant_read (read_instant c bytes)) where
+-- the answers of `read_next`
+module _ (c held : ℕ) (bytes : List ℕ) where
   -- 4, 12 to 15
-  pub next-unread : {n : ℕ} → x.answer ≡ Refused n → x ≡ instant_read (read_next c held bytes)
+  pub next-unread : {n : ℕ} → refused n ≡ instant_read (read_instant c bytes) → refused n ≡ instant_read (read_next c held bytes)
   unfolding read_next
-  next-unread q = h ∙ rw (read-refused (read_instant c bytes) h q)
+  next-unread h = rw (number-refused (read_instant c bytes) h)
 
-  module _ (q : x.answer ≡ Done) where
-    was_read : Read (read_instant c bytes) x
-    was_read = read_done (read_instant c bytes) h q
+  module _ {i : Instant} (h : taken i ≡ instant_read (read_instant c bytes)) where
+    was_read : Read (read_instant c bytes) i
+    was_read = read_done (read_instant c bytes) {x = Ok i} h refl
 
     -- 16
-    pub next-full : {r : InstantRead} → 4000 ≤ held → r ≡ instant_read (refused 16) → r ≡ instant_read (read_next c held bytes)
+    pub next-full : 4000 ≤ held → refused 16 ≡ instant_read (read_next c held bytes)
     unfolding read_next
-    next-full k g = g ∙ rw (was_read.is, le-leb 4000 held k)
+    next-full k = rw (was_read.is, le-leb 4000 held k)
 
-    module _ (k : held < 4000) {t : Bool} (e : t ≡ is_next held x.instant.form) where
+    module _ (k : held < 4000) {t : Bool} (e : t ≡ is_next held i.form) where
       tested : t ≡ is_next held was_read.value.form
-      tested = e ∙ ap (λ (i : Instant). is_next held i.form) was_read.struct
+      tested = e ∙ ap (λ (j : Instant). is_next held j.form) was_read.struct
 
       -- 19
-      pub next-other : {r : InstantRead} → not t ≡ true → r ≡ instant_read (refused 19) → r ≡ instant_read (read_next c held bytes)
+      pub next-other : t ≡ false → refused 19 ≡ instant_read (read_next c held bytes)
       unfolding read_next
-      next-other f g = g ∙ rw (was_read.is, lt-leb 4000 held k, ← tested, f)
+      next-other f = rw (was_read.is, lt-leb 4000 held k, ← tested, f)
 
-      pub next-taken : not t ≡ false → x ≡ instant_read (read_next c held bytes)
+      pub next-taken : t ≡ true → taken i ≡ instant_read (read_next c held bytes)
       unfolding read_next
       next-taken f = h ∙ rw (was_read.is, lt-leb 4000 held k, ← tested, f)

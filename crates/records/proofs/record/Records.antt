@@ -10,8 +10,8 @@ use lib.ListN.{length, take, drop, length-drop, drop_of_length-le}
 use lib.Seq.{length-take-le, get_or-take, get_or-drop, ext_get_or}
 use lib.Dec.{leb, ltb}
 use borrow.Author.Tests.{leb-true, leb-false, ltb-true, ltb-false}
+use Rattle.std.specs.Prelude.{Option, Some, None}
 use Rattle.records.specs.declared.record.Record.{Record}
-use Rattle.records.specs.declared.record.Record.TheVariants.{Whole, Torn}
 use Rattle.records.specs.Word.{word_at}
 use Rattle.records.specs.Record.{Piece, whole, torn, Stands, Breaks, Records, length_field, kind_field, is_torn, pieces, PiecesAre, record_at}
 use Rattle.records.proofs.record.Cut.{no_pieces, fits_whole, front-whole}
@@ -34,21 +34,21 @@ module _ (b : List ℕ) where
             absurd (true≢false (sym e ∙ w))
         by-test false g = record { some = h; short = inr (leb-false (i + 4 + word_at b i) (length b) g) }
 
-    module _ {k n : ℕ} (e : record_at b i ≡ Whole k n) where
-      size : length (take n (drop (i + 4) b)) ≡ n
-      size = length-take-le n (drop (i + 4) b) (rw length-drop (omega (arith, (whole-at b i e).fits)))
+    module _ {r : Record} (e : record_at b i ≡ Some r) where
+      size : length (take r.len (drop (i + 4) b)) ≡ r.len
+      size = length-take-le r.len (drop (i + 4) b) (rw length-drop (omega (arith, (whole-at b i e).fits)))
 
-      stands : Stands b i k (take n (drop (i + 4) b))
+      stands : Stands b i r.kind (take r.len (drop (i + 4) b))
       stands =
           let w = whole-at b i e in
           let p : i + 2 + 1 ≡ i + 3 = omega arith in
           let q : kind_field (drop i b) ≡ word_at b (i + 2) = rw (get_or-drop i b 2 0, get_or-drop i b 3 0, p) in
-          let r = sym (front-whole (drop i b) w.sound) ∙ w.piece in
-          let s : kind_field (drop i b) ≡ k = cc in
+          let f = sym (front-whole (drop i b) w.sound) ∙ w.piece in
+          let s : kind_field (drop i b) ≡ r.kind = cc in
           record {
             body_length = size ∙ sym w.body ∙ field;
             kind_number = sym s ∙ q;
-            body_bytes = λ j h. get_or-take n (drop (i + 4) b) j 0 (omega (arith, size)) ∙ get_or-drop (i + 4) b j 0;
+            body_bytes = λ j h. get_or-take r.len (drop (i + 4) b) j 0 (omega (arith, size)) ∙ get_or-drop (i + 4) b j 0;
             all_there = omega (arith, size, w.fits);
           }
 
@@ -60,9 +60,9 @@ module _ (b : List ℕ) where
   at-end : (i : ℕ) → i ≡ length b → Found i
   at-end i e = rw (drop_of_length-le b {i = i} (omega arith), no_pieces) e
 
-  before-end : (i : ℕ) → i < length b → ((j : ℕ) → i < j → j ≤ length b → Found j) → (r : Record) → record_at b i ≡ r → Found i
-  before-end i h later Torn e = rw (pieces-torn-at b i h e) (breaks i h (torn-at b i e), refl)
-  before-end i h later (Whole k n) e = rw (pieces-at b i e) (stands i e, rw (size i e) (later (i + 4 + n) (omega arith) (whole-at b i e).fits))
+  before-end : (i : ℕ) → i < length b → ((j : ℕ) → i < j → j ≤ length b → Found j) → (o : Option Record) → record_at b i ≡ o → Found i
+  before-end i h later None e = rw (pieces-torn-at b i h e) (breaks i h (torn-at b i e), refl)
+  before-end i h later (Some r) e = rw (pieces-at b i e) (stands i e, rw (size i e) (later (i + 4 + r.len) (omega arith) (whole-at b i e).fits))
 
   -- with at most n bytes behind the place
   found : (n i : ℕ) → i ≤ length b → length b ≤ i + n → Found i

@@ -5,8 +5,8 @@ use Prim.Native.Nat.{ℕ, ◌+◌, ◌-◌, ◌<◌, ◌≤◌}
 use native.Mathlib.Omega.{arith}
 use lib.ListN.{length, take, drop, length-drop, drop_of_length-le}
 use lib.Seq.{length-take-le, get_or-take, take-add, take-take, drop-append_seam}
+use Rattle.std.specs.Prelude.{Option, Some, None}
 use Rattle.records.specs.declared.record.Record.{Record}
-use Rattle.records.specs.declared.record.Record.TheVariants.{Whole, Torn}
 use Rattle.records.specs.Record.{length_field, kind_field, whole, torn, front, pieces, record_at, record_span, TheRecord}
 use Rattle.records.proofs.record.Cut.{no_pieces, fits_whole, front-whole, pieces_whole}
 use Rattle.records.proofs.record.Laws.{part-from, torn-past, whole-at, torn-at, pieces-at, pieces-torn-at}
@@ -14,29 +14,24 @@ use Rattle.records.proofs.record.Laws.{part-from, torn-past, whole-at, torn-at, 
 -- ---- the three ways through the code
 
 module _ (b : List ℕ) (i : ℕ) where
-  of-torn : record_at b i ≡ Torn → record_span b i ≡ drop i b
+  of-torn : record_at b i ≡ None → record_span b i ≡ drop i b
   unfolding record_span
   of-torn e = rw e
 
-  of-whole : {k n : ℕ} → record_at b i ≡ Whole k n → record_span b i ≡ take (4 + n) (drop i b)
+  of-whole : {r : Record} → record_at b i ≡ Some r → record_span b i ≡ take (4 + r.len) (drop i b)
   unfolding record_span
   of-whole e = rw e
 
-  pub past-span : length b < i → take (length b - length b) (drop (length b) b) ≡ record_span b i
-  past-span h = rw (of-torn (torn-past b i h), part-from) (drop_of_length-le b {i = length b} (omega arith) ∙ sym (drop_of_length-le b {i = i} (omega arith)))
+  pub past-span : length b < i → [] ≡ record_span b i
+  past-span h = rw (of-torn (torn-past b i h)) (sym (drop_of_length-le b {i = i} (omega arith)))
 
-  module _ {r : Record} (e : r ≡ record_at b i) where
-    pub torn-span : r ≡ Torn → take (length b - i) (drop i b) ≡ record_span b i
-    torn-span f = rw (of-torn (sym e ∙ f)) (part-from b i)
+  pub torn-span : record_at b i ≡ None → take (length b - i) (drop i b) ≡ record_span b i
+  torn-span e = rw (of-torn e) (part-from b i)
 
-    module _ {k n : ℕ} (f : r ≡ Whole k n) where
-      pub span_fits : i + 4 + n ≤ length b
-      span_fits = (whole-at b i (sym e ∙ f)).fits
-
-      pub whole-span : take (i + 4 + n - i) (drop i b) ≡ record_span b i
-      whole-span =
-          let s : i + 4 + n - i ≡ 4 + n = omega arith in
-          rw (of-whole (sym e ∙ f), s)
+  pub whole-span : {r : Record} → record_at b i ≡ Some r → take (i + 4 + r.len - i) (drop i b) ≡ record_span b i
+  whole-span {r} e =
+      let s : i + 4 + r.len - i ≡ 4 + r.len = omega arith in
+      rw (of-whole e, s)
 
 -- ---- the record of a place before the end
 
@@ -44,7 +39,7 @@ module _ (b : List ℕ) (i : ℕ) where
 none_left : (b : List ℕ) (i : ℕ) → length b ≤ i → pieces (drop i b) ≡ []
 none_left b i h = rw (drop_of_length-le b {i = i} h) no_pieces
 
-front-torn : (b : List ℕ) (i : ℕ) → record_at b i ≡ Torn → front (drop i b) ≡ torn
+front-torn : (b : List ℕ) (i : ℕ) → record_at b i ≡ None → front (drop i b) ≡ torn
 unfolding front
 front-torn b i e = rw (torn-at b i e)
 
@@ -61,7 +56,7 @@ alone b n h e =
     pieces_whole p (fits_whole p (omega arith)) ∙ rw (f, k, t, none_left p (4 + n) (omega arith))
 
 module _ (b : List ℕ) (i : ℕ) where
-  torn-record : i < length b → record_at b i ≡ Torn → TheRecord b i (drop i b)
+  torn-record : i < length b → record_at b i ≡ None → TheRecord b i (drop i b)
   torn-record h e =
       let t = pieces-torn-at b i h e in
       let l : length (drop i b) ≡ length b - i = length-drop i b in
@@ -72,14 +67,14 @@ module _ (b : List ℕ) (i : ℕ) where
         within = omega arith;
       }
 
-  whole-record : {k n : ℕ} → record_at b i ≡ Whole k n → TheRecord b i (take (4 + n) (drop i b))
-  whole-record {k} {n} e =
+  whole-record : {r : Record} → record_at b i ≡ Some r → TheRecord b i (take (4 + r.len) (drop i b))
+  whole-record {r} e =
       let w = whole-at b i e in
       let d : length (drop i b) ≡ length b - i = length-drop i b in
-      let l : length (take (4 + n) (drop i b)) ≡ 4 + n = length-take-le (4 + n) (drop i b) (omega (arith, w.fits)) in
-      let j : i + (4 + n) ≡ i + 4 + n = omega arith in
+      let l : length (take (4 + r.len) (drop i b)) ≡ 4 + r.len = length-take-le (4 + r.len) (drop i b) (omega (arith, w.fits)) in
+      let j : i + (4 + r.len) ≡ i + 4 + r.len = omega arith in
       record {
-        one = alone (drop i b) n (omega (arith, w.fits)) w.body ∙ rw (front-whole (drop i b) w.sound, w.body);
+        one = alone (drop i b) r.len (omega (arith, w.fits)) w.body ∙ rw (front-whole (drop i b) w.sound, w.body);
         others = pieces-at b i e ∙ rw (l, j, w.piece);
         some = omega arith;
         within = omega (arith, w.fits);
@@ -89,6 +84,6 @@ module _ (b : List ℕ) (i : ℕ) where
   pub the-record : {p : List ℕ} → p ≡ record_span b i → i < length b → TheRecord b i p
   the-record g h = rw g (by-record (record_at b i) refl)
     where
-      by-record : (r : Record) → record_at b i ≡ r → TheRecord b i (record_span b i)
-      by-record Torn e = rw (of-torn b i e) (torn-record h e)
-      by-record (Whole k n) e = rw (of-whole b i e) (whole-record e)
+      by-record : (o : Option Record) → record_at b i ≡ o → TheRecord b i (record_span b i)
+      by-record None e = rw (of-torn b i e) (torn-record h e)
+      by-record (Some r) e = rw (of-whole b i e) (whole-record e)

@@ -1,20 +1,21 @@
 -- What a match on the answer of reading a sheet tells of its outcome, whichever reader it was. Assumes nothing.
 use mathlib.Core.Path.{◌≡◌, sym, ap, ◌∙◌}
-use Prim.Native.Nat.{ℕ}
-use Rattle.records.specs.declared.record.Decision.TheVariants.{Done, Refused}
-use Rattle.records.specs.declared.sheet.SheetRead.{SheetRead}
-use Rattle.records.specs.Outcome.{Outcome, taken, refused}
-use Rattle.records.specs.Sheet.{SheetValue, sheet_value, sheet_read}
+use Rattle.std.specs.Prelude.{Result, Ok, Err}
+use Rattle.records.specs.declared.refusal.Refusal.{Refusal}
+use Rattle.records.specs.declared.sheet.Sheet.{Sheet}
+use Rattle.records.specs.Outcome.{Outcome, taken, refused, outcome_of}
+use Rattle.records.specs.Refusal.{refusal_number}
+use Rattle.records.specs.Sheet.{SheetValue, sheet_value, sheet_of, sheet_read}
+use Rattle.records.proofs.Lists.{kept-refused, kept-taken}
 use Rattle.records.proofs.sheet.RoundTrip.{sheet_of-value}
-use Rattle.records.proofs.sheet.Writing.{refused-done}
 
-pub sheet-refused : (o : Outcome SheetValue) (x : SheetRead) → x ≡ sheet_read o → {n : ℕ} → x.answer ≡ Refused n → o ≡ refused n
-sheet-refused o x e {n} a = by-outcome o (ap (λ (y : SheetRead). y.answer) (sym e) ∙ a)
-  where
-    by-outcome : (o : Outcome SheetValue) → (sheet_read o).answer ≡ Refused n → o ≡ refused n
-    by-outcome (taken v) a = refused-done (sym a)
-    by-outcome (refused k) a = let z : k ≡ n = cc in ap refused z
+module _ (o : Outcome SheetValue) (x : Result Sheet Refusal) (e : outcome_of x ≡ sheet_read o) where
+  pub sheet-refused : {r : Refusal} → x ≡ Err r → o ≡ refused (refusal_number r)
+  sheet-refused a = kept-refused sheet_of o (sym (ap outcome_of a) ∙ e)
 
-pub sheet-done : (o : Outcome SheetValue) (x : SheetRead) → x ≡ sheet_read o → x.answer ≡ Done → o ≡ taken (sheet_value x.sheet)
-sheet-done (taken v) x e a = ap taken (sym (ap (λ (y : SheetRead). sheet_value y.sheet) e ∙ sheet_of-value v))
-sheet-done (refused n) x e a = refused-done (ap (λ (y : SheetRead). y.answer) (sym e) ∙ a)
+  -- the value, and its struct
+  pub sheet-done_as : {s : Sheet} → x ≡ Ok s → (v : SheetValue) × (o ≡ taken v) × (s ≡ sheet_of v)
+  sheet-done_as a = kept-taken sheet_of o (sym (ap outcome_of a) ∙ e)
+
+  pub sheet-done : {s : Sheet} → x ≡ Ok s → o ≡ taken (sheet_value s)
+  sheet-done a = let r = sheet-done_as a in rw (r.2, sheet_of-value r.0) r.1

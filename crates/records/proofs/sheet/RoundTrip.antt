@@ -1,26 +1,23 @@
 -- Reading and writing a sheet are inverse to each other: what is read is written as the same bytes, what is written is read as the same value, and a byte string is read exactly if it is what some value is written as. Assumes nothing.
-use mathlib.Core.Path.{◌≡◌, refl, sym, ap, ◌∙◌}
+use mathlib.Core.Path.{◌≡◌, sym, ap, ◌∙◌}
 use mathlib.Core.Logic.{◌↔◌}
 use mathlib.Core.List.{List, [], ◌∷◌, ◌++◌}
 use Prim.Native.Nat.{ℕ, ◌≤◌}
-use native.Mathlib.Omega.{arith}
-use lib.ListN.{length, take, drop}
+use lib.ListN.{length, take, drop, get_or-append}
+use Rattle.std.specs.Prelude.{Ok}
 use lib.Dec.{leb}
 use borrow.Author.Tests.{leb-true, ltb-false}
 use Rattle.records.specs.declared.line.Line.{Line}
-use Rattle.records.specs.declared.line.Slot.{Slot}
 use Rattle.records.specs.declared.order.Order.{Order}
 use Rattle.records.specs.declared.order.Order.TheVariants.{Rising}
 use Rattle.records.specs.declared.sheet.Sheet.{Sheet}
-use Rattle.records.specs.declared.record.Decision.TheVariants as answer
-use Rattle.records.specs.declared.record.Written.TheVariants as written
-use Rattle.records.specs.Outcome.{Outcome, taken, refused, decide}
+use Rattle.records.specs.Outcome.{taken, decide}
 use Rattle.records.specs.Record.{pieces}
 use Rattle.records.specs.Line.{kind_of, blank_line}
-use Rattle.records.specs.Sheet.{SheetValue, sheet_checks, read_by, read_sheet, slot_of, line_at, sheet_value, SameSheet, sheet_of, sheet_read, sheet_value_checks, sheet_bytes, write_sheet}
+use Rattle.records.specs.Sheet.{SheetValue, sheet_checks, read_by, read_sheet, line_at, sheet_value, SameSheet, sheet_of, sheet_read, sheet_value_checks, sheet_bytes, write_sheet}
 use Rattle.records.specs.Store.{wrote}
 use Rattle.records.specs.Types.{IsBytes, IsSheet}
-use Rattle.records.proofs.Lists.{both, taken-passed, passed-taken, listed_of, filled_at}
+use Rattle.records.proofs.Lists.{both, taken-passed, passed-taken, listed_of, kept-taken}
 use Rattle.records.proofs.record.Inverse.{pieces-bodies, pieces-bytes}
 use Rattle.records.proofs.record.Write.{writes, wrote-all}
 use Rattle.records.proofs.line.Table.{shaped}
@@ -65,31 +62,26 @@ kinds-24 (l ∷ ls) = (leb-true (kind_of l) 24 (both (leb 16 (kind_of l)) (shape
 
 -- the struct of a value has that value
 pub sheet_of-value : (v : SheetValue) → sheet_value (sheet_of v) ≡ v
-sheet_of-value v =
-    rw (listed_of blank_line (line_at (sheet_of v)) v.lines (λ i l. ap (λ (s : Slot). s.line) (filled_at slot_of 16 blank_line v.lines i l)))
+sheet_of-value v = rw (listed_of blank_line (line_at (sheet_of v)) v.lines (λ i l. get_or-append v.lines _ blank_line i l))
 
 -- read, then written: the same bytes, and not refused
 module _ (b buffer : List ℕ) (l : length b ≤ length buffer) where
-  pub value_written : {last : ℕ} {v : SheetValue} → Writes Rising last b v → write_sheet v buffer ≡ wrote (written.Bytes (length b)) (b ++ drop (length b) buffer)
+  pub value_written : {last : ℕ} {v : SheetValue} → Writes Rising last b v → write_sheet v buffer ≡ wrote (Ok (length b)) (b ++ drop (length b) buffer)
   unfolding write_sheet
   value_written {last} {v} w = writes (sheet_value_checks Rising v) (sheet_bytes v) buffer w.bytes (taken-passed (sheet_value_checks Rising v) w.checks).0 l
 
-  pub read-written : IsBytes b → (sheet_read (read_sheet b)).answer ≡ answer.Done
-      → write_sheet (sheet_value (sheet_read (read_sheet b)).sheet) buffer ≡ wrote (written.Bytes (length b)) (b ++ drop (length b) buffer)
-  read-written h e = by-outcome (read_sheet b) refl e
-    where
-      by-outcome : (o : Outcome SheetValue) → read_sheet b ≡ o → (sheet_read o).answer ≡ answer.Done
-          → write_sheet (sheet_value (sheet_read o).sheet) buffer ≡ wrote (written.Bytes (length b)) (b ++ drop (length b) buffer)
-      by-outcome (taken v) f e = rw sheet_of-value (value_written (read-writes Rising 24 b h f))
-      by-outcome (refused n) f e = let z : ◌≡◌ {A = ℕ} 0 1 = cc in absurd (omega arith)
+  pub read-written : IsBytes b → {s : Sheet} → taken s ≡ sheet_read (read_sheet b) → write_sheet (sheet_value s) buffer ≡ wrote (Ok (length b)) (b ++ drop (length b) buffer)
+  read-written h e =
+      let r = kept-taken sheet_of (read_sheet b) e in
+      rw (r.2, sheet_of-value r.0) (value_written (read-writes Rising 24 b h r.1))
 
 -- written, then read: the same value, up to unused places
 pub record ReadBack (s : Sheet) (b : List ℕ) : Type 0 where
   pub outcome : read_sheet b ≡ taken (sheet_value s)
-  pub answer : (sheet_read (read_sheet b)).answer ≡ answer.Done
-  pub same : SameSheet (sheet_read (read_sheet b)).sheet s
+  pub answer : sheet_read (read_sheet b) ≡ taken (sheet_of (sheet_value s))
+  pub same : SameSheet (sheet_of (sheet_value s)) s
 
-pub written_read : (s : Sheet) (buffer : List ℕ) {n : ℕ} → IsSheet (sheet_value s) → (write_sheet (sheet_value s) buffer).answer ≡ written.Bytes n
+pub written_read : (s : Sheet) (buffer : List ℕ) {n : ℕ} → IsSheet (sheet_value s) → (write_sheet (sheet_value s) buffer).answer ≡ taken n
     → ReadBack s (take n (write_sheet (sheet_value s) buffer).buffer)
 unfolding write_sheet
 written_read s buffer {n} h e =
@@ -97,7 +89,7 @@ written_read s buffer {n} h e =
     let w = wrote-all (sheet_value_checks Rising v) (sheet_bytes v) buffer e in
     let r : read_sheet (take n (write_sheet v buffer).buffer) ≡ taken v =
     writes-read Rising 24 _ (record { value = h; kinds = kinds-24 v.lines; checks = passed-taken (sheet_value_checks Rising v) v w.passed; bytes = sym w.bytes-there }) in
-    record { outcome = r; answer = rw r; same = rw r (sheet_of-value v) }
+    record { outcome = r; answer = rw r; same = sheet_of-value v }
 
 -- what is written does not depend on unused places
 pub unused-places : (s t : Sheet) (buffer : List ℕ) → SameSheet s t → write_sheet (sheet_value s) buffer ≡ write_sheet (sheet_value t) buffer

@@ -7,9 +7,9 @@ use native.Mathlib.Omega.{arith}
 use lib.ListN.{length, take, length-append}
 use lib.Dec.{ltb}
 use borrow.Author.Tests.{le-ltb, ltb-false}
+use Rattle.std.specs.Prelude.{Ok}
 use Rattle.records.specs.declared.line.Line.{Line}
 use Rattle.records.specs.declared.order.Order.TheVariants.{Rising, Any}
-use Rattle.records.specs.declared.record.Written.TheVariants as written
 use Rattle.records.specs.Outcome.{taken, ◌⇒◌}
 use Rattle.records.specs.Lists.{joined}
 use Rattle.records.specs.Line.{kind_of, line_bytes}
@@ -128,7 +128,7 @@ base-unordered b h {v} e =
     writes-read Any 24 b (record { value = r.value; kinds = kinds-24 v.lines; checks = r.checks; bytes = r.bytes })
 
 -- what sorting wrote, where it wrote, is the bytes of the sorted form
-pub sorted-written : (b before after : List ℕ) {n : ℕ} {v : SheetValue} → read_unordered b ≡ taken v → SortsBytes b before (written.Bytes n) after
+pub sorted-written : (b before after : List ℕ) {n : ℕ} {v : SheetValue} → read_unordered b ≡ taken v → SortsBytes b before (Ok n) after
     → (w : SheetValue) × Sorted v w × (take n after ≡ sheet_bytes w)
 sorted-written b before after {n} {v} e s =
     let t = s.sorts v e in

@@ -73,13 +73,7 @@ next_start s sorted = record {
   none = λ e i l. absurd (omega arith);
 }
 
-pub next-all : (s sorted : Sheet) (i r : ℕ) → NextAbove s sorted i r → i ≤ s.count → s.count ≤ i → NextAbove s sorted s.count r
-next-all s sorted i r m h g = let e : i ≡ s.count = omega arith in rw e at m
-
-module _ (s sorted : Sheet) (i r : ℕ) (m : NextAbove s sorted i r) (h : i < s.count) (l : Line) (e : l ≡ line_at s i) (b : Bool) (f : b ≡ is_higher sorted l) where
-  here : b ≡ is_higher sorted (line_at s i)
-  here = f ∙ ap (is_higher sorted) e
-
+module _ (s sorted : Sheet) (i r : ℕ) (m : NextAbove s sorted i r) (h : i < s.count) {l : Line} (e : l ≡ line_at s i) where
   -- what holds of the places below i, and of i, holds of those below the next
   one_more : (P : ℕ → Type 0) → ((j : ℕ) → j < i → P j) → P i → (j : ℕ) → j < i + 1 → P j
   one_more P low at j k = by_place (before-next j i k)
@@ -88,9 +82,9 @@ module _ (s sorted : Sheet) (i r : ℕ) (m : NextAbove s sorted i r) (h : i < s.
       by_place (inl l) = low j l
       by_place (inr q) = subst P (sym q) at
 
-  pub next-no : b ≡ false → NextAbove s sorted (i + 1) r
+  pub next-no : is_higher sorted l ≡ false → NextAbove s sorted (i + 1) r
   next-no g =
-      let no = sym here ∙ g in
+      let no = sym (ap (is_higher sorted) e) ∙ g in
       record {
         most = m.most;
         higher = m.higher;
@@ -98,9 +92,9 @@ module _ (s sorted : Sheet) (i r : ℕ) (m : NextAbove s sorted i r) (h : i < s.
         none = λ q. one_more (λ (j : ℕ). is_higher sorted (line_at s j) ≡ false) (m.none q) no;
       }
 
-  module _ (g : b ≡ true) where
+  module _ (g : is_higher sorted l ≡ true) where
     yes : is_higher sorted (line_at s i) ≡ true
-    yes = sym here ∙ g
+    yes = sym (ap (is_higher sorted) e) ∙ g
 
     -- the line here is the least
     taken : ((j : ℕ) → j < i → is_higher sorted (line_at s j) ≡ true → above (key_of (line_at s i)) (key_of (line_at s j)) ≡ false) → NextAbove s sorted (i + 1) i
@@ -114,21 +108,21 @@ module _ (s sorted : Sheet) (i r : ℕ) (m : NextAbove s sorted i r) (h : i < s.
     pub next-first : r ≡ s.count → NextAbove s sorted (i + 1) i
     next-first q = taken (λ j k y. false-true (m.none q j k) y)
 
-    module _ (q : r ≡ s.count → ⊥) (x : Line) (u : x ≡ line_at s r) (t : Bool) (v : t ≡ above (key_of x) (key_of l)) where
+    module _ (q : r ≡ s.count → ⊥) {x : Line} (u : x ≡ line_at s r) where
       within : r < s.count
       within = let k = m.most in omega (arith, q)
 
-      compared : t ≡ above (key_of (line_at s r)) (key_of (line_at s i))
-      compared = v ∙ rw (u, e)
+      compared : above (key_of x) (key_of l) ≡ above (key_of (line_at s r)) (key_of (line_at s i))
+      compared = rw (u, e)
 
-      pub next-lower : t ≡ true → NextAbove s sorted (i + 1) i
+      pub next-lower : above (key_of x) (key_of l) ≡ true → NextAbove s sorted (i + 1) i
       next-lower y = taken (λ j k z. by-test j (m.least within j k z) (above (key_of (line_at s i)) (key_of (line_at s j))) refl)
         where
           by-test : (j : ℕ) → above (key_of (line_at s r)) (key_of (line_at s j)) ≡ false → (b : Bool) → above (key_of (line_at s i)) (key_of (line_at s j)) ≡ b → b ≡ false
           by-test j n false w = refl
           by-test j n true w = false-true n (above_on (key_of (line_at s r)) (key_of (line_at s i)) (key_of (line_at s j)) (sym compared ∙ y) w)
 
-      pub next-kept : t ≡ false → NextAbove s sorted (i + 1) r
+      pub next-kept : above (key_of x) (key_of l) ≡ false → NextAbove s sorted (i + 1) r
       next-kept y = record {
         most = m.most;
         higher = m.higher;

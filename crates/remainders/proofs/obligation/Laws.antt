@@ -1,15 +1,15 @@
--- Dues as numbers, counted from the least tag: every due of a tag and a delay has one, and they compare as their dues do. Assumes nothing.
-use mathlib.Core.Bool.{Bool, true, false, not, cond, ◌&&◌, and_assoc}
+-- Dues as numbers, counted from the least tag: they compare as their dues do. Assumes nothing.
+use mathlib.Core.Bool.{Bool, true, false, not, cond, ◌&&◌, and_assoc, and_comm}
 use mathlib.Core.Path.{◌≡◌, refl, sym, ap, subst, ◌∙◌}
-use Prim.Native.Nat.{ℕ, suc, ◌+◌, ◌-◌, ◌<◌, ◌≤◌}
+use Prim.Native.Nat.{ℕ, suc, ◌-◌, ◌<◌, ◌≤◌}
 use native.Mathlib.Nat.{add-zero}
 use native.Mathlib.Omega.{arith}
 use lib.Dec.{T, eqb, ltb, leb}
-use lib.IntN.{ℤ, pos, negsuc, nat_abs, ◌+ℤ◌, +ℤ_assoc, +ℤ_idr}
+use lib.IntN.{ℤ, pos, negsuc, nat_abs, ◌+ℤ◌, +ℤ_assoc}
 use lib.Signed.{mag, le_z}
 use mir.Syntax.{w16}
 use mir.Val.{to_z, of_z}
-use borrow.Author.Tests.{eq-eqb, ne_eqb, le-leb, lt-leb, ltb-true, ltb-false, le-ltb}
+use borrow.Author.Tests.{eq-eqb, ne_eqb, le-leb, lt-leb, ltb-true, ltb-false}
 use Rattle.records.proofs.word.Laws.{back}
 use Rattle.tesl.specs.Fits.{eq_z}
 use Rattle.tesl.specs.Remainder.{same_obligation, same_countdown}
@@ -25,25 +25,6 @@ use Rattle.remainders.proofs.Whole.{ltb-at}
 pub number-due : (n : ℕ) → due_number (due_of n) ≡ n
 unfolding due_of due_number
 number-due n = ap nat_abs (+ℤ_assoc (pos n) (negsuc 32767) (pos 32768)) ∙ add-zero n
-
--- the number that a due is, where there is one below 2 ^ 32
-pub record Numbered (due : ℤ) : Type 0 where
-  pub number : ℕ
-  pub small : number < 4294967296
-  pub sum : due +ℤ pos 32768 ≡ pos number
-
-pub due-numbered : (due : ℤ) (n : ℕ) → due +ℤ pos 32768 ≡ pos n → due_of n ≡ due
-unfolding due_of
-due-numbered due n e = ap (λ (z : ℤ). z +ℤ negsuc 32767) (sym e) ∙ +ℤ_assoc due (pos 32768) (negsuc 32767) ∙ +ℤ_idr due
-
--- of a tag and a delay
-pub numbered : (t : ℤ) (d : ℕ) → mag t < 32768 → d < 65536 → Numbered (t +ℤ pos d)
-numbered (pos a) d h k = record { number = a + d + 32768; small = omega arith; sum = refl }
-numbered (negsuc a) d h k = by-test (ltb d (suc a)) refl
-  where
-    by-test : (b : Bool) → ltb d (suc a) ≡ b → Numbered (cond b (negsuc (suc a - suc d)) (pos (d - suc a)))
-    by-test true e = record { number = 32768 - suc (suc a - suc d); small = omega arith; sum = rw (le-ltb 32768 (suc (suc a - suc d)) (omega arith)) }
-    by-test false e = record { number = d - suc a + 32768; small = omega arith; sum = refl }
 
 -- ---- compared
 
@@ -87,14 +68,9 @@ held-due d h e f = e ∙ ap (λ (x : ℤ). x +ℤ pos d) (back h f)
 pub held_number : {z t u : ℤ} → mag t < 32768 → z ≡ to_z w16 (of_z w16 t) → t ≡ u → z ≡ u
 held_number h e f = e ∙ back h f
 
--- the number of a tag has 16 bits
-number_small : (t : ℤ) → mag t < 32768 → due_number t < 65536
-unfolding due_number
-number_small (pos a) h = omega arith
-number_small (negsuc a) h = rw (le-ltb 32768 (suc a) (omega arith)) (omega arith)
-
-pub tag_small : (n : ℕ) (t : ℤ) → mag t < 32768 → due_of n ≡ t → n < 65536
-tag_small n t h e = omega (arith, number_small t h, sym (number-due n) ∙ ap due_number e)
+-- what `==` tests of two
+pub same_fields : (a b : code.Obligation) → (eqb a.clock b.clock && (eqb a.on b.on && eqb a.number b.number)) ≡ same_stored a b
+same_fields a b = ap (λ (t : Bool). eqb a.clock b.clock && t) (and_comm (eqb a.on b.on) (eqb a.number b.number))
 
 -- obligations are the same where they are stored the same
 pub same_read : (a b : code.Obligation) → same_obligation (obligation_of a) (obligation_of b) ≡ same_stored a b

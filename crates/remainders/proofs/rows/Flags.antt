@@ -1,7 +1,6 @@
 -- Stopped clocks' words: each is the one that its flag is stored as, and stays so. Assumes nothing.
 use mathlib.Core.Bool.{Bool, true, false}
 use mathlib.Core.List.{List}
-use mathlib.Core.Logic.{◌⊎◌, ⊎_elim}
 use mathlib.Core.Path.{◌≡◌, refl, sym, ap, ◌∙◌}
 use Prim.Native.Nat.{ℕ, ◌+◌, ◌≤◌, ◌<◌}
 use native.Mathlib.Omega.{arith}
@@ -21,10 +20,6 @@ flag-stored b e = e ∙ ap flag_word (sym (flag-back b e))
 -- ---- those of all rows
 flag_same : {v w : ℕ} → w ≡ v → v ≡ flag_word (flag_of v) → w ≡ flag_word (flag_of w)
 flag_same e f = e ∙ f ∙ ap (λ (w : ℕ). flag_word (flag_of w)) (sym e)
-
--- each is as it was, or 0
-pub flags-cleared : {a b : List ℕ} → ((h k : ℕ) → head_rows ≤ h → h < height → k < 8 → (word b h (stopped_part + k) ≡ word a h (stopped_part + k)) ⊎ (word b h (stopped_part + k) ≡ 0)) → FlagsKept a b
-flags-cleared f s = record { flag = λ h k l m j. ⊎_elim (λ e. flag_same e (s.flag h k l m j)) (flag-stored false) (f h k l m j) }
 
 pub flags-same : {a b : List ℕ} → ((h k : ℕ) → head_rows ≤ h → h < height → k < 8 → word b h (stopped_part + k) ≡ word a h (stopped_part + k)) → FlagsKept a b
 flags-same f s = record { flag = λ h k l m j. flag_same (f h k l m j) (s.flag h k l m j) }

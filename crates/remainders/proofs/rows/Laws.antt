@@ -8,7 +8,14 @@ use lib.Seq.{get_or-set_same, get_or-set_other}
 use Rattle.records.specs.Lists.{listed}
 use Rattle.work.proofs.Listing.{listed_same, listed_next}
 use Rattle.remainders.specs.declared.obligation.Obligation as code
-use Rattle.remainders.specs.Rows.{parts, part_words, leads_part, height, width, all_words, word, row_count, stored_in, row_obligation, row_set, FewInRow, CountsSame, NothingInParts, Stays, RowsStay, PutObligation}
+use Rattle.remainders.specs.declared.rows.Part.{Part}
+use Rattle.remainders.specs.declared.rows.Part.TheVariants.{Obligations, Countdowns}
+use Rattle.remainders.specs.Rows.{parts, part_words, part_number, leads_part, height, width, all_words, word, row_count, stored_in, row_obligation, row_set, FewInRow, CountsSame, NothingInParts, Stays, RowsStay, PutObligation}
+
+-- ---- the number of a part is below their count
+pub part-inside : (p : Part) → part_number p < parts
+part-inside Obligations = omega arith
+part-inside Countdowns = omega arith
 
 -- ---- one word
 module _ (a : List ℕ) (i p w : ℕ) where
@@ -85,18 +92,6 @@ module _ {h part : ℕ} {a b : List ℕ} (s : PartSame h part a b) where
 -- a part of another row, or of this one where other words are stored
 pub part_stays : {i lo hi : ℕ} {a b : List ℕ} → Stays i lo hi a b → (h part : ℕ) → part < parts → ((p : ℕ) → part_words * part ≤ p → p < part_words * part + part_words → h ≡ i → lo ≤ p → p < hi → ⊥) → PartSame h part a b
 part_stays s h part l f = record { same = λ p x y. s.same h p (omega arith) (f p x y) }
-
-module _ (a : List ℕ) (i part j w : ℕ) (size : length a ≡ all_words) (row : i < height) (inside : part < parts) (place : j < 8) where
-  abbrev after : List ℕ
-  after = set a (width * i + (part_words * part + 1 + j)) w
-
-  pub obligation-put : {o : code.Obligation} → stored_in w ≡ o → PutObligation i part j o a after
-  obligation-put e =
-      record {
-        stays = stays_put (stays_all i (part_words * part + 1) (part_words * part + part_words) a) (part_words * part + 1 + j) w (omega arith) (omega arith) (omega arith);
-        here = ap stored_in (stored a i (part_words * part + 1 + j) w (omega arith)) ∙ e;
-        others = λ k l f. obligation-same a after i part k (stored_other a i (part_words * part + 1 + j) w i (part_words * part + 1 + k) (omega arith) (omega arith) (λ z q. f (omega arith)));
-      }
 
 -- ---- a set
 

@@ -1,9 +1,9 @@
 -- A row built part by part: what stays of it, and of the row that it comes from. Assumes nothing.
 use mathlib.Core.List.{List}
-use mathlib.Core.Path.{◌≡◌, ◌∙◌}
+use mathlib.Core.Path.{◌≡◌}
 use Prim.Native.Nat.{ℕ, zero, suc, ◌<◌, ◌≤◌}
 use native.Mathlib.Omega.{arith}
-use Rattle.remainders.specs.Rows.{parts, leads_part, row_count, row_set, FewInRow, Between, Stays, PartStays}
+use Rattle.remainders.specs.Rows.{parts, leads_part, row_count, row_set, FewInRow, Stays, PartStays}
 use Rattle.remainders.proofs.rows.Laws.{stays_wide, part_stays, count_same, set_same-law}
 
 -- a part of row `to` was stored: the words before the leads are what changes, another part stays
@@ -32,9 +32,3 @@ few-counting s h g (suc (suc part)) l = absurd (omega arith)
 module _ {i to : ℕ} (apart : i ≡ to → ⊥) {a b : List ℕ} (s : Stays to 0 leads_part a b) (q : ℕ) (h : q < parts) where
   pub set-stays : row_count a i q ≤ 8 → row_set b i q ≡ row_set a i q
   set-stays few = set_same-law {h = i} {part = q} {a = a} {b = b} (part_stays s i q h (λ p x y e l m. apart e)) few
-
-  pub count-stays : row_count b i q ≡ row_count a i q
-  count-stays = count_same {h = i} {part = q} {a = a} {b = b} (part_stays s i q h (λ p x y e l m. apart e))
-
-pub between_stays : {i to lo hi : ℕ} {a b : List ℕ} → Between a i to → Stays to lo hi a b → Between b i to
-between_stays w s = record { size = s.size ∙ w.size; row = w.row; into = w.into; apart = w.apart }

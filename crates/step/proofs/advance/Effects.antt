@@ -12,8 +12,6 @@ use Rattle.records.proofs.Lists.{listed_cons, listed-end, length-listed}
 use Rattle.theory.specs.Step.{overlap}
 use Rattle.work.specs.Carried.{either}
 use Rattle.work.proofs.Listing.{listed_at}
-use Rattle.remainders.specs.Word.{flag_of, flag_word}
-use Rattle.remainders.proofs.rows.Flags.{flag-back, flag-stored}
 
 -- ---- a clock in both, from place k on
 module _ (xs : List Bool) (f : ℕ → Bool) (n k : ℕ) {whole : Bool} (w : whole ≡ overlap (drop k xs) (listed_from f k (n - k))) where
@@ -58,14 +56,3 @@ either_listed f g n ys h =
     (λ k l.
     let m : k < n = omega (arith, length-listed g n) in
     listed_at g false n k m ∙ h k m ∙ rw (either-at (listed f n) ys k (omega (arith, length-listed f n)), listed_at f false n k m))
-
--- one of them, by a
-pub either-yes : {a c : Bool} (b : Bool) → a ≡ true → c ≡ true → c ≡ (a || b)
-either-yes b e s = rw (e, s)
-
-pub either-no : {a b c : Bool} → a ≡ false → c ≡ b → c ≡ (a || b)
-either-no e s = rw (e, s)
-
--- stored, and read back
-pub either-stored : {w : ℕ} {b c : Bool} → b ≡ c → w ≡ flag_word b → (flag_of w ≡ c) × (w ≡ flag_word (flag_of w))
-either-stored {b = b} e s = (flag-back b s ∙ e, flag-stored b s)

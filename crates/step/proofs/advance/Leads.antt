@@ -6,7 +6,6 @@ use Prim.Native.Nat.{ℕ, ◌+◌, ◌-◌, ◌<◌, ◌≤◌}
 use native.Mathlib.Omega.{arith}
 use lib.Dec.{T, leb}
 use lib.ListN.{get_or, take}
-use borrow.Author.Tests.{not-true, not-false}
 use Rattle.records.specs.Lists.{listed}
 use Rattle.records.specs.Sheet.{SheetValue}
 use Rattle.records.proofs.Lists.{listed-take, length-listed}
@@ -58,18 +57,18 @@ module _ (p : Plan) (f : Filling) (rows : List ℕ) (i : ℕ) where
         (carried-holds v f.ticks p.leaders p.precede a.leading (row_leads rows i) ∙ below-ext p.leaders _ _ (λ k h. ap₂ leb (sym (a.needed k h)) (lead-at k h)))
 
   module _ {h : Bool} (g : h ≡ enough) where
-    by-leads : not h ≡ true → Becomes p f rows i (λ v. fails)
+    by-leads : h ≡ false → Becomes p f rows i (λ v. fails)
     unfolding advanced
-    by-leads u v a = rw (holds a, sym g, not-true h u, and-false (not barred))
+    by-leads u v a = rw (holds a, sym g, u, and-false (not barred))
 
     -- a lead is too short
-    pub row-short : {to : ℕ} → not h ≡ true → AdvancedRow p f i to Fails rows rows
+    pub row-short : {to : ℕ} → h ≡ false → AdvancedRow p f i to Fails rows rows
     row-short u = fails-row (stays_all _ _ _ _) (by-leads u)
 
-    module _ (u : not h ≡ false) {b : Bool} (e : b ≡ barred) where
+    module _ (u : h ≡ true) {b : Bool} (e : b ≡ barred) where
       by-stopped : Becomes p f rows i (λ v. cond (not b) (by_left f rows i (still_owed (filled_instant f) (row_owed rows i)) (still_counting (filled_instant f) (row_countdowns rows i)) v) fails)
       unfolding advanced
-      by-stopped v a = rw (holds a, sym g, not-false h u, and-true (not barred), sym e)
+      by-stopped v a = rw (holds a, sym g, u, and-true (not barred), sym e)
 
       -- a stopped clock ticks
       pub row-barred : {to : ℕ} → b ≡ true → AdvancedRow p f i to Fails rows rows

@@ -1,5 +1,5 @@
 -- What a filling makes of a row, by what depends on the filling alone: what is known of the row that is built, question by question. Assumes nothing.
-use mathlib.Core.Bool.{Bool, true, false, not}
+use mathlib.Core.Bool.{Bool, true, false}
 use mathlib.Core.List.{List, map}
 use mathlib.Core.Option
 use mathlib.Core.Option.{Option, some}
@@ -7,7 +7,6 @@ use mathlib.Core.Path.{◌≡◌, sym, ap, ◌∙◌}
 use Prim.Native.Nat.{ℕ, ◌≤◌}
 use native.Mathlib.Omega.{arith}
 use lib.ListN.{drop, take}
-use borrow.Author.Tests.{not-true, not-false}
 use Rattle.records.specs.Sheet.{SheetValue}
 use Rattle.tesl.specs.Run.{Filled}
 use Rattle.tesl.specs.Fits.{Obligation, Countdown}
@@ -113,11 +112,11 @@ module _ {p : Plan} {f : Filling} {i to : ℕ} {a b : List ℕ} {k : Bool} (w : 
   by-owed v g = w.becomes v g ∙ rw (left-owed-row m)
 
   -- an obligation is late
-  pub row-late : not k ≡ true → AdvancedRow p f i to Fails a b
-  row-late l = fails-row late-stays (λ v g. by-owed v g ∙ rw (not-true k l))
+  pub row-late : k ≡ false → AdvancedRow p f i to Fails a b
+  row-late l = fails-row late-stays (λ v g. by-owed v g ∙ rw l)
 
-  pub owed-left : not k ≡ false → OwedLeft p f i to a b
-  owed-left l = record { stays = late-stays; few = m.few (not-false k l); becomes = λ v g. by-owed v g ∙ rw (not-false k l) }
+  pub owed-left : k ≡ true → OwedLeft p f i to a b
+  owed-left l = record { stays = late-stays; few = m.few l; becomes = λ v g. by-owed v g ∙ rw l }
 
 -- the countdowns of row i are read after its obligations; row `to` still owes what was left
 module _ {p : Plan} {f : Filling} {i to : ℕ} {a b c : List ℕ} {k : Bool} (w : OwedLeft p f i to a b) (apart : i ≡ to → ⊥) (few : row_count a i 1 ≤ 8) (m : LeftRow (filled_instant f) 1 i to k b c) where
@@ -134,11 +133,11 @@ module _ {p : Plan} {f : Filling} {i to : ℕ} {a b c : List ℕ} {k : Bool} (w 
   by_left-law v g = w.becomes v g ∙ rw (sym left-kept, left-counting-row m, read-after)
 
   -- a countdown is missed
-  pub row-missed : not k ≡ true → AdvancedRow p f i to Fails a c
-  row-missed l = fails-row missed-stays (λ v g. by_left-law v g ∙ rw (not-true k l))
+  pub row-missed : k ≡ false → AdvancedRow p f i to Fails a c
+  row-missed l = fails-row missed-stays (λ v g. by_left-law v g ∙ rw l)
 
-  pub both_left : not k ≡ false → BothLeft p f i to a c
-  both_left l = record { stays = missed-stays; few = few-counting m.stays (m.few (not-false k l)) w.few; becomes = λ v g. by_left-law v g ∙ rw (not-false k l) }
+  pub both_left : k ≡ true → BothLeft p f i to a c
+  both_left l = record { stays = missed-stays; few = few-counting m.stays (m.few l) w.few; becomes = λ v g. by_left-law v g ∙ rw l }
 
 -- ---- what is begun in each set
 
@@ -153,11 +152,11 @@ module _ {p : Plan} {f : Filling} {i to : ℕ} {a b c : List ℕ} {o : Bool} (w 
   by-added v g = w.becomes v g ∙ rw (begun-row-read obligation_of same_obligation same_read n, begun_kept)
 
   -- there is no room for an obligation
-  pub row-over : not o ≡ true → AdvancedRow p f i to Over a c
-  row-over q = over-row over-stays (λ v g. by-added v g ∙ rw (not-true o q))
+  pub row-over : o ≡ false → AdvancedRow p f i to Over a c
+  row-over q = over-row over-stays (λ v g. by-added v g ∙ rw q)
 
-  pub owed-begun : not o ≡ false → OwedBegun p f i to a c
-  owed-begun q = record { stays = over-stays; few = few-owed n.stays n.few (w.few 1 (omega arith)); becomes = λ v g. by-added v g ∙ rw (not-false o q) }
+  pub owed-begun : o ≡ true → OwedBegun p f i to a c
+  owed-begun q = record { stays = over-stays; few = few-owed n.stays n.few (w.few 1 (omega arith)); becomes = λ v g. by-added v g ∙ rw q }
 
 module _ {p : Plan} {f : Filling} {i to : ℕ} {a b c : List ℕ} {o : Bool} (w : OwedBegun p f i to a b) (n : BegunRow to 1 (drop f.owed (take f.count f.begun)) o b c) where
   full-stays : Stays to 0 leads_part a c
@@ -170,8 +169,8 @@ module _ {p : Plan} {f : Filling} {i to : ℕ} {a b c : List ℕ} {o : Bool} (w 
   by-counted v g = w.becomes v g ∙ rw (sym counted-kept, begun-row-read countdown_of same_countdown same-counted n)
 
   -- there is no room for a countdown
-  pub row-full : not o ≡ true → AdvancedRow p f i to Over a c
-  row-full q = over-row full-stays (λ v g. by-counted v g ∙ rw (not-true o q))
+  pub row-full : o ≡ false → AdvancedRow p f i to Over a c
+  row-full q = over-row full-stays (λ v g. by-counted v g ∙ rw q)
 
-  pub both-begun : not o ≡ false → BothBegun p f i to a c
-  both-begun q = record { stays = full-stays; few = few-counting n.stays n.few (w.few 0 (omega arith)); becomes = λ v g. by-counted v g ∙ rw (not-false o q) }
+  pub both-begun : o ≡ true → BothBegun p f i to a c
+  both-begun q = record { stays = full-stays; few = few-counting n.stays n.few (w.few 0 (omega arith)); becomes = λ v g. by-counted v g ∙ rw q }

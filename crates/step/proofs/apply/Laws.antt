@@ -21,7 +21,7 @@ use Rattle.work.proofs.Listing.{listed_same}
 use Rattle.work.proofs.Relevant.{took-none}
 use Rattle.work.proofs.Once.{all-advanced-once}
 use Rattle.remainders.specs.Word.{flag_of}
-use Rattle.remainders.specs.Rows.{leads_part, stopped_part, width, word, row_of, FewInRow, Stays, RowsStay, HeadStays}
+use Rattle.remainders.specs.Rows.{leads_part, stopped_part, width, word, row_of, FewInRow, Stays, RowsStay}
 use Rattle.step.specs.Apply.{Sides}
 use Rattle.remainders.specs.View.{obligation_of, countdown_of}
 use Rattle.remainders.proofs.rows.Laws.{set_words-law, few_words}
@@ -50,10 +50,6 @@ module _ {from to m : ℕ} {a b : List ℕ} (s : Sides from to) (r : RowsStay to
 
   pub held-row : (j : ℕ) → j < 33 → FewInRow a (from + j) → row_of b (from + j) ≡ row_of a (from + j)
   held-row j h few = row_same a b (from + j) few (λ p l. held_word j p h l)
-
-  -- and the head
-  pub head-stays : HeadStays a b
-  head-stays h p l k = r.same h p k (λ x y. omega (arith, s.past))
 
 module _ (room : ℕ) (v : SheetValue) (f : Filled) (begun : Owings) where
   abbrev all : List Remainder → Option (List Remainder) → Option (List Remainder)

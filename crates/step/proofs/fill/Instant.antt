@@ -1,4 +1,6 @@
 -- What an instant makes of the rows held, by the cases of what is worked. Assumes nothing.
+use Rattle.std.specs.Prelude.{None, Some}
+use Rattle.std.specs.declared.option.Option as option
 use mathlib.Core.Bool.{Bool, true, false, ◌&&◌}
 use mathlib.Core.List.{List, [], ◌∷◌, ◌++◌, map, append-nil}
 use mathlib.Core.Option.{Option, none, some}
@@ -7,7 +9,7 @@ use Prim.Native.Nat.{ℕ, zero, suc, ◌+◌, ◌<◌}
 use native.Mathlib.Omega.{arith}
 use lib.IntN.{ℤ}
 use lib.ListN.{length, replicate}
-use Rattle.records.specs.declared.instant.TickSlot.{TickSlot}
+use Rattle.records.specs.declared.instant.Tick.{Tick}
 use Rattle.records.specs.declared.line.Line.{Line}
 use Rattle.records.specs.Lists.{listed_from}
 use Rattle.records.specs.Sheet.{SheetValue}
@@ -23,8 +25,6 @@ use Rattle.work.specs.Fillings.{fillings_in, taken_by, by_filling}
 use Rattle.work.specs.Relevant.{fillings_left, named_by, count_clocks, awaited_clocks, flagged}
 use Rattle.work.specs.Work.{worked}
 use Rattle.work.proofs.Listed.{worked-no, worked-yes}
-use Rattle.remainders.specs.declared.held.Status.{Status}
-use Rattle.remainders.specs.declared.held.Status.TheVariants.{Exhausted, Live}
 use Rattle.remainders.specs.declared.obligation.Obligation as code
 use Rattle.remainders.specs.View.{obligation_of, countdown_of}
 use Rattle.remainders.specs.Rows.{row_set, row_of, rows_of, clocks_asked, row_clocks, rows_clocks}
@@ -53,15 +53,15 @@ rows-clocks : (v : SheetValue) (from n : ℕ) (rows : List ℕ) → flat_map awa
 rows-clocks v from n rows = flat-listed awaited_clocks (λ i. row_clocks rows (from + i)) (λ i. used_part v (row_of rows (from + i))) (λ i. row-clocks v rows (from + i)) 0 n
 
 -- ---- an instant
-module _ (room : ℕ) (v : SheetValue) (last : Option (List ℤ)) (ticks : List TickSlot) (tags : List ℤ) (count : Status) (rows : List ℕ) (from : ℕ) where
+module _ (room : ℕ) (v : SheetValue) (last : Option (List ℤ)) (ticks : List Tick) (tags : List ℤ) (count : option.Option ℕ) (rows : List ℕ) (from : ℕ) where
   abbrev after : Option (List Remainder)
   after = worked room v last (seen_of v.clocks ticks) tags (found_in v count rows from)
 
-  pub work-exhausted : count ≡ Exhausted → none ≡ after
+  pub work-exhausted : count ≡ None → none ≡ after
   unfolding worked
   work-exhausted e = rw e
 
-  module _ {n : ℕ} (e : count ≡ Live n) where
+  module _ {n : ℕ} (e : count ≡ Some n) where
     pub work-broken : n ≡ 0 → (out : List ℕ) (to : ℕ) → some (rows_of v out to 0) ≡ after
     unfolding worked listed_from
     work-broken z out to = rw (e, z)

@@ -2,17 +2,16 @@
 use mathlib.Core.Bool.{Bool, true, false, cond}
 use mathlib.Core.List.{List, [], ◌∷◌, ◌++◌}
 use mathlib.Core.Path.{◌≡◌, refl, sym, ap, ◌∙◌}
-use Prim.Native.Nat.{ℕ, zero, suc, ◌+◌, ◌-◌, ◌/◌, ◌%◌, ◌^◌, ◌≤◌, ◌<◌}
+use Prim.Native.Nat.{ℕ, zero, suc, ◌+◌, ◌/◌, ◌%◌, ◌^◌, ◌≤◌, ◌<◌}
 use native.Mathlib.Omega.{arith}
 use lib.Dec.{ltb}
 use lib.ListN.{length, length-append}
 use borrow.Author.Tests.{lt-ltb, le-ltb, ltb-true, ltb-false}
-use lib.IntN.{ℤ, pos}
-use lib.Signed.{lt_z, mag}
+use lib.IntN.{ℤ, pos, nat_abs}
+use lib.Signed.{lt_z}
 use mir.Syntax.{w16}
 use mir.Val.{to_z, of_z, SFits}
 use mir.Facts.{to_z-of_z}
-use Rattle.records.specs.Word.{raw_of}
 use Rattle.records.proofs.word.Laws.{negative, non_negative}
 use Rattle.text.specs.Text.{ascii, digit, digits, decimal, cents, hundredths}
 
@@ -50,18 +49,13 @@ length_digits (suc k) n h = by-test (ltb n 10) refl (length_digits k (n / 10) (o
 pub length-decimal : (n : ℕ) → n < 2 ^ 64 → length (decimal n) ≤ 20
 length-decimal n h = length_digits 19 n (omega arith)
 
--- ---- a tag's count, by its sign and its raw word as the code has them
+-- ---- a tag's count, by its sign and its size as the code has them
 
-module _ (tag : ℤ) (raw : ℕ) (f : SFits w16 tag) (e : raw ≡ raw_of (to_z w16 (of_z w16 tag))) where
-  pub below-zero : lt_z (to_z w16 (of_z w16 tag)) (pos 0) ≡ true → ascii "-" ++ cents (65536 - raw) ≡ hundredths tag
+module _ (tag : ℤ) {count : ℕ} (f : SFits w16 tag) (e : count ≡ nat_abs (to_z w16 (of_z w16 tag))) where
+  pub below-zero : lt_z (to_z w16 (of_z w16 tag)) (pos 0) ≡ true → ascii "-" ++ cents count ≡ hundredths tag
   unfolding hundredths
-  below-zero h =
-      let n = negative w16 tag f h in
-      let k : raw ≡ 65535 - mag tag = e ∙ ap raw_of (to_z-of_z f) ∙ n.word in
-      ap (λ (m : ℕ). ascii "-" ++ cents m) (omega (arith, k, n.small)) ∙ sym (ap hundredths n.is)
+  below-zero h = let n = negative w16 tag f h in ap (λ (m : ℕ). ascii "-" ++ cents m) (e ∙ ap nat_abs (to_z-of_z f ∙ n.is)) ∙ sym (ap hundredths n.is)
 
-  pub from_zero : lt_z (to_z w16 (of_z w16 tag)) (pos 0) ≡ false → cents raw ≡ hundredths tag
+  pub from_zero : lt_z (to_z w16 (of_z w16 tag)) (pos 0) ≡ false → cents count ≡ hundredths tag
   unfolding hundredths
-  from_zero h =
-      let n = non_negative w16 tag f h in
-      ap cents (e ∙ ap raw_of (to_z-of_z f) ∙ n.word) ∙ sym (ap hundredths n.is)
+  from_zero h = let n = non_negative w16 tag f h in ap cents (e ∙ ap nat_abs (to_z-of_z f ∙ n.is)) ∙ sym (ap hundredths n.is)

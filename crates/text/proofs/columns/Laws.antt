@@ -7,14 +7,13 @@ use native.Mathlib.Omega.{arith}
 use lib.IntN.{ℤ, pos}
 use lib.ListN.{length, take, drop, get_or, length-append, drop_of_length-le}
 use lib.Seq.{take-suc}
-use Rattle.records.specs.declared.record.Decision.TheVariants.{Done, Refused}
+use Rattle.std.specs.Prelude.{Option, Some, None, Result, Ok, Err}
+use Rattle.records.specs.declared.refusal.Refusal.{Refusal}
 use Rattle.records.specs.declared.record.Record.{Record}
-use Rattle.records.specs.declared.record.Record.TheVariants.{Whole, Torn}
 use Rattle.records.specs.declared.instant.Instant as code
-use Rattle.records.specs.declared.instant.InstantRead.{InstantRead}
 use Rattle.records.specs.declared.sheet.Sheet.{Sheet}
-use Rattle.records.specs.declared.sheet.SheetRead.{SheetRead}
-use Rattle.records.specs.Outcome.{Outcome, taken, refused}
+use Rattle.records.specs.Outcome.{Outcome, taken, refused, outcome_of}
+use Rattle.records.specs.Refusal.{refusal_number}
 use Rattle.records.specs.Record.{record_at, span_of, record_span, TheRecord}
 use Rattle.records.specs.declared.order.Order.TheVariants.{Rising}
 use Rattle.records.specs.Sheet.{SheetValue, read_sheet, sheet_read}
@@ -27,6 +26,7 @@ use Rattle.records.proofs.Store.{puts-both, length-puts}
 use Rattle.records.proofs.record.Cut.{no_pieces}
 use Rattle.records.proofs.instant.Read.{Read, read-refused, read_done, places-in-use}
 use Rattle.records.proofs.instant.RoundTrip.{read-writes}
+use Rattle.records.proofs.sheet.Read.{sheet-refused}
 use Rattle.records.proofs.next.Laws.{NextRead, next-read}
 use Rattle.tesl.specs.Lists.{flat_map}
 use Rattle.tesl.specs.Run.{Instant, tags_of}
@@ -34,10 +34,10 @@ use Rattle.tesl.specs.Machine.{judged_part, accepts, list_after, accepts_each, c
 use Rattle.theory.proofs.Accepted.{accepts-as}
 use Rattle.theory.proofs.Log.{next-accepts}
 use Rattle.theory.proofs.Opened.{read-limits}
-use Rattle.judge.proofs.monitor.Opened.{SheetTaken, read_answer, sheet-taken}
+use Rattle.judge.proofs.monitor.Opened.{SheetTaken, sheet-taken}
 use Rattle.text.specs.Text.{column_line, refusal_line}
 use Rattle.text.specs.Output.{tag_lines, columns_text, printed, printed_as}
-use Rattle.text.specs.Built.{tags_text, PutTags, clocks_only, instants_text, InstantsReady}
+use Rattle.text.specs.Built.{tags_text, clocks_only, instants_text, InstantsReady}
 use Rattle.text.proofs.put.Laws.{putting-start, Printing, printed-end, printed-refused, taken-room, printing-more}
 use Rattle.text.proofs.put.Laws as put
 
@@ -69,11 +69,6 @@ pub record Listing (at : ℕ) (tags : List ℤ) (n : ℕ) (out₀ out : List ℕ
 module _ {at n end i : ℕ} {tags : List ℤ} {out₀ out : List ℕ} (w : Listing at tags n out₀ out end i) where
   pub listing-size : length out ≡ length out₀
   listing-size = rw w.stored (length-puts out₀ at (tags_text i tags))
-
-  pub listed-all : n ≤ i → PutTags out₀ at tags n end out
-  listed-all h =
-      let k : i ≡ n = omega (arith, w.turns) in
-      record { ends = rw (← k) w.ends; stored = rw (← k) w.stored }
 
   module _ (h : i < n) where
     abbrev line : List ℕ
@@ -109,9 +104,9 @@ pub span-bytes : (b : List ℕ) (i : ℕ) → IsBytes b → {p : List ℕ} → p
 unfolding record_span
 span-bytes b i h e = rw e (by-record (record_at b i))
   where
-    by-record : (r : Record) → IsBytes (span_of (drop i b) r)
-    by-record Torn = all_drop IsByte i b h
-    by-record (Whole k n) = all_take IsByte (4 + n) (drop i b) (all_drop IsByte i b h)
+    by-record : (r : Option Record) → IsBytes (span_of (drop i b) r)
+    by-record None = all_drop IsByte i b h
+    by-record (Some r) = all_take IsByte (4 + r.len) (drop i b) (all_drop IsByte i b h)
 
 -- ---- a turn
 
@@ -140,17 +135,17 @@ module _ {c : ℕ} {log out₀ out : List ℕ} {n end at : ℕ} (w : Telling c l
       pub told-refused : {next : List ℕ} {last : ℕ} → next ≡ puts out end (refusal_line k) → last ≡ end + length (refusal_line k) → printed_as last next ≡ printed (instants_text c log) out₀
       told-refused q f = printed-refused w.printing ready.room (rw e at outcomes) q f
 
-    module _ {x : InstantRead} (r : x ≡ instant_read (read_next c n p)) where
-      -- what the machine takes the record for
-      taken-for : {o : Outcome InstantValue} → read_next c n p ≡ o → accepts (clocks_only c) w.run p ≡ judged_part o
-      taken-for q = accepts-as (clocks_only c) w.run p refl (sym w.counted) q
+    -- what the machine takes the record for
+    taken-for : {o : Outcome InstantValue} → read_next c n p ≡ o → accepts (clocks_only c) w.run p ≡ judged_part o
+    taken-for q = accepts-as (clocks_only c) w.run p refl (sym w.counted) q
 
+    module _ {x : Result code.Instant Refusal} (r : outcome_of x ≡ instant_read (read_next c n p)) where
       -- 12 to 16, 19
-      pub reading-refused : {k : ℕ} → x.answer ≡ Refused k → accepts (clocks_only c) w.run p ≡ refused k
+      pub reading-refused : {k : Refusal} → x ≡ Err k → accepts (clocks_only c) w.run p ≡ refused (refusal_number k)
       reading-refused q = taken-for (read-refused (read_next c n p) r q)
 
-      module _ (q : x.answer ≡ Done) where
-        was_read : Read (read_next c n p) x
+      module _ {v : code.Instant} (q : x ≡ Ok v) where
+        was_read : Read (read_next c n p) v
         was_read = read_done (read_next c n p) r q
 
         is-next : NextRead c n p was_read.value
@@ -164,17 +159,17 @@ module _ {c : ℕ} {log out₀ out : List ℕ} {n end at : ℕ} (w : Telling c l
 
         module _ (bytes : IsBytes p) where
           -- the tags in use are the instant's
-          tags-read : tags_text c x.instant.tags ≡ flat_map column_line (tags_of cells)
+          tags-read : tags_text c v.tags ≡ flat_map column_line (tags_of cells)
           tags-read =
-              ap (λ (v : code.Instant). tags_text c v.tags) was_read.struct ∙ (ap (flat_map column_line) (places-in-use (λ (cell : Cell). cell.tag) (pos 0) c cells (read-writes c p bytes is-next.read).size))
+              ap (λ (i : code.Instant). tags_text c i.tags) was_read.struct ∙ (ap (flat_map column_line) (places-in-use (λ (cell : Cell). cell.tag) (pos 0) c cells (read-writes c p bytes is-next.read).size))
 
           taken-first : accepts_each (clocks_only c) w.run (calls_of (drop at log)) ≡ taken cells ∷ accepts_each (clocks_only c) (w.run ++ (cells ∷ [])) (calls_of (drop (at + length p) log))
           taken-first = rw (taken-for was_read.is) at outcomes
 
-          pub tags-room : end + length (tags_text c x.instant.tags) ≤ length out
+          pub tags-room : end + length (tags_text c v.tags) ≤ length out
           tags-room = taken-room w.printing ready.room taken-first tags-read
 
-          pub told_more : {next : List ℕ} {last : ℕ} → next ≡ puts out end (tags_text c x.instant.tags) → last ≡ end + length (tags_text c x.instant.tags)
+          pub told_more : {next : List ℕ} {last : ℕ} → next ≡ puts out end (tags_text c v.tags) → last ≡ end + length (tags_text c v.tags)
               → Telling c log out₀ next (n + 1) last (at + length p)
           told_more q f =
               let more : length (w.run ++ (cells ∷ [])) ≡ suc (length w.run) = omega (arith, length-append w.run (cells ∷ [])) in
@@ -190,20 +185,20 @@ text_of : (sheet log : List ℕ) (s : SheetValue) → read_sheet sheet ≡ taken
 unfolding columns_text
 text_of sheet log s f = rw (f, same-clocks s (clocks_only s.clocks) refl [] (calls_of log))
 
-module _ (sheet log : List ℕ) {x : SheetRead} (r : x ≡ sheet_read (read_sheet sheet)) where
-  pub text-refused : {n : ℕ} → x.answer ≡ Refused n → columns_text sheet log ≡ refusal_line n
+module _ (sheet log : List ℕ) {x : Result Sheet Refusal} (r : outcome_of x ≡ sheet_read (read_sheet sheet)) where
+  pub text-refused : {why : Refusal} → x ≡ Err why → columns_text sheet log ≡ refusal_line (refusal_number why)
   unfolding columns_text
-  text-refused q = rw (read_answer Rising 24 sheet x r q)
+  text-refused q = rw (sheet-refused (read_sheet sheet) x r q)
 
-  module _ (q : x.answer ≡ Done) where
-    abbrev read : SheetTaken Rising 24 sheet x r
-    read = sheet-taken Rising 24 sheet x r q
+  module _ {value : Sheet} (q : x ≡ Ok value) where
+    abbrev read : SheetTaken Rising 24 sheet value
+    read = sheet-taken Rising 24 sheet r q
 
-    as_many : x.sheet.clocks ≡ read.value.clocks
-    as_many = ap (λ (s : Sheet). s.clocks) read.sheet
+    as_many : value.clocks ≡ read.value.clocks
+    as_many = ap (λ (s : Sheet). s.clocks) read.is
 
-    pub text-read : columns_text sheet log ≡ instants_text x.sheet.clocks log
+    pub text-read : columns_text sheet log ≡ instants_text value.clocks log
     text-read = text_of sheet log read.value read.read ∙ ap (λ (c : ℕ). instants_text c log) (sym as_many)
 
-    pub clocks-read : IsBytes sheet → x.sheet.clocks ≤ 8
+    pub clocks-read : IsBytes sheet → value.clocks ≤ 8
     clocks-read bytes = omega (arith, as_many, (read-limits Rising 24 sheet bytes read.read).clocks-most)

@@ -15,9 +15,6 @@ use Rattle.text.specs.Built.{PutLine}
 -- ---- a line
 
 module _ {buffer after : List ℕ} {at end : ℕ} {t : Text} (p : PutLine buffer at t end after) where
-  pub put-size : length after ≡ length buffer
-  put-size = rw p.stored (length-puts buffer at (text_of t))
-
   module _ {line : List ℕ} (e : text_of t ≡ line) where
     pub put-bytes : after ≡ puts buffer at line
     put-bytes = rw e at p.stored

@@ -1,17 +1,18 @@
 -- What *sort* prints: the sorted form has room in the longest sheet's bytes, so nothing but the sheet's own number is refused; one text is printed, since the sorted form is one; and opened it answers as the sheet does. Assumes nothing.
-use mathlib.Core.List.{List, ◌++◌}
+use mathlib.Core.List.{List}
 use mathlib.Core.Path.{◌≡◌, refl, sym, ap, subst, ◌∙◌}
 use Prim.Native.Nat.{ℕ, ◌≤◌}
 use native.Mathlib.Omega.{arith}
-use lib.ListN.{length, drop}
+use lib.ListN.{length}
 use borrow.Author.Tests.{le-ltb}
 use Rattle.records.specs.declared.order.Order.TheVariants.{Any}
-use Rattle.records.specs.declared.record.Written.{Written}
-use Rattle.records.specs.declared.record.Written.TheVariants as written
-use Rattle.records.specs.Outcome.{Outcome, taken, refused}
+use Rattle.std.specs.Prelude.{Result, Ok, Err}
+use Rattle.records.specs.declared.refusal.Refusal.{Refusal}
+use Rattle.records.specs.Outcome.{Outcome, taken, refused, outcome_of}
+use Rattle.records.specs.Refusal.{refusal_number}
 use Rattle.records.specs.Sheet.{SheetValue, read_sheet, read_unordered, read_base, sheet_value_checks, sheet_bytes}
 use Rattle.records.specs.Sort.{Sorted, SortsBytes}
-use Rattle.records.specs.Store.{Wrote, wrote}
+use Rattle.records.specs.Store.{Wrote, wrote, leaves}
 use Rattle.records.specs.Types.{IsBytes}
 use Rattle.records.proofs.Lists.{taken-passed, refused-taken, taken-same, refused-same}
 use Rattle.records.proofs.sheet.Front.{read_number}
@@ -22,31 +23,27 @@ use Rattle.judge.proofs.SameAnswers.{sorted-alike}
 use Rattle.text.specs.Text.{refusal_line}
 use Rattle.text.specs.Output.{printed, printed_as, SortText, SortPrinted, OneSortText, SortTextAnswers}
 
-bytes-refused : {X : Type 0} {n k : ℕ} → written.Bytes n ≡ written.Refused k → X
-bytes-refused e = let z : ◌≡◌ {A = ℕ} 0 1 = cc in absurd (omega arith)
-
 module _ (sheet : List ℕ) (is : IsBytes sheet) where
   -- the sorted form has room
   fits : (v w : SheetValue) → read_unordered sheet ≡ taken v → Sorted v w → length (sheet_bytes w) ≤ 165
   fits v w e s = sorted-size v w s (taken-passed (sheet_value_checks Any v) (read-writes Any 24 sheet is e).checks).0
 
-  module _ (before : List ℕ) (room : 165 ≤ length before) (r : Written) (after : List ℕ) (s : SortsBytes sheet before r after) where
+  module _ (before : List ℕ) (room : 165 ≤ length before) (r : Result ℕ Refusal) (after : List ℕ) (s : SortsBytes sheet before r after) where
     -- what was taken was written whole
-    all-written : (v : SheetValue) (e : read_unordered sheet ≡ taken v) (w : SheetValue) → w ≡ (s.sorts v e).0 → wrote r after ≡ wrote (written.Bytes (length (sheet_bytes w))) (sheet_bytes w ++ drop (length (sheet_bytes w)) before)
+    all-written : (v : SheetValue) (e : read_unordered sheet ≡ taken v) (w : SheetValue) → w ≡ (s.sorts v e).0 → wrote r after ≡ leaves before (taken (sheet_bytes w))
     all-written v e w p =
         let t = s.sorts v e in
         rw p (t.2 ∙ rw (le-ltb (length before) (length (sheet_bytes t.0)) (omega (arith, fits v t.0 e t.1))))
 
-    pub sort-done : {n : ℕ} → r ≡ written.Bytes n → SortPrinted sheet before n after
+    pub sort-done : {n : ℕ} → r ≡ Ok n → SortPrinted sheet before n after
     sort-done {n} e = by_read (read_unordered sheet) refl
       where
         by_read : (o : Outcome SheetValue) → read_unordered sheet ≡ o → SortPrinted sheet before n after
-        by_read (refused k) f = bytes-refused (sym e ∙ ap (λ (w : Wrote). w.answer) (s.refuses k f))
+        by_read (refused k) f = refused-taken (sym (ap (λ (w : Wrote). w.answer) (s.refuses k f)) ∙ ap outcome_of e)
         by_read (taken v) f =
             let w = (s.sorts v f).0 in
             let q = all-written v f w refl in
-            let p : written.Bytes n ≡ written.Bytes (length (sheet_bytes w)) = sym e ∙ ap (λ (w : Wrote). w.answer) q in
-            let size : n ≡ length (sheet_bytes w) = cc in
+            let size : n ≡ length (sheet_bytes w) = taken-same (sym (ap outcome_of e) ∙ ap (λ (w : Wrote). w.answer) q) in
             record {
               text = sheet_bytes w;
               sorts = record { refuses = λ k g. refused-taken (sym g ∙ f); sorts = λ u g. (w, subst (λ (x : SheetValue). Sorted x w) (taken-same (sym f ∙ g)) (s.sorts v f).1, refl) };
@@ -59,15 +56,14 @@ module _ (sheet : List ℕ) (is : IsBytes sheet) where
       pub small : n ≤ 18
       pub text : SortText sheet (refusal_line n)
 
-    pub sort-refused : {n : ℕ} → r ≡ written.Refused n → Refuses n
-    sort-refused {n} e = by_read (read_unordered sheet) refl
+    pub sort-refused : {why : Refusal} → r ≡ Err why → Refuses (refusal_number why)
+    sort-refused {why} e = by_read (read_unordered sheet) refl
       where
-        by_read : (o : Outcome SheetValue) → read_unordered sheet ≡ o → Refuses n
-        by_read (taken v) f = bytes-refused (sym (ap (λ (w : Wrote). w.answer) (all-written v f (s.sorts v f).0 refl)) ∙ e)
+        by_read : (o : Outcome SheetValue) → read_unordered sheet ≡ o → Refuses (refusal_number why)
+        by_read (taken v) f = refused-taken (sym (ap outcome_of e) ∙ ap (λ (w : Wrote). w.answer) (all-written v f (s.sorts v f).0 refl))
         by_read (refused k) f =
             let h = s.refuses k f in
-            let p : written.Refused k ≡ written.Refused n = sym (ap (λ (w : Wrote). w.answer) h) ∙ e in
-            let q : k ≡ n = cc in
+            let q : k ≡ refusal_number why = refused-same (sym (ap (λ (w : Wrote). w.answer) h) ∙ ap outcome_of e) in
             record {
               same = ap (λ (w : Wrote). w.buffer) h;
               small = rw q at (read_number Any 24 sheet f);

@@ -8,14 +8,16 @@ use Rattle.records.specs.Outcome.{Outcome, taken, refused}
 use Rattle.records.specs.Record.{TheRecord}
 use Rattle.records.specs.Sheet.{SheetValue, read_sheet}
 use Rattle.records.specs.Store.{puts}
-use Rattle.records.proofs.Lists.{refused-taken}
+use Rattle.records.proofs.Lists.{refused-taken, refused-same}
 use Rattle.records.proofs.record.Cut.{no_pieces}
 use Rattle.tesl.specs.Run.{Instant}
 use Rattle.tesl.specs.Answer.{Answer}
 use Rattle.tesl.specs.Machine.{accepts, list_after, reply, machine, session, calls_of}
 use Rattle.theory.proofs.Log.{next-replies}
 use Rattle.judge.specs.declared.answer.Answer as code
-use Rattle.judge.specs.declared.answer.Reply.TheVariants as reply
+use Rattle.std.specs.Prelude.{Ok, Err}
+use Rattle.records.specs.declared.refusal.Refusal.{Refusal}
+use Rattle.records.specs.Refusal.{refusal_number}
 use Rattle.judge.specs.declared.monitor.Monitor.{Monitor}
 use Rattle.judge.specs.declared.monitor.CallResult.{CallResult}
 use Rattle.judge.specs.Answer.{answer_of, reply_of}
@@ -66,14 +68,14 @@ module _ {log out₀ out : List ℕ} {m₀ m : Monitor} {end at : ℕ} (w : Tell
     replies : machine s w.run (calls_of (drop at log)) ≡ reply_of g.reply ∷ machine s after (calls_of (drop (at + length p) log))
     replies = rw (next-replies h s w.run, ← same-reply)
 
-    module _ {n : ℕ} (e : g.reply ≡ reply.Refused n) where
-      pub refused-room : end + length (refusal_line n) ≤ length out
+    module _ {n : Refusal} (e : g.reply ≡ Err n) where
+      pub refused-room : end + length (refusal_line (refusal_number n)) ≤ length out
       refused-room = put.refused-room w.printing ready.room (rw e at replies)
 
-      pub told-refused : {next : List ℕ} {last : ℕ} → next ≡ puts out end (refusal_line n) → last ≡ end + length (refusal_line n) → printed_as last next ≡ printed (replies_text m₀ log) out₀
+      pub told-refused : {next : List ℕ} {last : ℕ} → next ≡ puts out end (refusal_line (refusal_number n)) → last ≡ end + length (refusal_line (refusal_number n)) → printed_as last next ≡ printed (replies_text m₀ log) out₀
       told-refused q f = printed-refused w.printing ready.room (rw e at replies) q f
 
-    module _ {a : code.Answer} (e : g.reply ≡ reply.Answered a) where
+    module _ {a : code.Answer} (e : g.reply ≡ Ok a) where
       one_more : length after ≡ suc (length w.run)
       one_more = accepted-one s w.run (accepts s w.run p) (sym same-reply ∙ ap reply_of e)
 
@@ -93,18 +95,17 @@ module _ {log out₀ out : List ℕ} {m₀ m : Monitor} {end at : ℕ} (w : Tell
 -- ---- the opening
 
 module _ (sheet log : List ℕ) (g : CallResult) (h : Opened read_sheet sheet g) where
-  pub text-refused : {n : ℕ} → g.reply ≡ reply.Refused n → watch_text sheet log ≡ refusal_line n
+  pub text-refused : {n : Refusal} → g.reply ≡ Err n → watch_text sheet log ≡ refusal_line (refusal_number n)
   unfolding watch_text session
   text-refused {n} e = by_read (read_sheet sheet) refl
     where
-      by_read : (o : Outcome SheetValue) → read_sheet sheet ≡ o → watch_text sheet log ≡ refusal_line n
+      by_read : (o : Outcome SheetValue) → read_sheet sheet ≡ o → watch_text sheet log ≡ refusal_line (refusal_number n)
       by_read (taken s) f = refused-taken (ap reply_of (sym e) ∙ (h.opens s f).0)
       by_read (refused k) f =
-          let q : reply.Refused k ≡ reply.Refused n = sym (ap (λ (x : CallResult). x.reply) (h.refuses k f)) ∙ e in
-          let z : k ≡ n = cc in
+          let z : k ≡ refusal_number n = refused-same (sym (h.refuses k f).reply ∙ ap reply_of e) in
           rw (f, z)
 
-  module _ {a : code.Answer} (e : g.reply ≡ reply.Answered a) where
+  module _ {a : code.Answer} (e : g.reply ≡ Ok a) where
     record Opens : Type 0 where
       pub text : watch_text sheet log ≡ replies_text g.monitor log
       pub follows : Follows (sheet_by g.monitor) [] g.monitor
@@ -114,7 +115,7 @@ module _ (sheet log : List ℕ) (g : CallResult) (h : Opened read_sheet sheet g)
     opens = by_read (read_sheet sheet) refl
       where
         by_read : (o : Outcome SheetValue) → read_sheet sheet ≡ o → Opens
-        by_read (refused k) f = refused-taken (sym (ap reply_of (sym e ∙ ap (λ (x : CallResult). x.reply) (h.refuses k f))))
+        by_read (refused k) f = refused-taken (sym (h.refuses k f).reply ∙ ap reply_of e)
         by_read (taken s) f =
             let q = (h.opens s f).1 in
             record {

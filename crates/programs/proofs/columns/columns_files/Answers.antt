@@ -4,4 +4,4 @@ use Rattle.programs.proofs.Files.{columns-printed}
 use Rattle.programs.proofs.columns.columns_files.Goals as goal
 
 pub returns : goal.returns
-returns c = columns-printed (omega arith) (omega arith) _ _ (rw (c.front.ensures, c.front-2.ensures) at c.columns_text.ensures)
+returns c = columns-printed (omega arith) (omega arith) _ _ c.columns_text.ensures

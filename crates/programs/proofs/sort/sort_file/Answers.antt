@@ -4,4 +4,4 @@ use Rattle.programs.proofs.Files.{sort-printed}
 use Rattle.programs.proofs.sort.sort_file.Goals as goal
 
 pub returns : goal.returns
-returns c = sort-printed (omega arith) _ _ (rw c.front.ensures at c.sort_text.ensures)
+returns c = sort-printed (omega arith) _ _ c.sort_text.ensures

@@ -4,4 +4,4 @@ use Rattle.programs.proofs.Files.{watch-printed}
 use Rattle.programs.proofs.watch.watch_files.Goals as goal
 
 pub returns : goal.returns
-returns c = watch-printed (omega arith) (omega arith) _ _ (rw (c.front.ensures, c.front-2.ensures) at c.watch_text.ensures)
+returns c = watch-printed (omega arith) (omega arith) _ _ c.watch_text.ensures

@@ -1,6 +1,0 @@
--- Each turn leaves one case less.
-use Rattle.std.proofs.Common.{◌-◌}
-use Rattle.log_trials.proofs.made.cases_of.Given as goal
-
-abbrev pub decreases-loop-i : goal.decreases-loop-i
-decreases-loop-i l = l.cases - l.i
