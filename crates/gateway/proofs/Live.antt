@@ -130,7 +130,7 @@ module _ (clock : ℕ) (w : List ℕ) where
   unfolding owing_by
   owing-outside e = rw e
 
-module _ {g : CallResult} {w : List ℕ} (h : GivenIn g w) where
+module _ {g : CallResult Refusal} {w : List ℕ} (h : GivenIn g w) where
   given-instants : g.monitor.instants ≡ instants_in w
   unfolding no_monitor
   given-instants = by-limits (state_within w) refl

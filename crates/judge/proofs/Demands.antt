@@ -19,6 +19,7 @@ use Rattle.theory.proofs.Machine.{same-session, each-answer}
 use Rattle.theory.proofs.Said.{answer-said}
 use Rattle.theory.proofs.Seen.{seen-judged}
 use Rattle.judge.specs.declared.monitor.Monitor.{Monitor}
+use Rattle.records.specs.declared.refusal.Refusal.{Refusal}
 use Rattle.judge.specs.declared.monitor.CallResult.{CallResult}
 use Rattle.judge.specs.Answer.{reply_of}
 use Rattle.judge.specs.Promises.{Follows, observes, Called}
@@ -40,7 +41,7 @@ pub same-call : (s : SheetValue) (run : List Instant) (m : Monitor) (bytes : Lis
 unfolding observes accepts
 same-call s run m bytes f = rw (f.limits, f.instants, ap (λ (v : SheetValue). v.clocks) f.sheet)
 
-pub called-follows : (s : SheetValue) (run : List Instant) (m : Monitor) (bytes : List ℕ) (r : CallResult)
+pub called-follows : (s : SheetValue) (run : List Instant) (m : Monitor) (bytes : List ℕ) (r : CallResult Refusal)
     → Follows s run m → Called m bytes r → Observing Follows s run bytes (reply_of r.reply) r.monitor
 called-follows s run m bytes r f h = by-outcome (accepts s run bytes) refl
   where

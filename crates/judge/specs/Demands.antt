@@ -18,6 +18,7 @@ use Rattle.theory.specs.Seen.{SeenJudged}
 use Rattle.theory.specs.SameLines.{SameClocksAndLines}
 use Rattle.theory.specs.Numbered.{AcceptedFrom, RunsAlong}
 use Rattle.judge.specs.declared.monitor.Monitor.{Monitor}
+use Rattle.records.specs.declared.refusal.Refusal.{Refusal}
 use Rattle.judge.specs.declared.monitor.CallResult.{CallResult}
 use Rattle.judge.specs.Answer.{reply_of}
 use Rattle.judge.specs.Promises.{Follows, Opened, Observed}
@@ -30,10 +31,10 @@ opened_of (taken a) m = taken (record { said = a; monitor = m })
 opened_of (refused n) m = refused n
 
 abbrev pub Opens : Reader → List ℕ → Outcome (machine.OpenedMonitor Monitor) → Type 0
-Opens read sheet outcome = (r : CallResult) × Opened read sheet r × (opened_of (reply_of r.reply) r.monitor ≡ outcome)
+Opens read sheet outcome = (r : CallResult Refusal) × Opened read sheet r × (opened_of (reply_of r.reply) r.monitor ≡ outcome)
 
 abbrev pub Observes : Monitor → List ℕ → Outcome Answer → Monitor → Type 0
-Observes m bytes given after = (r : CallResult) × Observed m bytes r × (reply_of r.reply ≡ given) × (r.monitor ≡ after)
+Observes m bytes given after = (r : CallResult Refusal) × Observed m bytes r × (reply_of r.reply ≡ given) × (r.monitor ≡ after)
 
 -- ---- demand 3: for every byte string handed to `open` and every list of byte strings handed to `observe`, each call getting the monitor that the call before gave back,
 -- what opening and every call answered is what the plain machine answers, and the last monitor follows the machine's list

@@ -5,7 +5,7 @@
 pub mod Answer
 -- the limits of a monitor: `monitor_within`, the promise of `within_limits`
 pub mod Limits
--- what a monitor keeps: `sheet_by`, `held_by`, `last_by`, and nothing in unused places, `KeepsNothing`; `refusal`; the records after them are inner promises
+-- what a monitor keeps: `sheet_by`, `held_by`, `last_by`, and nothing in unused places, `KeepsNothing`; `Refuses`, `refused_call`; the records after them are inner promises
 pub mod Monitor
 -- the promises of `open`, `open_base` and `observe`
 pub mod Promises

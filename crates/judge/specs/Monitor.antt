@@ -49,11 +49,11 @@ unfoldable pub no_monitor : Monitor
 no_monitor = blank_monitor (sheet_of (record { clocks = 0; lines = [] }))
 
 -- a call refused: why, and the monitor as it came
-abbrev pub refused_call : Refusal → Monitor → CallResult
+abbrev pub refused_call : {E : Type 0} → E → Monitor → CallResult E
 refused_call why m = record { reply = Err why; monitor = m }
 
 -- the number, and the monitor as it came
-pub record Refuses (n : ℕ) (m : Monitor) (r : CallResult) : Type 0 where
+pub record Refuses (n : ℕ) (m : Monitor) (r : CallResult Refusal) : Type 0 where
   pub reply : reply_of r.reply ≡ refused n
   pub monitor : r.monitor ≡ m
 
@@ -66,7 +66,7 @@ pub record Workable (m : Monitor) : Type 0 where
   pub fits : T (sized m.held)
 
 -- a monitor after an accepted instant, with room for so many remainders, and its answer
-pub record Accepts (room : ℕ) (m : Monitor) (i : Instant) (r : CallResult) : Type 0 where
+pub record Accepts (room : ℕ) (m : Monitor) (i : Instant) (r : CallResult Refusal) : Type 0 where
   pub sheet : r.monitor.sheet ≡ m.sheet
   pub instants : r.monitor.instants ≡ suc m.instants
   pub tags : r.monitor.tags ≡ i.tags

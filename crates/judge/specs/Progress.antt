@@ -50,7 +50,7 @@ progress_of m = record { instants = m.instants; tags = m.tags; count = m.held.co
 abbrev pub first_progress : Progress
 first_progress = record { instants = 0; tags = replicate 8 (pos 0); count = Some 1; from = head_rows }
 
-abbrev pub given : Result Answer Refusal → Monitor → CallResult
+abbrev pub given : Result Answer Refusal → Monitor → CallResult Refusal
 given r m = record { reply = r; monitor = m }
 
 abbrev pub read_back : Sheet → Progress → List arrays.Remainder → Monitor

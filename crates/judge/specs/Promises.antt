@@ -12,6 +12,7 @@ use Rattle.tesl.specs.Machine.{judged_part, Reader}
 use Rattle.theory.specs.Sets.{apart, EachOnce}
 use Rattle.work.specs.View.{held_list}
 use Rattle.judge.specs.declared.monitor.Monitor.{Monitor}
+use Rattle.records.specs.declared.refusal.Refusal.{Refusal}
 use Rattle.judge.specs.declared.monitor.CallResult.{CallResult}
 use Rattle.judge.specs.Answer.{reply_of, said_by}
 use Rattle.judge.specs.Limits.{monitor_within}
@@ -31,7 +32,7 @@ pub record Follows (s : SheetValue) (run : List Instant) (m : Monitor) : Type 0 
 -- ---- opening
 
 -- by what the sheet's bytes are read as: refused, the number and no monitor; else the answer for no instant, and a monitor that follows the sheet and keeps nothing in unused places
-pub record Opened (read : Reader) (bytes : List ℕ) (r : CallResult) : Type 0 where
+pub record Opened (read : Reader) (bytes : List ℕ) (r : CallResult Refusal) : Type 0 where
   pub refuses : (n : ℕ) → read bytes ≡ refused n → Refuses n no_monitor r
   pub opens : (s : SheetValue) → read bytes ≡ taken s → (reply_of r.reply ≡ taken (answer s [])) × Follows s [] r.monitor
   pub unused : (s : SheetValue) → read bytes ≡ taken s → KeepsNothing r.monitor
@@ -44,18 +45,18 @@ observes m bytes = cond (monitor_within m) (judged_part (read_next m.sheet.clock
 
 -- an accepted instant: the answer is what those then held say, and the monitor is within its limits; for every run that the monitor followed, it is the machine's answer, and the monitor follows the longer run
 -- free is what is then held by a monitor that follows no run
-pub record Accepted (m : Monitor) (i : Instant) (r : CallResult) : Type 0 where
+pub record Accepted (m : Monitor) (i : Instant) (r : CallResult Refusal) : Type 0 where
   pub answers : reply_of r.reply ≡ taken (said_by (held_by r.monitor))
   pub limits : monitor_within r.monitor ≡ true
   pub follows : (s : SheetValue) (run : List Instant) → Follows s run m
       → (reply_of r.reply ≡ taken (answer s (run ++ (i ∷ [])))) × Follows s (run ++ (i ∷ [])) r.monitor
 
 -- refused: the number, and the monitor as it came
-pub record Called (m : Monitor) (bytes : List ℕ) (r : CallResult) : Type 0 where
+pub record Called (m : Monitor) (bytes : List ℕ) (r : CallResult Refusal) : Type 0 where
   pub refuses : (n : ℕ) → observes m bytes ≡ refused n → Refuses n m r
   pub accepts : (i : Instant) → observes m bytes ≡ taken i → Accepted m i r
 
 -- and whatever the monitor was, after an accepted instant it keeps nothing in unused places
-pub record Observed (m : Monitor) (bytes : List ℕ) (r : CallResult) : Type 0 where
+pub record Observed (m : Monitor) (bytes : List ℕ) (r : CallResult Refusal) : Type 0 where
   pub called : Called m bytes r
   pub unused : (i : Instant) → observes m bytes ≡ taken i → KeepsNothing r.monitor

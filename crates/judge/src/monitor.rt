@@ -29,11 +29,11 @@ pub struct Monitor {
     pub held: Held,
 }
 
-// What a call gives.
+// What a call gives. Why it is refused is a refusal in every call here; `refuse` takes any reason.
 #[derive(Clone, Copy)]
-pub struct CallResult {
+pub struct CallResult<E = Refusal> {
     // The answer, or why the call is refused.
-    pub reply: Result<Answer, Refusal>,
+    pub reply: Result<Answer, E>,
     // The monitor to call next.
     pub monitor: Monitor,
 }
@@ -85,12 +85,12 @@ pub fn open_base(bytes: &[u8]) -> CallResult
     open_by(bytes, Order::Any, number::LAST_BASE_LINE)
 }
 
-// The refusal, and the monitor as it came.
-pub fn refuse(refusal: Refusal, monitor: Monitor) -> CallResult
-    ensures { result ≡ refused_call refusal monitor }
+// The reason, whatever it is (a refusal, a number), and the monitor as it came.
+pub fn refuse<E>(why: E, monitor: Monitor) -> CallResult<E>
+    ensures { result ≡ refused_call why monitor }
 {
     CallResult {
-        reply: Err(refusal),
+        reply: Err(why),
         monitor,
     }
 }

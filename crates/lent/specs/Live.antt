@@ -71,7 +71,7 @@ pub record SaidIn (r : Replied) (w : List ℕ) : Type 0 where
 
 -- 11 and no monitor; or the last answer, and a struct within its limits: its sheet, its instants, its last tags and how many it holds are those of the words, its remainders are those that they hold, and it follows whatever they follow
 -- where each word is as it is stored, the struct keeps nothing in unused places
-pub record GivenIn (r : CallResult) (w : List ℕ) : Type 0 where
+pub record GivenIn (r : CallResult Refusal) (w : List ℕ) : Type 0 where
   pub outside : state_within w ≡ false → Refuses 11 no_monitor r
   pub inside : state_within w ≡ true → (reply_of r.reply ≡ taken (said_by (held_by (state_monitor w)))) × (monitor_within r.monitor ≡ true)
   pub monitor : state_within w ≡ true → r.monitor ≡ read_back (state_sheet w) (state_progress w) r.monitor.held.remainders

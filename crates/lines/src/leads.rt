@@ -11,7 +11,16 @@ use remainders::clock::ticks_at;
 pub(crate) fn precedes(l: Line) -> bool
     ensures { result ≡ is_precedes l }
 {
-    matches!(l, Line::Weakly { .. } | Line::Strictly { .. })
+    match l {
+        Line::Weakly { .. } | Line::Strictly { .. } => true,
+        Line::Sporadic { .. }
+        | Line::Relation { .. }
+        | Line::Implies { .. }
+        | Line::Excludes { .. }
+        | Line::Delayed { .. }
+        | Line::Kills { .. }
+        | Line::Counted { .. } => false,
+    }
 }
 
 // Of one line the lead that it needs, its tick of A and its tick of B.

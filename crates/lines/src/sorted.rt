@@ -14,29 +14,64 @@ use records::sheet::Sheet;
 fn is_relation(l: Line) -> bool
     ensures { result ≡ is_relation l }
 {
-    matches!(l, Line::Relation { .. })
+    match l {
+        Line::Relation { .. } => true,
+        Line::Sporadic { .. }
+        | Line::Implies { .. }
+        | Line::Excludes { .. }
+        | Line::Delayed { .. }
+        | Line::Weakly { .. }
+        | Line::Strictly { .. }
+        | Line::Kills { .. }
+        | Line::Counted { .. } => false,
+    }
 }
 
 // Implies, excludes or kills: what it asks of the ticks of an instant is asked once per filling.
 fn is_rule(l: Line) -> bool
     ensures { result ≡ is_rule l }
 {
-    matches!(
-        l,
-        Line::Implies { .. } | Line::Excludes { .. } | Line::Kills { .. }
-    )
+    match l {
+        Line::Implies { .. } | Line::Excludes { .. } | Line::Kills { .. } => true,
+        Line::Sporadic { .. }
+        | Line::Relation { .. }
+        | Line::Delayed { .. }
+        | Line::Weakly { .. }
+        | Line::Strictly { .. }
+        | Line::Counted { .. } => false,
+    }
 }
 
 fn is_delay(l: Line) -> bool
     ensures { result ≡ is_delay l }
 {
-    matches!(l, Line::Delayed { .. })
+    match l {
+        Line::Delayed { .. } => true,
+        Line::Sporadic { .. }
+        | Line::Relation { .. }
+        | Line::Implies { .. }
+        | Line::Excludes { .. }
+        | Line::Weakly { .. }
+        | Line::Strictly { .. }
+        | Line::Kills { .. }
+        | Line::Counted { .. } => false,
+    }
 }
 
 fn is_counted(l: Line) -> bool
     ensures { result ≡ is_counted l }
 {
-    matches!(l, Line::Counted { .. })
+    match l {
+        Line::Counted { .. } => true,
+        Line::Sporadic { .. }
+        | Line::Relation { .. }
+        | Line::Implies { .. }
+        | Line::Excludes { .. }
+        | Line::Delayed { .. }
+        | Line::Weakly { .. }
+        | Line::Strictly { .. }
+        | Line::Kills { .. } => false,
+    }
 }
 
 // The line of row j.

@@ -64,9 +64,34 @@ pub fn entries_of(sheet: Sheet, run: Run) -> [u8; 51] {
     entries
 }
 
-// The number of a refusal, 0 of none.
+// The number that is due for a refusal, from the documents: written here once more, so that the library's own is tested against it.
+fn number_due(refusal: Refusal) -> u8 {
+    match refusal {
+        Refusal::TornSheet => 1,
+        Refusal::NotClocks => 2,
+        Refusal::ClocksLength => 3,
+        Refusal::ClockCount => 4,
+        Refusal::LineKind => 5,
+        Refusal::LineLength => 6,
+        Refusal::ClockNumber => 7,
+        Refusal::SeventeenthLine => 8,
+        Refusal::NinthSporadic => 9,
+        Refusal::ShortBuffer => 10,
+        Refusal::MonitorLimits => 11,
+        Refusal::NotOneRecord => 12,
+        Refusal::NotInstant => 13,
+        Refusal::InstantLength => 14,
+        Refusal::TickByte => 15,
+        Refusal::InstantsHeld => 16,
+        Refusal::NotAbove => 17,
+        Refusal::NoCount => 18,
+        Refusal::NotNext => 19,
+    }
+}
+
+// The number that is due, 0 of none.
 pub fn number_of(refusal: Option<Refusal>) -> u8 {
-    refusal.map_or(0, u8::from)
+    refusal.map_or(0, number_due)
 }
 
 // A result as the calls for C pack it.
@@ -88,13 +113,13 @@ fn entry_at(due: &Due, k: usize) -> Entry {
 pub fn result_due(due: &Due) -> u64 {
     match due.refusal {
         None => pack(0, entry_at(due, due.taken), due.taken),
-        Some(refusal) => pack(u8::from(refusal), NO_ANSWER, due.taken),
+        Some(refusal) => pack(number_due(refusal), NO_ANSWER, due.taken),
     }
 }
 
 // The result where the buffer is too short.
 pub fn short_due(due: &Due) -> u64 {
-    pack(u8::from(Refusal::ShortBuffer), NO_ANSWER, due.taken)
+    pack(number_due(Refusal::ShortBuffer), NO_ANSWER, due.taken)
 }
 
 // A panel's result; no clock from the eighth on is owed a tick.

@@ -8,6 +8,7 @@ use Rattle.tesl.specs.Run.{Instant}
 use Rattle.tesl.specs.Machine.{machine, LogResult, concluded, calls_of, judge_log}
 use Rattle.judge.specs.declared.start.Begun.{Begun}
 use Rattle.judge.specs.declared.monitor.Monitor.{Monitor}
+use Rattle.records.specs.declared.refusal.Refusal.{Refusal}
 use Rattle.judge.specs.declared.monitor.CallResult.{CallResult}
 use Rattle.logs.specs.declared.log.LastMonitor.{LastMonitor}
 use Rattle.logs.specs.declared.log.LastRows.{LastRows}
@@ -26,7 +27,7 @@ judged_rows r = record { outcome = reply_of r.reply; instants = r.instants }
 -- ---- after an opening, for every run that its monitor follows
 
 -- what the machine's replies come to; m follows the instants taken before the first refusal; and the answers' bytes stand at the buffer's front, where all have room
-pub record FollowsRecords (opened : CallResult) (log : List ℕ) (r : LogResult) (m : Monitor) (before after : List ℕ) : Type 0 where
+pub record FollowsRecords (opened : CallResult Refusal) (log : List ℕ) (r : LogResult) (m : Monitor) (before after : List ℕ) : Type 0 where
   pub concludes : (s : SheetValue) (run : List Instant) → Follows s run opened.monitor → r ≡ concluded (reply_of opened.reply) 0 (machine s run (calls_of log))
   pub follows : (s : SheetValue) (run : List Instant) → Follows s run opened.monitor → Follows s (run ++ instants_from s run log) m
   pub buffer : (s : SheetValue) (run : List Instant) → Follows s run opened.monitor → 3 * length (answers_from s run log) ≤ length before

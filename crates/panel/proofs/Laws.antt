@@ -1,12 +1,12 @@
 -- How a list is counted entry by entry, and which of a monitor's entries the panel counts. Assumes nothing.
 use Rattle.std.specs.Prelude.{None, Option, Some}
-use mathlib.Core.Bool.{Bool, true, false, cond, ◌||◌}
+use mathlib.Core.Bool.{Bool, true, false, not, cond, ◌||◌}
 use mathlib.Core.List.{List, [], ◌∷◌}
 use mathlib.Core.Path.{◌≡◌, refl, sym, ap, ◌∙◌, subst}
 use Prim.Native.Nat.{ℕ, zero, suc, ◌+◌, ◌≤◌, ◌<◌}
 use native.Mathlib.Numerals.{add-one}
 use native.Mathlib.Omega.{arith}
-use lib.Dec.{leb, leb→le}
+use lib.Dec.{T, leb, leb→le}
 use lib.ListN.{length, get_or, take, drop}
 use lib.Seq.{drop-cons}
 use borrow.Author.Tests.{le-leb}
@@ -55,6 +55,23 @@ end-count k (y ∷ ys) (suc i) h = end-count k ys i (omega arith)
 -- an entry more is counted: `b` is whether it owes, and `whole` what the list counts
 pub count-next : (k : ℕ) (ys : List Remainder) (i : ℕ) (d : Remainder) (b : Bool) (n m whole : ℕ) → i < length ys → b ≡ entry_owes k (get_or ys i d) → n + owing_count k (drop i ys) ≡ whole → m ≡ n + bit b → m + owing_count k (drop (i + 1) ys) ≡ whole
 count-next k ys i d b n m whole l o e q = omega (arith, step_count k ys i d l, ap bit o, e, q)
+
+-- some entry of a list that is not empty
+pub some-entry : (ys : List Remainder) (i : ℕ) → i < length ys → Remainder
+some-entry [] i l = absurd (omega arith)
+some-entry (y ∷ ys) i l = y
+
+pub bit-small : (t : Bool) → bit t ≤ 1
+bit-small true = omega arith
+bit-small false = omega arith
+
+pub is_one : (t : Bool) → T t → bit t ≡ 1
+is_one true h = refl
+is_one false h = absurd h
+
+pub is_none : (t : Bool) → T (not t) → bit t ≡ 0
+is_none true h = absurd h
+is_none false h = refl
 
 -- ---- a monitor
 

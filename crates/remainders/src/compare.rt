@@ -1,5 +1,5 @@
 // Rows compared: whether the row after those found is one of them. Numbers of lines and clocks come from a plan, whose type bounds them.
-ghost use Rattle.std.specs.Prelude.{◌≡◌, false, not, ◌||◌, ℕ, ◌+◌, ◌≤◌, ◌<◌, eqb, get_or};
+ghost use Rattle.std.specs.Prelude.{◌≡◌, false, not, ◌||◌, ℕ, ◌+◌, ◌≤◌, ◌<◌, eqb, get_or, is_none};
 ghost use Rattle.std.specs.Bool.{beq};
 ghost use Rattle.records.specs.Sheet.{SheetValue};
 ghost use Rattle.tesl.specs.Lists.{any, below};
@@ -13,17 +13,53 @@ ghost use Rattle.remainders.specs.Rows.{height, part_number, row_set, row_lead, 
 use crate::rows::{LEADS, Part, SIZE, STOPPED, obligation_at, row_count, row_owes, word_at};
 use crate::word::flag_in;
 
-// Rows i and x lead alike; only the leads of precedes lines are in use. (Which are is lent: by value it would be copied for each row.)
-fn same_leads(rows: &[u32; SIZE], i: usize, x: usize, leaders: usize, precede: &[bool; 16]) -> bool
-    requires { (i < height) × ((x < height) × (leaders ≤ 16)) }
-    ensures { result ≡ below leaders (λ (k : ℕ). not (get_or precede.now k false) || eqb (row_lead rows.now x k) (row_lead rows.now i k)) }
+// Rows i and x have different leads of line k; only the leads of precedes lines are in use. (Which are is lent: by value it would be copied for each row.)
+fn lead_differs(rows: &[u32; SIZE], i: usize, x: usize, k: usize, precede: &[bool; 16]) -> bool
+    requires { (i < height) × ((x < height) × (k < 16)) }
+    ensures { result ≡ not (not (get_or precede.now k false) || eqb (row_lead rows.now x k) (row_lead rows.now i k)) }
 {
-    for k in 0..leaders {
-        if precede[k] && word_at(rows, x, LEADS + k) != word_at(rows, i, LEADS + k) {
-            return false;
+    precede[k] && word_at(rows, x, LEADS + k) != word_at(rows, i, LEADS + k)
+}
+
+// The last line whose leads tell rows i and x apart; none where they lead alike. (It is called where the likely line does not tell: inlined, it would slow down all other rows.)
+#[inline(never)]
+fn last_unlike(
+    rows: &[u32; SIZE],
+    i: usize,
+    x: usize,
+    leaders: usize,
+    precede: &[bool; 16],
+) -> Option<usize>
+    requires { (i < height) × ((x < height) × (leaders ≤ 16)) }
+    ensures { is_none result ≡ below leaders (λ (k : ℕ). not (get_or precede.now k false) || eqb (row_lead rows.now x k) (row_lead rows.now i k)) }
+{
+    for k in (0..leaders).rev() {
+        if lead_differs(rows, i, x, k, precede) {
+            return Some(k);
         }
     }
-    true
+    None
+}
+
+// A line whose leads tell rows i and x apart, or none: the likely one first, which told the last rows apart.
+fn unlike_lead(
+    rows: &[u32; SIZE],
+    i: usize,
+    x: usize,
+    leaders: usize,
+    precede: &[bool; 16],
+    likely: usize,
+) -> Option<usize>
+    requires { (i < height) × ((x < height) × (leaders ≤ 16)) }
+    ensures { is_none result ≡ below leaders (λ (k : ℕ). not (get_or precede.now k false) || eqb (row_lead rows.now x k) (row_lead rows.now i k)) }
+{
+    if leaders == 0 {
+        return None;
+    }
+    if likely < leaders && lead_differs(rows, i, x, likely, precede) {
+        return Some(likely);
+    }
+    last_unlike(rows, i, x, leaders, precede)
 }
 
 // The same of the sheet's clocks are stopped in rows i and x.
@@ -90,12 +126,14 @@ pub fn is_duplicate(
     let smaller = larger.other();
     let fewer = row_count(rows, x, smaller);
     let owed = row_count(rows, x, Part::Obligations);
+    let mut likely = 0;
     'held: for k in 0..n {
         let i = first + k;
         if row_count(rows, i, larger) != count {
             continue;
         }
-        if !same_leads(rows, i, x, leaders, &precede) {
+        if let Some(unlike) = unlike_lead(rows, i, x, leaders, &precede, likely) {
+            likely = unlike;
             continue;
         }
         if !same_stopped(rows, i, x, clocks) {

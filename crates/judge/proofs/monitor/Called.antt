@@ -37,10 +37,10 @@ use Rattle.judge.proofs.monitor.Observed.{accepted}
 
 -- ---- by the outcome
 
-module _ (m : Monitor) (bytes : List ℕ) (r : CallResult) where
+module _ (m : Monitor) (bytes : List ℕ) (r : CallResult Refusal) where
   called-refused : {why : Refusal} → observes m bytes ≡ refused (refusal_number why) → r ≡ refused_call why m → Called m bytes r
   called-refused {why} e q = record {
-    refuses = λ k f. record { reply = ap (λ (c : CallResult). reply_of c.reply) q ∙ ap refused (refused-same (sym e ∙ f)); monitor = ap (λ (c : CallResult). c.monitor) q };
+    refuses = λ k f. record { reply = ap (λ (c : CallResult Refusal). reply_of c.reply) q ∙ ap refused (refused-same (sym e ∙ f)); monitor = ap (λ (c : CallResult Refusal). c.monitor) q };
     accepts = λ i f. refused-taken (sym e ∙ f);
   }
 
@@ -70,7 +70,7 @@ module _ (m : Monitor) {b : Bool} (l : Limited m b) (e : not b ≡ false) where
 module _ (m : Monitor) (bytes : List ℕ) {b : Bool} (l : Limited m b) (e : not b ≡ false)
     {x : Result code.Instant Refusal} (h : outcome_of x ≡ instant_read (read_next m.sheet.clocks m.instants bytes)) where
   -- 12 to 16, 19
-  pub called-unread : {r : CallResult} {why : Refusal} → x ≡ Err why → r ≡ refused_call why m → Called m bytes r
+  pub called-unread : {r : CallResult Refusal} {why : Refusal} → x ≡ Err why → r ≡ refused_call why m → Called m bytes r
   unfolding observes
   called-unread {r} q g =
       let k = read-refused (read_next m.sheet.clocks m.instants bytes) h q in
@@ -91,7 +91,7 @@ module _ (m : Monitor) (bytes : List ℕ) {b : Bool} (l : Limited m b) (e : not 
         rw (ap (λ (i : code.Instant). i.tags) was_read.struct)
         (filled-past (pos 0) 8 (map (λ (c : Cell). c.tag) cells) k (omega (arith, w.size, length-map cells (λ (c : Cell). c.tag))))
 
-    pub called : {r : CallResult} → IsBytes bytes → All (λ (s : arrays.Remainder). length s.stopped ≡ 8) m.held.remainders
+    pub called : {r : CallResult Refusal} → IsBytes bytes → All (λ (s : arrays.Remainder). length s.stopped ≡ 8) m.held.remainders
         → Accepts most_live m instant r → Called m bytes r
     unfolding observes monitor_within
     called {r} u stops a =

@@ -32,7 +32,7 @@ pub answered-refused : {X : Type 0} {a : code.Answer} {why : Refusal} → ◌≡
 answered-refused e = let z : ◌≡◌ {A = ℕ} 0 1 = cc in absurd (omega arith)
 
 -- an answer leaves the monitor within its limits
-pub answered-within : {m : Monitor} {bytes : List ℕ} {g : CallResult} → Called m bytes g → {a : Answer} → reply_of g.reply ≡ taken a → monitor_within g.monitor ≡ true
+pub answered-within : {m : Monitor} {bytes : List ℕ} {g : CallResult Refusal} → Called m bytes g → {a : Answer} → reply_of g.reply ≡ taken a → monitor_within g.monitor ≡ true
 answered-within {m} {bytes} {g} o {a} p = by-outcome (observes m bytes) refl
   where
     by-outcome : (x : Outcome Instant) → observes m bytes ≡ x → monitor_within g.monitor ≡ true
@@ -66,10 +66,10 @@ module _ (m : Monitor) (l : Limited m true) {p : Plan} {lines : List ℕ} (plan 
     none-taken : {why : Refusal} → t.reply ≡ Err why → {X : Type 0} {i : Instant} → observes m bytes ≡ taken i → X
     none-taken p {i = i} f = refused-taken (ap reply_of (sym p) ∙ (called.accepts i (sym (same-call bytes) ∙ f)).answers)
 
-    pub refused-rows : {g : CallResult} {why : Refusal} → t.reply ≡ Err why → g ≡ refused_call why m → Observed m bytes g
+    pub refused-rows : {g : CallResult Refusal} {why : Refusal} → t.reply ≡ Err why → g ≡ refused_call why m → Observed m bytes g
     refused-rows {g} p q = record {
       called = record {
-        refuses = λ k f. record { reply = ap (λ (c : CallResult). reply_of c.reply) q ∙ (ap reply_of (sym p) ∙ replied f); monitor = ap (λ (c : CallResult). c.monitor) q };
+        refuses = λ k f. record { reply = ap (λ (c : CallResult Refusal). reply_of c.reply) q ∙ (ap reply_of (sym p) ∙ replied f); monitor = ap (λ (c : CallResult Refusal). c.monitor) q };
         accepts = λ i f. none-taken p f;
       };
       unused = λ i f. none-taken p f;

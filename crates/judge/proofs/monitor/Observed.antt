@@ -32,6 +32,7 @@ use Rattle.work.specs.View.{held_list, tags_before, seen_of}
 use Rattle.work.specs.Work.{worked}
 use Rattle.work.proofs.Found.{Shaped, Proper, Every, worked-among, worked-every, worked-none}
 use Rattle.judge.specs.declared.monitor.Monitor.{Monitor}
+use Rattle.records.specs.declared.refusal.Refusal.{Refusal}
 use Rattle.judge.specs.declared.monitor.CallResult.{CallResult}
 use Rattle.judge.specs.Answer.{said_by}
 use Rattle.judge.specs.Limits.{sheet_within, monitor_within}
@@ -96,7 +97,7 @@ seen_of-law c v e =
 -- ---- the monitor after it
 
 module _ (m : Monitor) (l : Limits m) (sheet : T (sheet_within (sheet_by m))) (room : m.instants < 4000)
-    (v : InstantValue) (value : IsInstant v.cells) (size : length v.cells ≡ m.sheet.clocks) (r : CallResult) (a : Accepts most_live m (instant_of v) r)
+    (v : InstantValue) (value : IsInstant v.cells) (size : length v.cells ≡ m.sheet.clocks) (r : CallResult Refusal) (a : Accepts most_live m (instant_of v) r)
     (shaped : All (Shaped m.sheet.clocks) (held_list (held_by m))) where
   -- its ticks and tags
   abbrev i : Instant

@@ -151,12 +151,12 @@ pub record SheetTaken (order : Order) (last : ℕ) (b : List ℕ) (sheet : Sheet
   pub is : sheet ≡ sheet_of value
 
 module _ (order : Order) (last : ℕ) (b : List ℕ) {x : Result Sheet Refusal} (e : outcome_of x ≡ sheet_read (read_by order last b)) where
-  pub opened-refused : {why : Refusal} → x ≡ Err why → (r : CallResult) → r ≡ refused_call why (blank_monitor (sheet_of (record { clocks = 0; lines = [] }))) → Opened (read_by order last) b r
+  pub opened-refused : {why : Refusal} → x ≡ Err why → (r : CallResult Refusal) → r ≡ refused_call why (blank_monitor (sheet_of (record { clocks = 0; lines = [] }))) → Opened (read_by order last) b r
   unfolding no_monitor
   opened-refused {why} a r q =
       let h = sheet-refused (read_by order last b) x e a in
       record {
-        refuses = λ j f. record { reply = ap (λ (c : CallResult). reply_of c.reply) q ∙ ap refused (refused-same (sym h ∙ f)); monitor = ap (λ (c : CallResult). c.monitor) q };
+        refuses = λ j f. record { reply = ap (λ (c : CallResult Refusal). reply_of c.reply) q ∙ ap refused (refused-same (sym h ∙ f)); monitor = ap (λ (c : CallResult Refusal). c.monitor) q };
         opens = λ s f. refused-taken (sym h ∙ f);
         unused = λ s f. refused-taken (sym h ∙ f);
       }

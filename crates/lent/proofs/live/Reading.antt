@@ -13,6 +13,7 @@ use Rattle.records.specs.declared.refusal.Refusal.TheVariants.{MonitorLimits}
 use Rattle.judge.specs.declared.progress.Progress.{Progress}
 use Rattle.lent.specs.declared.live.FoundState.{FoundState}
 use Rattle.judge.specs.declared.monitor.Monitor.{Monitor}
+use Rattle.records.specs.declared.refusal.Refusal.{Refusal}
 use Rattle.judge.specs.declared.monitor.CallResult.{CallResult}
 use Rattle.judge.specs.Answer.{answer_of, reply_of, said_by}
 use Rattle.step.specs.Apply.{found_in, FewOwedIn}
@@ -34,10 +35,10 @@ module _ {w : List ℕ} (out : state_within w ≡ false) where
   pub said-none : SaidIn (record { reply = Err MonitorLimits; instants = 0 }) w
   said-none = record { outside = λ e. refl; inside = λ e. false-true (sym out ∙ e); instants = sym (no-instants w out) }
 
-  pub given-none : {s : Sheet} {m : Monitor} {r : CallResult} → s ≡ sheet_of (record { clocks = 0; lines = [] }) → m ≡ blank_monitor s → r ≡ refused_call MonitorLimits m → GivenIn r w
+  pub given-none : {s : Sheet} {m : Monitor} {r : CallResult Refusal} → s ≡ sheet_of (record { clocks = 0; lines = [] }) → m ≡ blank_monitor s → r ≡ refused_call MonitorLimits m → GivenIn r w
   unfolding no_monitor state_within
   given-none a b c = record {
-    outside = λ e. record { reply = ap (λ (x : CallResult). reply_of x.reply) c; monitor = ap (λ (x : CallResult). x.monitor) c ∙ b ∙ ap blank_monitor a };
+    outside = λ e. record { reply = ap (λ (x : CallResult Refusal). reply_of x.reply) c; monitor = ap (λ (x : CallResult Refusal). x.monitor) c ∙ b ∙ ap blank_monitor a };
     inside = λ e. false-true (sym out ∙ e);
     held = λ e. false-true (sym out ∙ e);
     monitor = λ e. false-true (sym out ∙ e);

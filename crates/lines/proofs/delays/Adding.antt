@@ -58,15 +58,15 @@ module _ (most : ℤ) (ticks : List Bool) (tags : List ℤ) (lines : List ℕ) (
 
   -- a line more
   module _ {begun : List code.Obligation} {count j : ℕ} (w : Adding begun count j) (h : j < n) {l : Line} (e : l ≡ line_in j) (owed : ReadsOwed most ticks tags l) where
-    read : (k : ℕ) → k < j + 1 → ReadsOwed most ticks tags (line_in k)
-    read k g = ⊎_elim (λ (s : k ≡ j). subst (ReadsOwed most ticks tags) (e ∙ ap line_in (sym s)) owed) (λ (s : k < j). w.reads k s) (eq-or-lt_of_le (omega arith))
+    all_read-law : (k : ℕ) → k < j + 1 → ReadsOwed most ticks tags (line_in k)
+    all_read-law k g = ⊎_elim (λ (s : k ≡ j). subst (ReadsOwed most ticks tags) (e ∙ ap line_in (sym s)) owed) (λ (s : k < j). w.reads k s) (eq-or-lt_of_le (omega arith))
 
     pub adding-none : [] ≡ stored_by most ticks tags l → Adding begun count (j + 1)
-    adding-none g = record { size = w.size; ordered = w.ordered; fewer = omega (arith, w.fewer); kept = w.kept; gathered = gathering-nothing _ _ _ _ j _ w.gathered h e g; reads = read }
+    adding-none g = record { size = w.size; ordered = w.ordered; fewer = omega (arith, w.fewer); kept = w.kept; gathered = gathering-nothing _ _ _ _ j _ w.gathered h e g; reads = all_read-law }
 
     module _ (o : code.Obligation) (g : o ∷ [] ≡ stored_by most ticks tags l) (t : Bool) (a : t ≡ any (same_stored o) (drop first (take count begun))) where
       pub adding-there : t ≡ true → Adding begun count (j + 1)
-      adding-there u = record { size = w.size; ordered = w.ordered; fewer = omega (arith, w.fewer); kept = w.kept; gathered = gathering-again _ _ _ _ j _ w.gathered h e o g t a u; reads = read }
+      adding-there u = record { size = w.size; ordered = w.ordered; fewer = omega (arith, w.fewer); kept = w.kept; gathered = gathering-again _ _ _ _ j _ w.gathered h e o g t a u; reads = all_read-law }
 
       pub adding-more : count < 16 → t ≡ false → Adding (set begun count o) (count + 1) (j + 1)
       adding-more few u = record {
@@ -75,7 +75,7 @@ module _ (most : ℤ) (ticks : List Bool) (tags : List ℤ) (lines : List ℕ) (
         fewer = omega (arith, w.fewer);
         kept = take-set-le first begun count o w.ordered ∙ w.kept;
         gathered = gathering-more _ _ _ _ j _ w.gathered h e o g t a u _ more;
-        reads = read;
+        reads = all_read-law;
       }
         where
           more : drop first (take (count + 1) (set begun count o)) ≡ drop first (take count begun) ++ (o ∷ [])

@@ -61,7 +61,7 @@ module _ {log before after : List ℕ} {m₀ m : Monitor} {r₀ last : Result co
     buffer = λ s run f. whole s run f (ended-answers w.watching h s run f);
   }
 
-  module _ {p : List ℕ} (h : TheRecord log at p) {g : CallResult} (o : Called m p g) where
+  module _ {p : List ℕ} (h : TheRecord log at p) {g : CallResult Refusal} (o : Called m p g) where
     pub written-refused : {k : Refusal} → g.reply ≡ Err k → FollowsRecords (given r₀ m₀) log (record { outcome = reply_of g.reply; instants = n }) g.monitor before after
     written-refused e = record {
       concludes = stopped w.watching h o (ap reply_of e);

@@ -51,7 +51,7 @@ module _ {log : List ℕ} {m₀ m : Monitor} {said : List Answer} {at : ℕ} (w 
       let l = w.same s run f in
       (l.replies ∙ rw (drop_of_length-le log {i = at} h, no_pieces), l.instants ∙ rw (drop_of_length-le log {i = at} h, no_pieces) (append-nil l.run))
 
-  module _ {p : List ℕ} (h : TheRecord log at p) {g : CallResult} (o : Called m p g) where
+  module _ {p : List ℕ} (h : TheRecord log at p) {g : CallResult Refusal} (o : Called m p g) where
     -- what the machine takes the records behind this one for
     abbrev later : SheetValue → List Instant → List (Outcome Instant)
     later s run = accepts_each s (list_after run (accepts s run p)) (calls_of (drop (at + length p) log))
@@ -109,7 +109,7 @@ module _ {log : List ℕ} {m₀ m : Monitor} {r₀ last : Result code.Answer Ref
     pub ended-answers : (s : SheetValue) (run : List Instant) → Follows s run m₀ → answers_from s run log ≡ said
     ended-answers s run f = rw ((going_end w.going h s run f).0, answers-said) (append-nil said)
 
-  module _ {p : List ℕ} (h : TheRecord log at p) {g : CallResult} (o : Called m p g) where
+  module _ {p : List ℕ} (h : TheRecord log at p) {g : CallResult Refusal} (o : Called m p g) where
     module _ {k : ℕ} (e : reply_of g.reply ≡ refused k) where
       pub stopped : (s : SheetValue) (run : List Instant) → Follows s run m₀ → record { outcome = reply_of g.reply; instants = n } ≡ concluded (reply_of r₀) 0 (machine s run (calls_of log))
       stopped s run f = let t = turn w.going h o s run f in concludes g.reply _ s run t.1 (rw e)

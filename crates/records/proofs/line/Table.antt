@@ -30,6 +30,18 @@ shaped (Counted a b d n) = record { line = refl; size = refl; short = omega arit
 pub line-length : (l : Line) → length_of (kind_of l) ≡ length (body_of l)
 line-length l = sym (shaped l).size
 
+-- every line's body has at least two clocks
+pub two-clocks : (k : ℕ) → is_line k ≡ true → 2 ≤ length_of k
+unfolding length_of
+two-clocks k h = rw h (least (eqb k 16) (eqb k 17) (eqb k 20) (eqb k 24))
+  where
+    least : (x y z w : Bool) → 2 ≤ cond x 4 (cond y 6 (cond z 5 (cond w 4 2)))
+    least true y z w = omega arith
+    least false true z w = omega arith
+    least false false true w = omega arith
+    least false false false true = omega arith
+    least false false false false = omega arith
+
 -- no line's body is longer than 6
 pub length_most : (k : ℕ) → length_of k ≤ 6
 unfolding length_of

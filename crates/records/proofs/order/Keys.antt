@@ -1,17 +1,12 @@
 -- Lines by what they are compared by: of one kind by their bodies, else by their kinds; and a line is told by its key. Assumes nothing.
 use mathlib.Core.Path.{◌≡◌, refl, sym, ap, ◌∙◌}
-use mathlib.Core.Bool.{Bool, true, false, ◌&&◌, ◌||◌}
+use mathlib.Core.Bool.{Bool, true, false, ◌||◌}
 use mathlib.Core.List.{List, [], ◌∷◌, ◌++◌, map}
 use Prim.Native.Nat.{ℕ, ◌+◌, ◌-◌}
 use native.Mathlib.Omega.{arith}
 use lib.ListN.{length}
-use lib.Dec.{ltb, eqb}
-use borrow.Author.Tests.{eqb-true}
-use Rattle.std.specs.Prelude.{Some}
-use Rattle.std.specs.Ordering.{is_some_and, is_gt, nat_cmp}
-use Rattle.std.specs.Cmp.Lexicographic.{slice_partial_cmp}
-use Rattle.std.proofs.lemmas.Cmp.{same_from_slice_cmp_tested}
-use Rattle.std.proofs.lemmas.Bool.Decides.{nat_tests}
+use lib.Dec.{ltb}
+use borrow.Author.Tests.{ne_eqb}
 use Rattle.records.specs.declared.line.Line.{Line}
 use Rattle.records.specs.Lists.{listed_from, listed, filled}
 use Rattle.records.specs.Line.{length_of, kind_of, body_of}
@@ -20,31 +15,29 @@ use Rattle.records.specs.Types.{IsLineValue}
 use Rattle.records.proofs.Lists.{map-append, listed-snoc}
 use Rattle.records.proofs.line.Table.{shaped}
 use Rattle.records.proofs.line.Inverse.{line-back}
-use Rattle.records.proofs.order.Laws.{above-front}
+use Rattle.records.proofs.order.Laws.{first-same, above-front}
 
 -- ---- what `is_above` compares
 
--- the library's order of lists is the definition's
-above-compared : (xs ys : List ℕ) (r : Bool) → r ≡ is_some_and is_gt (slice_partial_cmp (λ x y. Some (nat_cmp x y)) xs ys) → r ≡ above xs ys
-unfolding above
-above-compared = same_from_slice_cmp_tested nat_cmp is_gt above refl (λ _ _. refl) (λ _ _. refl) (λ x y xs ys o h. grind (arith, nat_tests))
+module _ (l m : Line) {k j : ℕ} (p : k ≡ kind_of l) (q : j ≡ kind_of m) where
+  -- lines of one kind are compared by their six bytes
+  pub key-body : {r : Bool} {x y : List ℕ} → k ≡ j → x ≡ filled 6 0 (body_of l) → y ≡ filled 6 0 (body_of m)
+      → r ≡ above x y → r ≡ above (key_of l) (key_of m)
+  key-body e f g h =
+      let same : kind_of l ≡ kind_of m = sym p ∙ e ∙ q in
+      let size : length (body_of l) ≡ length (body_of m) = (shaped l).size ∙ ap length_of same ∙ sym (shaped m).size in
+      h ∙ rw (f, g, size) (above-front (body_of l) (body_of m) _ size) ∙ sym (first-same _ _ (body_of l) (body_of m) same)
 
--- zeros behind two bodies do not count: of one kind they are as many, and else the kinds decide
-key-filled : (l m : Line) → above (kind_of l ∷ filled 6 0 (body_of l)) (kind_of m ∷ filled 6 0 (body_of m)) ≡ above (key_of l) (key_of m)
-unfolding above
-key-filled l m = by-test (eqb (kind_of l) (kind_of m)) refl
-  where
-    by-test : (t : Bool) → eqb (kind_of l) (kind_of m) ≡ t → above (kind_of l ∷ filled 6 0 (body_of l)) (kind_of m ∷ filled 6 0 (body_of m)) ≡ above (key_of l) (key_of m)
-    by-test false e = rw e
-    by-test true e =
-        let same = eqb-true (kind_of l) (kind_of m) e in
-        let size : length (body_of l) ≡ length (body_of m) = (shaped l).size ∙ ap length_of same ∙ sym (shaped m).size in
-        rw size (ap (λ (b : Bool). ltb (kind_of m) (kind_of l) || (eqb (kind_of l) (kind_of m) && b)) (above-front (body_of l) (body_of m) _ size))
-
--- lines are compared by kind and six bytes, as one list
-pub key-compared : (l m : Line) {k j : ℕ} {x y : List ℕ} {r : Bool} → k ≡ kind_of l → x ≡ filled 6 0 (body_of l) → j ≡ kind_of m → y ≡ filled 6 0 (body_of m)
-    → r ≡ is_some_and is_gt (slice_partial_cmp (λ x y. Some (nat_cmp x y)) (k ∷ x) (j ∷ y)) → r ≡ above (key_of l) (key_of m)
-key-compared l m {k} {j} {x} {y} {r} p f q g e = above-compared (k ∷ x) (j ∷ y) r e ∙ rw (p, f, q, g) (key-filled l m)
+  -- others by their kinds
+  pub key-kind : (k ≡ j → ⊥) → ltb j k ≡ above (key_of l) (key_of m)
+  unfolding above
+  key-kind n =
+      let other : kind_of l ≡ kind_of m → ⊥ = λ e. n (p ∙ e ∙ sym q) in
+      rw (ne_eqb (kind_of l) (kind_of m) other, p, q) (or-false (ltb (kind_of m) (kind_of l)))
+    where
+      or-false : (b : Bool) → b ≡ (b || false)
+      or-false true = refl
+      or-false false = refl
 
 -- a line's key tells it
 pub key-line : (l m : Line) → IsLineValue l → IsLineValue m → key_of l ≡ key_of m → l ≡ m

@@ -3,11 +3,13 @@ use mathlib.Core.Path.{◌≡◌, refl, sym, ap, ◌∙◌}
 use mathlib.Core.Logic.{◌⊎◌, inl, inr}
 use mathlib.Core.Bool.{Bool, true, false, ◌&&◌, ◌||◌, true≢false, false≢true}
 use mathlib.Core.List.{List, [], ◌∷◌, ◌++◌}
-use Prim.Native.Nat.{ℕ, ◌≤◌, ◌<◌}
+use Prim.Native.Nat.{ℕ, ◌+◌, ◌≤◌, ◌<◌}
 use native.Mathlib.Omega.{arith}
-use lib.ListN.{length}
+use native.Mathlib.Numerals.{add-one}
+use lib.ListN.{length, get_or, drop, drop_of_length-le}
+use lib.Seq.{drop-cons}
 use lib.Dec.{ltb, eqb}
-use borrow.Author.Tests.{lt-ltb, le-ltb, ltb-true, ltb-false, eq-eqb, eqb-true}
+use borrow.Author.Tests.{lt-ltb, le-ltb, ltb-true, ltb-false, eq-eqb, ne_eqb, eqb-true}
 use Rattle.records.specs.Order.{above}
 use Rattle.records.proofs.Lists.{both, neither}
 
@@ -16,6 +18,10 @@ module _ (x y : ℕ) (xs ys : List ℕ) where
   pub first_above : y < x → above (x ∷ xs) (y ∷ ys) ≡ true
   unfolding above
   first_above h = rw (lt-ltb y x h)
+
+  pub first_below : x < y → above (x ∷ xs) (y ∷ ys) ≡ false
+  unfolding above
+  first_below h = let n : x ≡ y → ⊥ = λ e. omega arith in rw (le-ltb y x (omega arith), ne_eqb x y n)
 
   pub first-same : x ≡ y → above (x ∷ xs) (y ∷ ys) ≡ above xs ys
   unfolding above
@@ -75,3 +81,30 @@ above-front [] [] zs e = above-itself zs
 above-front [] (y ∷ ys) zs e = absurd (omega arith)
 above-front (x ∷ xs) [] zs e = absurd (omega arith)
 above-front (x ∷ xs) (y ∷ ys) zs e = ap (λ (b : Bool). ltb y x || (eqb x y && b)) (above-front xs ys zs (omega arith))
+
+-- ---- a turn of `body_above`
+module _ {w : Bool} (a b : List ℕ) (i : ℕ) (inv : w ≡ above (drop i a) (drop i b)) where
+  pub turn_end : length a ≤ i → false ≡ w
+  unfolding above
+  turn_end h = sym (inv ∙ rw (drop_of_length-le a {i = i} h))
+
+  module _ (h : i < length a) (g : i < length b) where
+    here : w ≡ above (get_or a i 0 ∷ drop (i + 1) a) (get_or b i 0 ∷ drop (i + 1) b)
+    here = inv ∙ rw (drop-cons a i 0 h, drop-cons b i 0 g, add-one i)
+
+    pub turn-above : get_or b i 0 < get_or a i 0 → true ≡ w
+    turn-above e = sym (here ∙ first_above _ _ _ _ e)
+
+    pub turn_below : get_or a i 0 < get_or b i 0 → false ≡ w
+    turn_below e = sym (here ∙ first_below _ _ _ _ e)
+
+    pub turn-same : get_or a i 0 ≤ get_or b i 0 → get_or b i 0 ≤ get_or a i 0 → w ≡ above (drop (i + 1) a) (drop (i + 1) b)
+    turn-same e f = here ∙ first-same _ _ _ _ (omega arith)
+
+    -- two that differ decide
+    pub turn-differs : (get_or a i 0 ≡ get_or b i 0 → ⊥) → ltb (get_or b i 0) (get_or a i 0) ≡ w
+    turn-differs n = by-test (ltb (get_or b i 0) (get_or a i 0)) refl
+      where
+        by-test : (t : Bool) → ltb (get_or b i 0) (get_or a i 0) ≡ t → t ≡ w
+        by-test true e = turn-above (ltb-true _ _ e)
+        by-test false e = let d = ltb-false _ _ e in turn_below (omega (arith, n))

@@ -38,6 +38,11 @@ module _ (v : Width) (n k m : ℕ) (one : 1 ≤ k) (room : k ≤ 2 ^ hbits v) wh
   worked : m ≤ 2 ^ hbits v → to_z v (of_z v (to_z v (n % k) -ℤ pos m)) ≡ pos (n % k) -ℤ pos m
   worked h = to_z-of_z {w = v} (difference-fits h) ∙ ap (λ (z : ℤ). z -ℤ pos m) as_number
 
+  -- and narrowed to w
+  pub narrowed-fits : (w : Width) → hbits w ≤ hbits v → m ≤ 2 ^ hbits w → k ≤ m + 2 ^ hbits w → SFits w (to_z v (of_z v (to_z v (n % k) -ℤ pos m)))
+  narrowed-fits w narrower h l =
+      rw (worked (omega (arith, h, pow_mono narrower))) (record { sfits = mag-difference (n % k) m (2 ^ hbits w) (omega (arith, mod-lt n one)) h })
+
 -- a word of the width w, worked out in a width v that has room for it beside the sign
 module _ (w v : Width) (room : bits w ≤ hbits v) (n : ℕ) (l : n < 2 ^ bits w) where
   pub read-by-remainder : to_z w (of_z w (to_z v (of_z v (to_z v (from_least (bits w) n) -ℤ pos (2 ^ (bits w - 1)))))) ≡ signed (bits w) n
@@ -59,6 +64,7 @@ module _ (w : Width) where
   pub record Negative (t : ℤ) : Type 0 where
     pub is : t ≡ negsuc (mag t)
     pub minus : to_z w (of_z w (negsuc 0 -ℤ to_z w (of_z w t))) ≡ pos (mag t)
+    pub sub-fits : SFits w (negsuc 0 -ℤ to_z w (of_z w t))
     pub word : unsigned (bits w) t ≡ 2 ^ bits w - 1 - mag t
     pub small : mag t < 2 ^ hbits w
 
@@ -70,6 +76,7 @@ module _ (w : Width) where
       record {
         is = refl;
         minus = rw e (to_z-of_z {w = w} (record { sfits = f.sfits }));
+        sub-fits = rw e (record { sfits = f.sfits });
         word = omega arith;
         small = f.sfits;
       }

@@ -9,7 +9,7 @@ use lib.IntN.{ℤ, pos, negsuc, nat_abs, ◌+ℤ◌, +ℤ_assoc}
 use lib.Signed.{mag, le_z}
 use mir.Syntax.{w16}
 use mir.Val.{to_z, of_z}
-use borrow.Author.Tests.{eq-eqb, ne_eqb, le-leb, lt-leb, ltb-true, ltb-false}
+use borrow.Author.Tests.{eq-eqb, ne_eqb, le-leb, le-ltb, lt-leb, ltb-true, ltb-false}
 use Rattle.records.proofs.word.Laws.{back}
 use Rattle.tesl.specs.Fits.{eq_z}
 use Rattle.tesl.specs.Remainder.{same_obligation, same_countdown}
@@ -67,6 +67,15 @@ held-due d h e f = e ∙ ap (λ (x : ℤ). x +ℤ pos d) (back h f)
 -- of `tag_number`, handed a tag
 pub held_number : {z t u : ℤ} → mag t < 32768 → z ≡ to_z w16 (of_z w16 t) → t ≡ u → z ≡ u
 held_number h e f = e ∙ back h f
+
+-- the number of a tag has 16 bits
+number_small : (t : ℤ) → mag t < 32768 → due_number t < 65536
+unfolding due_number
+number_small (pos a) h = omega arith
+number_small (negsuc a) h = rw (le-ltb 32768 (suc a) (omega arith)) (omega arith)
+
+pub tag_small : (n : ℕ) (t : ℤ) → mag t < 32768 → due_of n ≡ t → n < 65536
+tag_small n t h e = omega (arith, number_small t h, sym (number-due n) ∙ ap due_number e)
 
 -- what `==` tests of two
 pub same_fields : (a b : code.Obligation) → (eqb a.clock b.clock && (eqb a.on b.on && eqb a.number b.number)) ≡ same_stored a b

@@ -50,7 +50,7 @@ module _ {log out₀ out : List ℕ} {m₀ m : Monitor} {end at : ℕ} (w : Tell
   unfolding machine
   told-end h = printed-end w.printing ready.room (rw (drop_of_length-le log {i = at} h, no_pieces))
 
-  module _ {p : List ℕ} (h : TheRecord log at p) {g : CallResult} (o : Observed m p g) where
+  module _ {p : List ℕ} (h : TheRecord log at p) {g : CallResult Refusal} (o : Observed m p g) where
     abbrev s : SheetValue
     s = sheet_by m₀
 
@@ -94,7 +94,7 @@ module _ {log out₀ out : List ℕ} {m₀ m : Monitor} {end at : ℕ} (w : Tell
 
 -- ---- the opening
 
-module _ (sheet log : List ℕ) (g : CallResult) (h : Opened read_sheet sheet g) where
+module _ (sheet log : List ℕ) (g : CallResult Refusal) (h : Opened read_sheet sheet g) where
   pub text-refused : {n : Refusal} → g.reply ≡ Err n → watch_text sheet log ≡ refusal_line (refusal_number n)
   unfolding watch_text session
   text-refused {n} e = by_read (read_sheet sheet) refl

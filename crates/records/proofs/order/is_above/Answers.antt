@@ -1,7 +1,9 @@
--- `is_above`: kind and body are compared as one list. The comparison itself is not named, since its name would go with its operator. Assumes nothing.
-use Rattle.std.proofs.Common.{rules}
-use Rattle.records.proofs.order.Keys.{key-compared}
+-- `is_above`: lines of one kind by their bodies, else by their kinds. Assumes nothing.
+use Rattle.records.proofs.order.Keys.{key-body, key-kind}
 use Rattle.records.proofs.order.is_above.Goals as goal
 
+pub returns-then-same_kind : goal.returns-then-same_kind
+returns-then-same_kind c = key-body c.args.l c.args.other c.kind_of-kind.ensures c.kind_of-other_kind.ensures c.if-same_kind.true c.body_of.ensures.0 c.body_of-then-same_kind.ensures.0 c.body_above.ensures
+
 pub returns : goal.returns
-returns c = key-compared c.args.l c.args.other c.kind_of.ensures c.body_of.ensures.0 c.kind_of-2.ensures c.body_of-2.ensures.0 (search rules)
+returns c = key-kind c.args.l c.args.other c.kind_of-kind.ensures c.kind_of-other_kind.ensures c.if-same_kind.false

@@ -1,5 +1,6 @@
 -- A question that tells row i from row x leaves the invariant; the last says that it is row x.
-use Rattle.std.proofs.Common.{◌≡◌, ℕ, Bool, true, false, not, ◌&&◌, List, ◌+◌, ◌-◌, ◌≤◌, sym, ap, ap₂, ◌∙◌, arith}
+use Rattle.std.specs.Prelude.{Option}
+use Rattle.std.proofs.Common.{is_none, ◌≡◌, ℕ, Bool, true, false, not, ◌&&◌, List, ◌+◌, ◌-◌, ◌≤◌, sym, ap, ap₂, ◌∙◌, arith}
 use Rattle.records.specs.Sheet.{SheetValue}
 use Rattle.tesl.specs.Lists.{any, below}
 use Rattle.work.specs.View.{used_part}
@@ -34,9 +35,9 @@ pub held-preserved-then-row_count-count : goal.held-preserved-then-row_count-cou
 held-preserved-then-row_count-count c =
     unequal (goal.at.held-preserved-then-row_count-count c).In-held (other-count _ _ _ _ _ _ (part_number c.larger_set-larger.result) (part-inside c.larger_set-larger.result) (λ e. c.if-row_count-count.true (c.row_count.ensures ∙ sym (c.row_count-count.ensures ∙ e))))
 
-pub held-preserved-then-not-same_leads : goal.held-preserved-then-not-same_leads
-held-preserved-then-not-same_leads c =
-    unequal (goal.at.held-preserved-then-not-same_leads c).In-held (other-leads _ _ _ _ _ _ c.same_leads.ensures (ap not c.if-not-same_leads.true))
+pub held-preserved-in-Some : goal.held-preserved-in-Some
+held-preserved-in-Some c =
+    unequal (goal.at.held-preserved-in-Some c).In-held (other-leads _ _ _ _ _ _ c.unlike_lead.ensures (ap (λ (o : Option ℕ). not (is_none o)) c.in-Some.is))
 
 pub held-preserved-then-not-same_stopped : goal.held-preserved-then-not-same_stopped
 held-preserved-then-not-same_stopped c =
@@ -72,7 +73,7 @@ it-is c sets v e h =
     let a = c.args in
     let x = a.first + a.n in
     let y : same_row a.clocks a.leaders a.precede a.rows.now x (a.first + c.held.k) ≡ true
-    = equal _ _ _ _ _ _ sets c.same_leads.ensures (ap not c.if-not-same_leads.false) c.same_stopped.ensures (ap not c.if-not-same_stopped.false)
+    = equal _ _ _ _ _ _ sets c.unlike_lead.ensures (ap (λ (o : Option ℕ). not (is_none o)) c.in_default.is) c.same_stopped.ensures (ap not c.if-not-same_stopped.false)
     in
     sym (is_one a.clocks a.leaders a.precede a.rows.now x c.requires.0 v e h a.first a.n ∙ ap not (below-miss (λ j. not (same_row a.clocks a.leaders a.precede a.rows.now x (a.first + j))) a.n c.held.k (omega arith) (ap not y)))
 
